@@ -1,0 +1,2 @@
+pub mod OctetArray
+pub mod Octets

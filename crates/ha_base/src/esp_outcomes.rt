@@ -1,0 +1,26 @@
+/// Where the payload of an ESP packet lies in its octets, once it was opened.
+#[derive(Clone, Copy, Debug, PartialEq, Eq)]
+pub struct EspOpened {
+    /// The 64-bit sequence number (RFC 4303, section 2.2.1).
+    pub number: u64,
+    pub next_header: u8,
+    pub start: usize,
+    pub length: usize,
+}
+
+/// Why an ESP packet was dropped, in the order of the checks.
+#[derive(Clone, Copy, Debug, PartialEq, Eq)]
+pub enum EspDrop {
+    /// Fewer than 34 octets.
+    Short,
+    /// No association receives at this SPI.
+    WrongSpi,
+    /// The number lies below the window, or below the base.
+    Stale,
+    /// The number was accepted before.
+    Seen,
+    /// The integrity check value does not hold (RFC 4106, section 8).
+    NotOpened,
+    /// The pad length does not fit the plaintext.
+    Padding,
+}

@@ -1,0 +1,52 @@
+ghost use Rattle.std.specs.Prelude.{◌≡◌};
+
+use crate::short_lists::OctetList;
+
+/// The size of an AES key.
+#[derive(Clone, Copy, Debug, PartialEq, Eq)]
+pub enum KeySize {
+    Bits128,
+    Bits256,
+}
+
+/// The keys of an IKE association (RFC 7296, section 2.14; RFC 5282, section 7.1): a sealing key is 16 or 32 octets of
+/// AES key and 4 of salt.
+#[derive(Clone, Debug, PartialEq, Eq, Drop)]
+pub struct SaKeys {
+    pub sk_d: [u8; 32],
+    pub sk_ei: OctetList<36>,
+    pub sk_er: OctetList<36>,
+    pub sk_pi: [u8; 32],
+    pub sk_pr: [u8; 32],
+}
+
+/// The keys of the child association (RFC 7296, section 2.17), of the same form as the sealing keys.
+#[derive(Clone, Debug, PartialEq, Eq, Drop)]
+pub struct ChildKeys {
+    pub to_cluster: OctetList<36>,
+    pub to_peer: OctetList<36>,
+}
+
+impl SaKeys {
+    /// The same keys once more. It takes no memory.
+    pub fn copied(&self) -> SaKeys
+        ensures { result ≡ self.now }
+    {
+        match self.clone() {
+            Ok(keys) => keys,
+            Err(_) => unreachable!(),
+        }
+    }
+}
+
+impl ChildKeys {
+    /// The same keys once more. It takes no memory.
+    pub fn copied(&self) -> ChildKeys
+        ensures { result ≡ self.now }
+    {
+        match self.clone() {
+            Ok(keys) => keys,
+            Err(_) => unreachable!(),
+        }
+    }
+}

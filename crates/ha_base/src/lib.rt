@@ -1,0 +1,19 @@
+//! The plain types that every layer shares, and the outside of a run: where octets come from and go to, and who
+//! executes a request.
+#![tactic(auto)]
+
+mod counter_names;
+mod esp_outcomes;
+mod identities;
+mod key_material;
+mod octet_store;
+mod outside;
+mod short_lists;
+
+pub use counter_names::{CounterName, Derivation, End, Kind, Origin};
+pub use esp_outcomes::{EspDrop, EspOpened};
+pub use identities::{GatewayId, Identity};
+pub use key_material::{ChildKeys, KeySize, SaKeys};
+pub use octet_store::Octets;
+pub use outside::{Failed, Memory, Moment};
+pub use short_lists::{OctetArray, OctetList};
