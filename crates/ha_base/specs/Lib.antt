@@ -1,2 +1,4 @@
+pub mod Faults
+pub mod MemoryStreams
 pub mod OctetArray
 pub mod Octets
