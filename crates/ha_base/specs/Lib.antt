@@ -2,3 +2,4 @@ pub mod Faults
 pub mod MemoryStreams
 pub mod OctetArray
 pub mod Octets
+pub mod Services

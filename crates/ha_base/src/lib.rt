@@ -9,6 +9,7 @@ mod key_material;
 mod memory_streams;
 mod octet_store;
 mod outside;
+mod services;
 mod short_lists;
 mod std_streams;
 mod streams;
@@ -20,6 +21,10 @@ pub use key_material::{ChildKeys, KeySize, SaKeys};
 pub use memory_streams::{MemorySink, MemorySource};
 pub use octet_store::Octets;
 pub use outside::{Failed, Memory, Moment};
+pub use services::{LONGEST_REQUEST, MOST_REQUESTS, Reply, Service, TallyService, are_fresh};
 pub use short_lists::{OctetArray, OctetList};
 pub use std_streams::{StdSink, StdSource};
 pub use streams::{Sink, Source, write_all};
+
+#[cfg(test)]
+mod tests;
