@@ -1,0 +1,19 @@
+//! Event files and reports: what an event and a turn are, the events that the lines of a file spell, and the text of a
+//! turn.
+#![tactic(auto)]
+
+mod event;
+mod fault;
+mod number;
+mod octets;
+mod seals;
+mod split;
+mod turn;
+mod verdict;
+mod words;
+
+pub use event::Event;
+pub use fault::{LineFault, LineReason};
+pub use seals::{Seal, Seals};
+pub use turn::{Datagram, Medium, Served, Step, Turn};
+pub use verdict::{Refusal, Verdict};

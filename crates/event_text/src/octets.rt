@@ -1,0 +1,82 @@
+//! Octets and SPIs as hexadecimal words.
+
+ghost use Rattle.std.specs.Prelude.{◌≡◌, ◌/◌, true, length};
+ghost use Rattle.std.specs.List.{list_all};
+ghost use Rattle.event_text.specs.Octets.{decoded, esp_spi_of, is_hex, is_lower, size_of, spi_of};
+
+use crate::fault::LineReason;
+
+fn is_lower(octet: u8) -> bool
+    ensures { result ≡ is_lower octet }
+{
+    (octet >= b'0' && octet <= b'9') || (octet >= b'a' && octet <= b'f')
+}
+
+fn all_lower(word: &[u8]) -> bool
+    ensures { result ≡ list_all is_lower word.now }
+{
+    word.iter().all(|octet| is_lower(*octet))
+}
+
+/// Whether the word is whole octets in lower-case hexadecimal, at least one.
+fn is_hex(word: &[u8]) -> bool
+    ensures { result ≡ is_hex word.now }
+{
+    all_lower(word) && !word.is_empty() && word.len() % 2 == 0
+}
+
+/// Writes the octets of a word.
+#[tactic(auto, using(crate::proofs::OctetLaws::hex_sized))]
+fn fill(word: &[u8], out: &mut [u8])
+    requires hex { is_hex word.now ≡ true }
+    requires long { length word.now / 2 ≡ length out.old }
+    ensures { out.new ≡ decoded word.now }
+{
+    if hex::decode_to_slice(word, out).is_err() {
+        unreachable!();
+    }
+}
+
+/// How many octets the word has, which is from `least` to `most`. `-` is no octets.
+pub(crate) fn size_word(word: &[u8], least: usize, most: usize) -> Result<usize, LineReason>
+    ensures { result ≡ size_of least most word.now }
+{
+    if word != b"-".as_slice() && !is_hex(word) {
+        return Err(LineReason::Hex);
+    }
+    let size = word.len() / 2;
+    if size < least || size > most {
+        return Err(LineReason::Size);
+    }
+    Ok(size)
+}
+
+/// An SPI of the IKE header, in 16 digits.
+pub(crate) fn spi_word(word: &[u8]) -> Result<u64, LineReason>
+    ensures { result ≡ spi_of word.now }
+{
+    if !is_hex(word) {
+        return Err(LineReason::Hex);
+    }
+    if word.len() / 2 != 8 {
+        return Err(LineReason::Size);
+    }
+    let mut octets = [0; 8];
+    fill(word, &mut octets);
+    Ok(u64::from_be_bytes(octets))
+}
+
+/// An SPI of ESP, in 8 digits.
+pub(crate) fn esp_spi_word(word: &[u8]) -> Result<u32, LineReason>
+    ensures { result ≡ esp_spi_of word.now }
+{
+    if !is_hex(word) {
+        return Err(LineReason::Hex);
+    }
+    if word.len() / 2 != 4 {
+        return Err(LineReason::Size);
+    }
+    let mut octets = [0; 4];
+    fill(word, &mut octets);
+    Ok(u32::from_be_bytes(octets))
+}

@@ -1,0 +1,68 @@
+ghost use Rattle.std.specs.Prelude.{◌≡◌, ◌<◌, [], ◌∷◌, ◌++◌, length, slice_get};
+ghost use Rattle.std.specs.Option.{option_copied};
+
+use ha_base::{CounterName, Octets};
+use std::marker::Model;
+
+/// A sealing: under which key and IV, what was sealed, and the octets that came of it.
+#[derive(Debug, Drop)]
+pub struct Seal {
+    /// The counter of the IV, which also names the key.
+    pub name: CounterName,
+    pub iv: u64,
+    pub plain: Octets,
+    pub sealed: Octets,
+}
+
+/// At most two seals, in order. It takes no memory.
+#[derive(Debug, Drop)]
+pub struct Seals {
+    first: Option<Seal>,
+    second: Option<Seal>,
+}
+
+impl Model for Seals {
+    ghost use Rattle.std.specs.Prelude.{List, ◌++◌, IsSome, option_to_list};
+    ghost use Rattle.event_text.specs.declared.seals.Seal.{Seal};
+
+    ghost Value = { List Seal };
+
+    ghost view = { λ seals. option_to_list seals.first ++ option_to_list seals.second };
+
+    ghost invariant = { λ seals. IsSome seals.second → IsSome seals.first };
+}
+
+impl Seals {
+    /// No seals.
+    pub fn none() -> Seals
+        ensures { result ≡ [] }
+    {
+        Seals {
+            first: None,
+            second: None,
+        }
+    }
+
+    /// Appends a seal.
+    pub fn push(&mut self, seal: Seal)
+        requires { length self.old < 2 }
+        ensures { self.new ≡ self.old ++ seal ∷ [] }
+    {
+        if self.first.is_none() {
+            self.first = Some(seal);
+        } else {
+            self.second = Some(seal);
+        }
+    }
+
+    /// The seal at a place, counted from 0.
+    pub fn get(&self, at: usize) -> Option<&Seal>
+        ensures { option_copied result ≡ slice_get self.now at }
+    {
+        match at {
+            0 => self.first.as_ref(),
+            1 => self.second.as_ref(),
+            _ => None,
+        }
+    }
+}

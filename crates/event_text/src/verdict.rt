@@ -1,0 +1,47 @@
+//! How an event came out.
+
+use keeper_book::Five;
+
+/// How an event came out.
+#[derive(Debug, Drop)]
+pub enum Verdict {
+    /// An association was entered, at the keeper and at the peer.
+    Entered,
+    /// The number of the member that joined.
+    Member(u32),
+    /// A member took over: the epoch that began, and its bases.
+    Owned { epoch: u64, bases: Five },
+    /// The number that was drawn.
+    Number(u64),
+    /// Nothing was done, but for what the keeper recorded.
+    Refused(Refusal),
+}
+
+/// Why an event was refused.
+#[derive(Clone, Copy, Debug, PartialEq, Eq)]
+pub enum Refusal {
+    /// The member does not hold the association.
+    NotOwner,
+    /// A later epoch began: the epoch in the keeper's book.
+    Replaced(u64),
+    /// The counter is at its end.
+    Exhausted,
+    /// A call of the keeper failed, or its answer did not arrive.
+    KeeperFault,
+    /// The association is closed.
+    Closed,
+    /// There is no such association.
+    Unknown,
+    /// A limit of the keeper is reached: the limit.
+    Full(u64),
+    /// An association has the SPI already.
+    SpiInUse,
+    /// There is no such member.
+    NoMember,
+    /// As many members joined as a run has room for: their number.
+    NoRoom(u32),
+    /// The SPIr is none that may be imported.
+    SpiRange,
+    /// The event is one that is not handled yet.
+    NotBuilt,
+}
