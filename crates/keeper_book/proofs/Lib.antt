@@ -1,1 +1,5 @@
+pub mod Asking
+pub mod BookAnswers
+pub mod EntryLemmas
+pub mod Passed
 pub mod Placed

@@ -1,3 +1,9 @@
+pub mod Asks
+pub mod Book
 pub mod Counters
+pub mod Entries
+pub mod Gates
 pub mod Places
 pub mod Records
+pub mod Spoken
+pub mod Told

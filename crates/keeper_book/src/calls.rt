@@ -1,4 +1,5 @@
 ghost use Rattle.std.specs.Prelude.{◌≡◌};
+ghost use Rattle.keeper_book.specs.Told.{done, taken};
 
 use crate::faults::KeeperFault;
 use crate::records::{Record, Taken};
@@ -81,6 +82,26 @@ impl KeeperAnswer {
             KeeperAnswer::Done => KeeperAnswer::Done,
             KeeperAnswer::Taken(taken) => KeeperAnswer::Taken(taken.copied()),
             KeeperAnswer::Refused(fault) => KeeperAnswer::Refused(*fault),
+        }
+    }
+
+    /// What a call is answered that gives nothing.
+    pub fn of_done(answered: &Result<(), KeeperFault>) -> KeeperAnswer
+        ensures { result ≡ done answered.now }
+    {
+        match answered {
+            Ok(()) => KeeperAnswer::Done,
+            Err(fault) => KeeperAnswer::Refused(*fault),
+        }
+    }
+
+    /// What a takeover is answered. It takes no memory.
+    pub fn of_taken(answered: &Result<Taken, KeeperFault>) -> KeeperAnswer
+        ensures { result ≡ taken answered.now }
+    {
+        match answered {
+            Ok(taken) => KeeperAnswer::Taken(taken.copied()),
+            Err(fault) => KeeperAnswer::Refused(*fault),
         }
     }
 }

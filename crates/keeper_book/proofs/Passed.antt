@@ -1,0 +1,72 @@
+-- A call that a gate passed on and recorded.
+use Rattle.std.proofs.Common.{◌≡◌, ℕ, Bool, true, false, List, [], ◌∷◌, ◌++◌, length, not, if◌then◌else◌, Option, Some, None, refl, ap, sym, subst, arith, ◌⊎◌, ⊎_elim, inl, inr}
+use Rattle.std.proofs.lemmas.Bool.{lt-ltb}
+use Rattle.keeper_book.specs.declared.calls.Call.{Call}
+use Rattle.keeper_book.specs.declared.calls.KeeperAnswer.{KeeperAnswer}
+use Rattle.keeper_book.specs.declared.calls.KeeperAnswer.TheVariants as answer
+use Rattle.keeper_book.specs.declared.calls.KeeperAsk.{KeeperAsk}
+use Rattle.keeper_book.specs.declared.faults.KeeperFault.TheVariants as fault
+use Rattle.keeper_book.specs.Book.{Book, Answers, Enters, EntersAllTold, after}
+use Rattle.keeper_book.specs.Gates.{PassedOn, has_room, kept, missed_one, told_calls}
+use Rattle.keeper_book.specs.Spoken.{Spoken}
+use Rattle.keeper_book.specs.Told.{AddsAllTold, HaveCause, IsCallOf, IsFailed, seen}
+
+-- the call as a gate records it
+abbrev pub recorded : KeeperAsk → KeeperAnswer → Call
+recorded asked answered = record { asked = asked; answer = answered; hidden = false }
+
+-- whatever is answered, the entry is in the book or it is not
+entered_or_not : (old : Book) (asked : KeeperAsk) (answered : KeeperAnswer) (new : Book) → Answers old asked answered new → (new ≡ old) ⊎ (new ≡ after old asked)
+entered_or_not old asked (answer.Refused fault.Failed) new a = a
+entered_or_not old asked (answer.Refused fault.Memory) new a = inl a.2
+entered_or_not old asked answered new a = inr a.1
+
+-- a call that was answered is one that was answered as its caller saw it
+as_seen : (old : Book) (call : Call) (hidden : Bool) (new : Book) → call.hidden ≡ hidden → Enters old call new → Answers old call.asked (seen call) new
+as_seen old call true new h e = subst (λ b. Answers old call.asked (if b then answer.Refused fault.Failed else call.answer) new) (sym h) (entered_or_not old call.asked call.answer new e)
+as_seen old call false new h e = subst (λ b. Answers old call.asked (if b then answer.Refused fault.Failed else call.answer) new) (sym h) e
+
+passed_enters : (old new : Option Book) (asked : KeeperAsk) (answered : KeeperAnswer) (call : Call) → IsCallOf asked answered call → EntersAllTold old (call ∷ []) new → EntersAllTold old (recorded asked answered ∷ []) new
+passed_enters None new asked answered call is e = e
+passed_enters (Some old) None asked answered call is e = e
+passed_enters (Some old) (Some new) asked answered call is e =
+    (e.0, subst (λ a. Answers old a answered e.0) is.asks (subst (λ a. Answers old call.asked a e.0) is.sees (as_seen old call call.hidden e.0 refl e.1)), e.2)
+
+-- a call for which there is room is told
+told_more : (room : Bool) (calls : List Call) (call : Call) (missed' : Bool) (calls' : List Call) → room ≡ true → calls' ≡ (if room then calls ++ call ∷ [] else calls) → missed' ≡ not room → told_calls missed' calls' ≡ Some (calls ++ call ∷ [])
+told_more true calls call missed' calls' r k m = subst (λ b. told_calls b calls' ≡ Some (calls ++ call ∷ [])) (sym m) (ap Some k)
+told_more false calls call missed' calls' r k m = absurd (cc)
+
+passed_adds : (missed : Bool) (calls : List Call) (call : Call) (missed' : Bool) (calls' : List Call) → calls' ≡ kept calls call → missed' ≡ missed_one calls missed → AddsAllTold (told_calls missed calls) (call ∷ []) (told_calls missed' calls')
+passed_adds true calls call missed' calls' k m = tt
+passed_adds false calls call missed' calls' k m = λ few. told_more (has_room calls) calls call missed' calls' (lt-ltb (length calls) 8 (omega arith)) k m
+
+passed_cause : (before now : ℕ) (asked : KeeperAsk) (answered : KeeperAnswer) (call : Call) → IsCallOf asked answered call → HaveCause before now (call ∷ []) → HaveCause before now (recorded asked answered ∷ [])
+passed_cause before now asked answered call is cause = record {
+  later = cause.later;
+  failed = ⊎_elim (λ f. cause.failed (inl (subst IsFailed (sym is.sees) f))) (λ none. absurd none);
+}
+
+-- the gate g has the keeper, the calls and the mark that the three functions give
+pub passed : {K G : Type 0} {book : K → Option Book} {told : K → Option (List Call)} {faults : K → ℕ} {gives : K → Call → K → Type 0} (keeper : G → K) (calls : G → List Call) (missed : G → Bool) (old new : G) (asked : KeeperAsk) (answered : KeeperAnswer) (made call : Call) (mid : K) → IsCallOf asked answered call → Spoken book told faults gives (keeper old) (call ∷ []) mid → keeper new ≡ mid → made ≡ recorded asked answered → calls new ≡ kept (calls old) made → missed new ≡ missed_one (calls old) (missed old) → (x : Call) × IsCallOf asked answered x × Spoken (λ g. book (keeper g)) (λ g. told_calls (missed g) (calls g)) (λ g. faults (keeper g)) (λ g called h. PassedOn gives (keeper g) (calls g) (missed g) called (keeper h) (calls h) (missed h)) old (x ∷ []) new
+passed {K} {G} {book} {told} {faults} {gives} keeper calls missed old new asked answered made call mid is spoken same made_is k m =
+    let called = subst (λ s. Spoken book told faults gives (keeper old) (call ∷ []) s) (sym same) spoken in
+    let keeps = subst (λ c. calls new ≡ kept (calls old) c) made_is k in (
+      recorded asked answered,
+      record { asks = refl; sees = refl },
+      record {
+        enters = passed_enters (book (keeper old)) (book (keeper new)) asked answered call is called.enters;
+        adds = passed_adds (missed old) (calls old) (recorded asked answered) (missed new) (calls new) keeps m;
+        cause = passed_cause (faults (keeper old)) (faults (keeper new)) asked answered call is called.cause;
+        each = (
+          new,
+          record {
+            open_answer = refl;
+            recorded = keeps;
+            counted = m;
+            below = (call, is.asks, is.sees, subst (λ s. gives (keeper old) call s) (sym called.each.2) called.each.1);
+          },
+          refl,
+        );
+      },
+    )

@@ -1,0 +1,80 @@
+-- What a keeper's calls say of it: the calls that it tells, and its count of faults.
+use Rattle.std.specs.Prelude.{ℕ, ◌+◌, ◌<◌, ◌≤◌, ◌≡◌, ◌⊎◌, if◌then◌else◌, Option, Some, None, List, [], ◌∷◌, ◌++◌, length, Result, Ok, Err}
+use Rattle.ha_base.specs.Faults.{one_more}
+use Rattle.keeper_book.specs.declared.TheConstants.{MAX_ASSOCIATIONS, MAX_EPOCHS}
+use Rattle.keeper_book.specs.declared.calls.Call.{Call}
+use Rattle.keeper_book.specs.declared.calls.KeeperAnswer.{KeeperAnswer}
+use Rattle.keeper_book.specs.declared.calls.KeeperAnswer.TheVariants as answer
+use Rattle.keeper_book.specs.declared.calls.KeeperAsk.{KeeperAsk}
+use Rattle.keeper_book.specs.declared.calls.KeeperAsk.TheVariants as ask
+use Rattle.keeper_book.specs.declared.faults.KeeperFault.{KeeperFault}
+use Rattle.keeper_book.specs.declared.faults.KeeperFault.TheVariants as fault
+use Rattle.keeper_book.specs.declared.records.Taken.{Taken}
+
+-- the answer that a result is
+abbrev pub answered : {T : Type 0} → (T → KeeperAnswer) → Result T KeeperFault → KeeperAnswer
+answered given (Ok value) = given value
+answered given (Err why) = answer.Refused why
+
+abbrev pub done : Result (Unit {0}) KeeperFault → KeeperAnswer
+done = answered (λ _. answer.Done)
+
+abbrev pub taken : Result Taken KeeperFault → KeeperAnswer
+taken = answered answer.Taken
+
+-- what the caller saw: a hidden answer as a failed call
+abbrev pub seen : Call → KeeperAnswer
+seen call = if call.hidden then answer.Refused fault.Failed else call.answer
+
+-- the call that was asked so, and answered so as its caller saw it
+pub record IsCallOf (asked : KeeperAsk) (answered : KeeperAnswer) (call : Call) : Type 0 where
+  pub asks : call.asked ≡ asked
+  pub sees : seen call ≡ answered
+
+-- where the calls are told and fewer than eight, one more is told
+abbrev pub AddsTold : Option (List Call) → Call → Option (List Call) → Type 0
+AddsTold None call new = Unit {0}
+AddsTold (Some old) call new = length old < 8 → new ≡ Some (old ++ call ∷ [])
+
+abbrev pub AddsAllTold : Option (List Call) → List Call → Option (List Call) → Type 0
+AddsAllTold None calls new = Unit {0}
+AddsAllTold (Some old) calls new = length old + length calls ≤ 8 → new ≡ Some (old ++ calls)
+
+-- the refusals that a call has
+abbrev pub IsRefusalOf : KeeperAsk → KeeperFault → Type 0
+IsRefusalOf asked fault.Failed = Unit {0}
+IsRefusalOf (ask.Enter sa) fault.SpiInUse = Unit {0}
+IsRefusalOf (ask.Enter sa) (fault.Full limit) = limit ≡ MAX_ASSOCIATIONS
+IsRefusalOf (ask.Enter sa) fault.Memory = Unit {0}
+IsRefusalOf (ask.TakeOver spir member) fault.Unknown = Unit {0}
+IsRefusalOf (ask.TakeOver spir member) fault.Closed = Unit {0}
+IsRefusalOf (ask.TakeOver spir member) (fault.Full limit) = limit ≡ MAX_EPOCHS
+IsRefusalOf (ask.TakeOver spir member) fault.Memory = Unit {0}
+IsRefusalOf (ask.Cover spir kind child epoch upto) fault.Unknown = Unit {0}
+IsRefusalOf (ask.Cover spir kind child epoch upto) fault.Closed = Unit {0}
+IsRefusalOf (ask.Cover spir kind child epoch upto) (fault.Replaced other) = Unit {0}
+IsRefusalOf asked why = ⊥
+
+-- a count of faults that rose, as far as 64 bits can tell
+abbrev pub Rose : ℕ → ℕ → Type 0
+Rose before now = one_more before ≤ now
+
+-- the caller saw a failed call
+abbrev pub IsFailed : KeeperAnswer → Type 0
+IsFailed (answer.Refused fault.Failed) = Unit {0}
+IsFailed answered = ⊥
+
+-- the count does not fall, and a call failed only where it rose
+pub record HasCause (before now : ℕ) (answered : KeeperAnswer) : Type 0 where
+  pub later : before ≤ now
+  pub failed : IsFailed answered → Rose before now
+
+-- of some of these calls the caller saw that it failed
+abbrev pub AnyFailed : List Call → Type 0
+AnyFailed [] = ⊥
+AnyFailed (call ∷ calls) = IsFailed (seen call) ⊎ AnyFailed calls
+
+-- the count does not fall over these calls, and one of them failed only where it rose
+pub record HaveCause (before now : ℕ) (calls : List Call) : Type 0 where
+  pub later : before ≤ now
+  pub failed : AnyFailed calls → Rose before now

@@ -1,0 +1,111 @@
+ghost use Rattle.std.specs.Prelude.{◌≡◌, false, []};
+ghost use Rattle.keeper_book.specs.Gates.{PassedOn, kept, missed_one, told_calls};
+
+use crate::call_lists::Calls;
+use crate::calls::{Call, KeeperAnswer, KeeperAsk};
+use crate::faults::KeeperFault;
+use crate::keepers::Keeper;
+use crate::records::{Record, Taken};
+use ha_base::Kind;
+
+/// Passes calls on to a keeper, and records the first eight.
+#[derive(Drop)]
+pub struct Gate<K: Keeper> {
+    keeper: K,
+    calls: Calls,
+    // there was a ninth call
+    missed: bool,
+}
+
+impl<K: Keeper> Gate<K> {
+    /// A gate that has recorded no call.
+    pub fn new(inner: K) -> Gate<K>
+        ensures keeper { result.keeper ≡ inner }
+        ensures none { result.calls ≡ [] }
+        ensures told { result.missed ≡ false }
+    {
+        Gate {
+            keeper: inner,
+            calls: Calls::none(),
+            missed: false,
+        }
+    }
+
+    /// The calls since they were last taken, the first eight of them.
+    pub fn take_calls(&mut self) -> Calls
+        ensures calls { result ≡ self.old.calls }
+        ensures none { self.new.calls ≡ [] }
+        ensures told { self.new.missed ≡ false }
+        ensures keeper { self.new.keeper ≡ self.old.keeper }
+    {
+        self.missed = false;
+        std::mem::replace(&mut self.calls, Calls::none())
+    }
+
+    fn record(&mut self, call: Call)
+        ensures calls { self.new.calls ≡ kept self.old.calls call }
+        ensures missed { self.new.missed ≡ missed_one self.old.calls self.old.missed }
+        ensures keeper { self.new.keeper ≡ self.old.keeper }
+    {
+        if self.calls.len() < 8 {
+            self.calls.push(call);
+        } else {
+            self.missed = true;
+        }
+    }
+}
+
+impl<K: Keeper> Keeper for Gate<K> {
+    ghost book = { λ g. K.book g.keeper };
+
+    ghost calls = { λ g. told_calls g.missed g.calls };
+
+    ghost faults = { λ g. K.faults g.keeper };
+
+    ghost held = { λ g. K.held g.keeper };
+
+    ghost call_gives = { λ g call h. PassedOn K.call_gives g.keeper g.calls g.missed call h.keeper h.calls h.missed };
+
+    fn enter(&mut self, sa: &Record) -> Result<(), KeeperFault> {
+        let result = self.keeper.enter(sa);
+        self.record(Call {
+            asked: KeeperAsk::Enter { sa: sa.copied() },
+            answer: KeeperAnswer::of_done(&result),
+            hidden: false,
+        });
+        result
+    }
+
+    fn take_over(&mut self, spir: u64, member: u32) -> Result<Taken, KeeperFault> {
+        let result = self.keeper.take_over(spir, member);
+        self.record(Call {
+            asked: KeeperAsk::TakeOver { spir, member },
+            answer: KeeperAnswer::of_taken(&result),
+            hidden: false,
+        });
+        result
+    }
+
+    fn cover(
+        &mut self,
+        spir: u64,
+        kind: Kind,
+        child: u32,
+        epoch: u64,
+        upto: u64,
+    ) -> Result<(), KeeperFault> {
+        let result = self.keeper.cover(spir, kind, child, epoch, upto);
+        self.record(Call {
+            asked: KeeperAsk::Cover {
+                spir,
+                kind,
+                child,
+                epoch,
+                upto,
+            },
+            answer: KeeperAnswer::of_done(&result),
+            hidden: false,
+        });
+        result
+    }
+}

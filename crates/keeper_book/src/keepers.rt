@@ -1,0 +1,91 @@
+ghost use Rattle.std.specs.Prelude.{◌≡◌, ℕ, List, [], ◌∷◌, Option, IfOk, IfErr};
+ghost use Rattle.std.specs.Borrow.{GName};
+ghost use Rattle.keeper_book.specs.declared.calls.Call.{Call};
+ghost use Rattle.keeper_book.specs.declared.calls.KeeperAsk.TheVariants as ask;
+ghost use Rattle.keeper_book.specs.Counters.{AreWithinEnds};
+ghost use Rattle.keeper_book.specs.Book.{Book};
+ghost use Rattle.keeper_book.specs.Spoken.{Spoken};
+ghost use Rattle.keeper_book.specs.Told.{IsCallOf, IsRefusalOf, done, taken};
+
+use crate::faults::KeeperFault;
+use crate::records::{Record, Taken};
+use ha_base::Kind;
+
+/// Keeps the book of a cluster: what a member may use is recorded here first.
+pub trait Keeper {
+    // its book, where it tells it
+    ghost book: { Self → Option Book };
+
+    // its calls since they were last taken, where it tells them
+    ghost calls: { Self → Option (List Call) };
+
+    // how often a call has failed
+    ghost faults: { Self → ℕ };
+
+    // the references through which it is reached, the outermost first
+    ghost held: { Self → List GName };
+
+    // what else it says of a call that leads from one state to the next
+    ghost call_gives: { Self → Call → Self → Type 0 };
+
+    /// Adds an association.
+    fn enter(&mut self, sa: &Record) -> Result<(), KeeperFault>
+        ensures call { (call : Call) × IsCallOf (ask.Enter sa.now) (done result) call
+            × Spoken book calls faults call_gives self.old (call ∷ []) self.new }
+        ensures refusals { IfErr result (IsRefusalOf (ask.Enter sa.now)) }
+        ensures held { held self.new ≡ held self.old };
+
+    /// Begins an epoch of an association for a member.
+    fn take_over(&mut self, spir: u64, member: u32) -> Result<Taken, KeeperFault>
+        ensures call { (call : Call) × IsCallOf (ask.TakeOver spir member) (taken result) call
+            × Spoken book calls faults call_gives self.old (call ∷ []) self.new }
+        ensures refusals { IfErr result (IsRefusalOf (ask.TakeOver spir member)) }
+        ensures record_asked { IfOk result (λ t. t.sa.spir ≡ spir) }
+        ensures bases_within { IfOk result (λ t. AreWithinEnds t.bases) }
+        ensures held { held self.new ≡ held self.old };
+
+    /// Raises the high of a counter in an epoch.
+    fn cover(
+        &mut self,
+        spir: u64,
+        kind: Kind,
+        child: u32,
+        epoch: u64,
+        upto: u64,
+    ) -> Result<(), KeeperFault>
+        ensures call { (call : Call) × IsCallOf (ask.Cover spir kind child epoch upto) (done result) call
+            × Spoken book calls faults call_gives self.old (call ∷ []) self.new }
+        ensures refusals { IfErr result (IsRefusalOf (ask.Cover spir kind child epoch upto)) }
+        ensures held { held self.new ≡ held self.old };
+}
+
+impl<K: Keeper> Keeper for &mut K {
+    ghost book = { λ r. K.book r.now };
+
+    ghost calls = { λ r. K.calls r.now };
+
+    ghost faults = { λ r. K.faults r.now };
+
+    ghost held = { λ r. r.ghost_name ∷ K.held r.now };
+
+    ghost call_gives = { λ r call s. K.call_gives r.now call s.now };
+
+    fn enter(&mut self, sa: &Record) -> Result<(), KeeperFault> {
+        Keeper::enter(&mut **self, sa)
+    }
+
+    fn take_over(&mut self, spir: u64, member: u32) -> Result<Taken, KeeperFault> {
+        Keeper::take_over(&mut **self, spir, member)
+    }
+
+    fn cover(
+        &mut self,
+        spir: u64,
+        kind: Kind,
+        child: u32,
+        epoch: u64,
+        upto: u64,
+    ) -> Result<(), KeeperFault> {
+        Keeper::cover(&mut **self, spir, kind, child, epoch, upto)
+    }
+}
