@@ -1,5 +1,7 @@
 //! A turn of a run: an event and all that came of it.
 
+ghost use Rattle.std.specs.Prelude.{◌≡◌, [], None};
+
 use crate::event::Event;
 use crate::seals::Seals;
 use crate::verdict::Verdict;
@@ -48,4 +50,21 @@ pub struct Turn {
     pub event: Event,
     pub calls: Calls,
     pub step: Step,
+}
+
+impl Step {
+    /// A step that says how the event came out, and nothing else: nothing was executed, sealed or sent.
+    pub fn quiet(verdict: Verdict) -> Step
+        ensures verdict { result.verdict ≡ verdict }
+        ensures served { result.served ≡ None }
+        ensures seals { result.seals ≡ [] }
+        ensures gives { result.gives ≡ None }
+    {
+        Step {
+            verdict,
+            served: None,
+            seals: Seals::none(),
+            gives: None,
+        }
+    }
 }

@@ -1,0 +1,7 @@
+//! The peer of a cluster, at the other end of every association.
+#![tactic(auto)]
+
+mod peer;
+mod slots;
+
+pub use peer::Peer;

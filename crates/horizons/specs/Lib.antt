@@ -1,0 +1,4 @@
+pub mod Inside
+pub mod Ready
+pub mod Reaches
+pub mod Stops

@@ -1,0 +1,74 @@
+-- What an end holds after one more turn of its own is what that turn makes of what it held.
+use Rattle.std.proofs.Common.{◌≡◌, ℕ, ◌+◌, max, Option, Some, None, List, [], ◌∷◌, ◌++◌, map, refl, ap, sym, ◌∙◌, if◌then◌else◌}
+use Rattle.std.specs.Prelude.{is_some}
+use Rattle.std.specs.List.{filter_map, flat_map, cons_option}
+use Rattle.std.specs.Option.{option_map}
+use Rattle.event_text.specs.declared.turn.Turn.{Turn}
+use Rattle.keeper_book.specs.Counters.{five_at}
+use Rattle.keeper_book.specs.declared.counters.Counter.{Counter}
+use Rattle.keeper_book.specs.declared.counters.Counter.TheVariants as counter
+use Rattle.keeper_book.specs.declared.records.Taken.{Taken}
+use Rattle.turn_rules.specs.Held.{Held, found, first_of, five_of, grant_of, covers_of, number_of, greatest, since, next_of, high_of, holding, held_by, begun, after_number, advanced, held_after}
+
+pub five_at-five_of : (f : Counter → ℕ) (c : Counter) → five_at (five_of f) c ≡ f c
+five_at-five_of f counter.EspOut = refl
+five_at-five_of f counter.EspIn = refl
+five_at-five_of f counter.Iv = refl
+five_at-five_of f counter.Ask = refl
+five_at-five_of f counter.Answer = refl
+
+pub five_of-same : (f g : Counter → ℕ) → ((c : Counter) → f c ≡ g c) → five_of f ≡ five_of g
+five_of-same f g same i = record { esp_out = same counter.EspOut i; esp_in = same counter.EspIn i; iv = same counter.Iv i; ask = same counter.Ask i; answer = same counter.Answer i }
+
+pub greatest-append : (least : ℕ) (xs ys : List ℕ) → greatest least (xs ++ ys) ≡ greatest (greatest least ys) xs
+greatest-append least [] ys = refl
+greatest-append least (x ∷ xs) ys = ap (max x) (greatest-append least xs ys)
+
+-- one more number, or none, before those that were used
+pub greatest-cons_option : (number : Option ℕ) (least : ℕ) (ns : List ℕ) → greatest least (map (λ n. n + 1) (cons_option number ns)) ≡ after_number number (greatest least (map (λ n. n + 1) ns))
+greatest-cons_option None least ns = refl
+greatest-cons_option (Some n) least ns = refl
+
+module _ (spir : ℕ) (turn : Turn) (past : List Turn) where
+  abbrev turns_since : Option Taken → List Turn
+  turns_since grant = if is_some grant then [] else turn ∷ since spir past
+
+  abbrev held_as : Option Taken → Taken → Held
+  held_as grant taken = record {
+    sa = taken.sa;
+    epoch = taken.epoch;
+    bases = taken.bases;
+    nexts = five_of (λ c. greatest (five_at taken.bases c) (map (λ n. n + 1) (filter_map (number_of spir c) (turns_since grant))));
+    highs = five_of (λ c. greatest (five_at taken.bases c) (flat_map (covers_of spir c) (turns_since grant)))
+  }
+
+  next_later : (taken : Taken) (c : Counter) → greatest (five_at taken.bases c) (map (λ n. n + 1) (filter_map (number_of spir c) (turn ∷ since spir past))) ≡ after_number (number_of spir c turn) (five_at (holding spir past taken).nexts c)
+  next_later taken c =
+    greatest-cons_option (number_of spir c turn) (five_at taken.bases c) (filter_map (number_of spir c) (since spir past))
+    ∙ ap (after_number (number_of spir c turn)) (sym (five_at-five_of (λ d. next_of spir d taken.bases past) c))
+
+  high_later : (taken : Taken) (c : Counter) → greatest (five_at taken.bases c) (flat_map (covers_of spir c) (turn ∷ since spir past)) ≡ greatest (five_at (holding spir past taken).highs c) (covers_of spir c turn)
+  high_later taken c =
+    greatest-append (five_at taken.bases c) (covers_of spir c turn) (flat_map (covers_of spir c) (since spir past))
+    ∙ ap (λ least. greatest least (covers_of spir c turn)) (sym (five_at-five_of (λ d. high_of spir d taken.bases past) c))
+
+  later : (taken : Taken) → held_as None taken ≡ advanced spir turn.event turn.calls turn.step.verdict (holding spir past taken)
+  later taken i = record {
+    sa = taken.sa;
+    epoch = taken.epoch;
+    bases = taken.bases;
+    nexts = five_of-same _ _ (next_later taken) i;
+    highs = five_of-same _ _ (high_later taken) i
+  }
+
+  later_found : (taken : Option Taken) → option_map (held_as None) taken ≡ option_map (advanced spir turn.event turn.calls turn.step.verdict) (option_map (holding spir past) taken)
+  later_found None = refl
+  later_found (Some taken) = ap Some (later taken)
+
+  granted_first : (grant : Option Taken) → option_map (held_as grant) (first_of grant (found (grant_of spir) past)) ≡ first_of (option_map begun grant) (option_map (advanced spir turn.event turn.calls turn.step.verdict) (held_by past spir))
+  granted_first None = later_found (found (grant_of spir) past)
+  granted_first (Some taken) = refl
+
+-- what is held after one more turn
+pub held_by-cons : (spir : ℕ) (turn : Turn) (past : List Turn) → held_by (turn ∷ past) spir ≡ held_after spir turn.event turn.calls turn.step.verdict (held_by past spir)
+held_by-cons spir turn past = granted_first spir turn past (grant_of spir turn)

@@ -1,0 +1,121 @@
+-- What a member does with the counters that it holds.
+use Rattle.std.specs.Prelude.{ℕ, ◌+◌, ◌≡◌, MatchOption, Option, Some, None, List, [], ◌∷◌}
+use Rattle.event_text.specs.declared.verdict.Refusal.{Refusal}
+use Rattle.event_text.specs.declared.verdict.Refusal.TheVariants as refusal
+use Rattle.event_text.specs.declared.verdict.Verdict.{Verdict}
+use Rattle.event_text.specs.declared.verdict.Verdict.TheVariants as out
+use Rattle.ha_base.specs.declared.counter_names.CounterName.{CounterName}
+use Rattle.ha_base.specs.declared.counter_names.End.TheVariants as end
+use Rattle.ha_base.specs.declared.counter_names.Kind.{Kind}
+use Rattle.ha_base.specs.declared.counter_names.Kind.TheVariants as kind
+use Rattle.horizons.specs.Ready.{Ready}
+use Rattle.horizons.specs.Reaches.{Reach}
+use Rattle.horizons.specs.declared.stop.Stop.{Stop}
+use Rattle.horizons.specs.declared.stop.Stop.TheVariants as stop
+use Rattle.keeper_book.specs.Counters.{five_at, with_five}
+use Rattle.keeper_book.specs.Told.{seen}
+use Rattle.keeper_book.specs.declared.calls.Call.{Call}
+use Rattle.keeper_book.specs.declared.calls.KeeperAnswer.{KeeperAnswer}
+use Rattle.keeper_book.specs.declared.calls.KeeperAnswer.TheVariants as answer
+use Rattle.keeper_book.specs.declared.calls.KeeperAsk.TheVariants as ask
+use Rattle.keeper_book.specs.declared.counters.Counter.{Counter}
+use Rattle.keeper_book.specs.declared.counters.Counter.TheVariants as counter
+use Rattle.keeper_book.specs.declared.faults.KeeperFault.{KeeperFault}
+use Rattle.keeper_book.specs.declared.faults.KeeperFault.TheVariants as fault
+use Rattle.keeper_book.specs.declared.records.Record.{Record}
+use Rattle.turn_rules.specs.Held.{Held}
+
+abbrev pub kind_of : Counter → Kind
+kind_of counter.EspOut = kind.EspOut
+kind_of counter.EspIn = kind.EspIn
+kind_of counter.Iv = kind.Iv
+kind_of counter.Ask = kind.Ask
+kind_of counter.Answer = kind.Answer
+
+abbrev pub child_of : Counter → ℕ
+child_of counter.EspOut = 1
+child_of counter.EspIn = 1
+child_of c = 0
+
+-- the cluster's counter of an association
+abbrev pub counter_name : Record → Counter → CounterName
+counter_name sa c = record { origin = sa.origin; kind = kind_of c; child = child_of c; end = end.Cluster }
+
+-- how far a counter of what is held reaches
+abbrev pub reach_of : Held → Counter → Reach
+reach_of held c = record {
+  name = counter_name held.sa c;
+  counter = c;
+  spir = held.sa.spir;
+  epoch = held.epoch;
+  base = five_at held.bases c;
+  next = five_at held.nexts c;
+  high = five_at held.highs c
+}
+
+-- the refusal that a stop is
+abbrev pub refusal_of_stop : Stop → Refusal
+refusal_of_stop stop.Keeper = refusal.KeeperFault
+refusal_of_stop (stop.Replaced epoch) = refusal.Replaced epoch
+refusal_of_stop stop.Exhausted = refusal.Exhausted
+refusal_of_stop stop.Closed = refusal.Closed
+refusal_of_stop stop.Unknown = refusal.Unknown
+
+-- the refusal that a keeper's answer is, to a call other than a cover
+abbrev pub refusal_of_fault : KeeperFault → Option Refusal
+refusal_of_fault fault.Failed = Some refusal.KeeperFault
+refusal_of_fault fault.Unknown = Some refusal.Unknown
+refusal_of_fault fault.Closed = Some refusal.Closed
+refusal_of_fault (fault.Full limit) = Some (refusal.Full limit)
+refusal_of_fault fault.SpiInUse = Some refusal.SpiInUse
+refusal_of_fault why = None
+
+-- no call is left, and the event came out so
+pub record Concludes (calls : List Call) (verdict is : Verdict) : Type 0 where
+  pub no_more : calls ≡ []
+  pub said : verdict ≡ is
+
+-- the same, and this is held then
+pub record ConcludesWith (calls : List Call) (verdict is : Verdict) (held now : Held) : Type 0 where
+  pub no_more : calls ≡ []
+  pub said : verdict ≡ is
+  pub holds : held ≡ now
+
+-- the next ESP number is drawn, once it is ready
+abbrev pub Draws : Held → List Call → Verdict → Type 0
+Draws held calls verdict = Ready (reach_of held counter.EspOut) (five_at held.nexts counter.EspOut) calls
+  (λ why rest. Concludes rest verdict (out.Refused (refusal_of_stop why)))
+  (λ high rest. Concludes rest verdict (out.Number (five_at held.nexts counter.EspOut)))
+
+-- the same, and what is held then
+abbrev pub DrawsTo : Held → List Call → Verdict → Held → Type 0
+DrawsTo held calls verdict now = Ready (reach_of held counter.EspOut) (five_at held.nexts counter.EspOut) calls
+  (λ why rest. ConcludesWith rest verdict (out.Refused (refusal_of_stop why)) now held)
+  (λ high rest. ConcludesWith rest verdict (out.Number (five_at held.nexts counter.EspOut)) now (record held {
+    nexts = with_five counter.EspOut (five_at held.nexts counter.EspOut + 1) held.nexts;
+    highs = with_five counter.EspOut high held.highs
+  }))
+
+-- what a takeover comes out as
+abbrev pub Grants : KeeperAnswer → Verdict → Type 0
+Grants answer.Done verdict = ⊥
+Grants (answer.Taken taken) verdict = verdict ≡ out.Owned taken.epoch taken.bases
+Grants (answer.Refused why) verdict = MatchOption (refusal_of_fault why) ⊥ (λ r. verdict ≡ out.Refused r)
+
+-- an association is taken over by one call
+abbrev pub TakesOver : ℕ → ℕ → List Call → Verdict → Type 0
+TakesOver spir member [] verdict = ⊥
+TakesOver spir member (call ∷ []) verdict = (call.asked ≡ ask.TakeOver spir member) × Grants (seen call) verdict
+TakesOver spir member (call ∷ other ∷ more) verdict = ⊥
+
+-- what an import comes out as
+abbrev pub Admits : KeeperAnswer → Verdict → Type 0
+Admits answer.Done verdict = verdict ≡ out.Entered
+Admits (answer.Taken taken) verdict = ⊥
+Admits (answer.Refused why) verdict = MatchOption (refusal_of_fault why) ⊥ (λ r. verdict ≡ out.Refused r)
+
+-- an association is entered by one call
+abbrev pub Enters : Record → List Call → Verdict → Type 0
+Enters sa [] verdict = ⊥
+Enters sa (call ∷ []) verdict = (call.asked ≡ ask.Enter sa) × Admits (seen call) verdict
+Enters sa (call ∷ other ∷ more) verdict = ⊥

@@ -1,0 +1,56 @@
+-- Whose turn it is. A trace has its newest turn first: it is the past of the turn that comes next.
+use Rattle.std.specs.Prelude.{ℕ, ◌==◌, Bool, true, false, Option, Some, None, List, if◌then◌else◌}
+use Rattle.std.specs.List.{filter}
+use Rattle.event_text.specs.declared.event.Event.{Event}
+use Rattle.event_text.specs.declared.event.Event.TheVariants as event
+use Rattle.event_text.specs.declared.turn.Turn.{Turn}
+use Rattle.event_text.specs.declared.verdict.Refusal.{Refusal}
+use Rattle.event_text.specs.declared.verdict.Refusal.TheVariants as refusal
+use Rattle.event_text.specs.declared.verdict.Verdict.{Verdict}
+use Rattle.event_text.specs.declared.verdict.Verdict.TheVariants as out
+
+-- an end of a run
+pub data Performer : Type 0 where
+  Peer : Performer
+  Member : (number : ℕ) → Performer
+
+abbrev pub is_performer : Performer → Performer → Bool
+is_performer Peer Peer = true
+is_performer Peer (Member b) = false
+is_performer (Member a) Peer = false
+is_performer (Member a) (Member b) = a == b
+
+-- the refusals that the run itself makes, before any end sees the event
+abbrev pub is_of_run : Refusal → Bool
+is_of_run refusal.NoMember = true
+is_of_run (refusal.NoRoom joined) = true
+is_of_run refusal.SpiRange = true
+is_of_run refusal.NotBuilt = true
+is_of_run why = false
+
+abbrev pub is_refused_by_run : Verdict → Bool
+is_refused_by_run (out.Refused why) = is_of_run why
+is_refused_by_run verdict = false
+
+-- who performs an event that the run does not refuse
+abbrev pub performer_of : Event → Verdict → Option Performer
+performer_of (event.Import sa) verdict = Some Peer
+performer_of (event.Join fresh) (out.Member number) = Some (Member number)
+performer_of (event.Join fresh) verdict = None
+performer_of (event.Own member spir) verdict = Some (Member member)
+performer_of (event.Draw member spir) verdict = Some (Member member)
+
+abbrev pub performer : Turn → Option Performer
+performer turn = if is_refused_by_run turn.step.verdict then None else performer_of turn.event turn.step.verdict
+
+abbrev pub is_end : Performer → Option Performer → Bool
+is_end end None = false
+is_end end (Some other) = is_performer end other
+
+-- the turn is one of this end's own
+abbrev pub is_by : Performer → Turn → Bool
+is_by end turn = is_end end (performer turn)
+
+-- an end's own turns
+abbrev pub own : Performer → List Turn → List Turn
+own end past = filter (is_by end) past

@@ -1,0 +1,139 @@
+-- What a member's own turns say that it holds.
+use Rattle.std.specs.Prelude.{ℕ, ◌+◌, ◌==◌, ◌&&◌, max, Bool, true, false, Option, Some, None, is_some, List, [], ◌∷◌, map, if◌then◌else◌}
+use Rattle.std.specs.List.{filter_map, flat_map}
+use Rattle.std.specs.Option.{option_map}
+use Rattle.event_text.specs.declared.event.Event.{Event}
+use Rattle.event_text.specs.declared.event.Event.TheVariants as event
+use Rattle.event_text.specs.declared.turn.Turn.{Turn}
+use Rattle.event_text.specs.declared.verdict.Verdict.{Verdict}
+use Rattle.event_text.specs.declared.verdict.Verdict.TheVariants as out
+use Rattle.keeper_book.specs.Counters.{counter_named, five_at}
+use Rattle.keeper_book.specs.Told.{seen}
+use Rattle.keeper_book.specs.declared.calls.Call.{Call}
+use Rattle.keeper_book.specs.declared.calls.KeeperAnswer.{KeeperAnswer}
+use Rattle.keeper_book.specs.declared.calls.KeeperAnswer.TheVariants as answer
+use Rattle.keeper_book.specs.declared.calls.KeeperAsk.{KeeperAsk}
+use Rattle.keeper_book.specs.declared.calls.KeeperAsk.TheVariants as ask
+use Rattle.keeper_book.specs.declared.counters.Counter.{Counter}
+use Rattle.keeper_book.specs.declared.counters.Counter.TheVariants as counter
+use Rattle.keeper_book.specs.declared.counters.Five.{Five}
+use Rattle.keeper_book.specs.declared.records.Record.{Record}
+use Rattle.keeper_book.specs.declared.records.Taken.{Taken}
+
+-- What a member holds of an association: the record and the epoch that it was granted, and of each counter where the
+-- epoch began, the next number, and the high below which numbers may be used.
+pub record Held : Type 0 where
+  pub sa : Record
+  pub epoch : ℕ
+  pub bases : Five
+  pub nexts : Five
+  pub highs : Five
+
+abbrev pub first_of : {Y : Type 0} → Option Y → Option Y → Option Y
+first_of None later = later
+first_of (Some y) later = Some y
+
+-- the first thing that is found in a list
+abbrev pub found : {X Y : Type 0} → (X → Option Y) → List X → Option Y
+found f [] = None
+found f (x ∷ xs) = first_of (f x) (found f xs)
+
+abbrev pub greatest : ℕ → List ℕ → ℕ
+greatest least [] = least
+greatest least (n ∷ ns) = max n (greatest least ns)
+
+abbrev pub five_of : (Counter → ℕ) → Five
+five_of f = record { esp_out = f counter.EspOut; esp_in = f counter.EspIn; iv = f counter.Iv; ask = f counter.Ask; answer = f counter.Answer }
+
+abbrev pub is_counter : Counter → Counter → Bool
+is_counter counter.EspOut counter.EspOut = true
+is_counter counter.EspIn counter.EspIn = true
+is_counter counter.Iv counter.Iv = true
+is_counter counter.Ask counter.Ask = true
+is_counter counter.Answer counter.Answer = true
+is_counter c d = false
+
+abbrev pub is_named : Counter → Option Counter → Bool
+is_named c None = false
+is_named c (Some d) = is_counter c d
+
+-- what the member saw granted of the association
+abbrev pub granted : ℕ → KeeperAsk → KeeperAnswer → Option Taken
+granted spir (ask.TakeOver asked member) (answer.Taken taken) = if asked == spir then Some taken else None
+granted spir asked answered = None
+
+-- up to where the member saw the counter of the association covered
+abbrev pub covered : ℕ → Counter → KeeperAsk → KeeperAnswer → Option ℕ
+covered spir c (ask.Cover asked kind child epoch upto) answer.Done = if (asked == spir) && is_named c (counter_named kind child) then Some upto else None
+covered spir c asked answered = None
+
+-- the number of the counter of the association that an event used
+abbrev pub used : ℕ → Counter → Event → Verdict → Option ℕ
+used spir counter.EspOut (event.Draw member asked) (out.Number n) = if asked == spir then Some n else None
+used spir c event verdict = None
+
+abbrev pub grant_in : ℕ → List Call → Option Taken
+grant_in spir calls = found (λ call. granted spir call.asked (seen call)) calls
+
+abbrev pub covers_in : ℕ → Counter → List Call → List ℕ
+covers_in spir c calls = filter_map (λ call. covered spir c call.asked (seen call)) calls
+
+-- the same questions to a turn
+abbrev pub grant_of : ℕ → Turn → Option Taken
+grant_of spir turn = grant_in spir turn.calls
+
+abbrev pub covers_of : ℕ → Counter → Turn → List ℕ
+covers_of spir c turn = covers_in spir c turn.calls
+
+abbrev pub number_of : ℕ → Counter → Turn → Option ℕ
+number_of spir c turn = used spir c turn.event turn.step.verdict
+
+-- the turns since the association was granted last
+abbrev pub since : ℕ → List Turn → List Turn
+since spir [] = []
+since spir (turn ∷ past) = if is_some (grant_of spir turn) then [] else turn ∷ since spir past
+
+-- one more than each number of the counter that was used since then, and no less than its base
+abbrev pub next_of : ℕ → Counter → Five → List Turn → ℕ
+next_of spir c bases past = greatest (five_at bases c) (map (λ n. n + 1) (filter_map (number_of spir c) (since spir past)))
+
+-- the greatest cover of the counter that was acknowledged since then, and no less than its base
+abbrev pub high_of : ℕ → Counter → Five → List Turn → ℕ
+high_of spir c bases past = greatest (five_at bases c) (flat_map (covers_of spir c) (since spir past))
+
+abbrev pub holding : ℕ → List Turn → Taken → Held
+holding spir past taken = record {
+  sa = taken.sa;
+  epoch = taken.epoch;
+  bases = taken.bases;
+  nexts = five_of (λ c. next_of spir c taken.bases past);
+  highs = five_of (λ c. high_of spir c taken.bases past)
+}
+
+-- what an end with these turns of its own holds of the association
+abbrev pub held_by : List Turn → ℕ → Option Held
+held_by past spir = option_map (holding spir past) (found (grant_of spir) past)
+
+-- what is held where nothing else was used or covered yet
+abbrev pub begun : Taken → Held
+begun taken = record { sa = taken.sa; epoch = taken.epoch; bases = taken.bases; nexts = taken.bases; highs = taken.bases }
+
+abbrev pub after_number : Option ℕ → ℕ → ℕ
+after_number None next = next
+after_number (Some n) next = max (n + 1) next
+
+-- what is held after a turn that grants nothing
+abbrev pub advanced : ℕ → Event → List Call → Verdict → Held → Held
+advanced spir event calls verdict held = record held {
+  nexts = five_of (λ c. after_number (used spir c event verdict) (five_at held.nexts c));
+  highs = five_of (λ c. greatest (five_at held.highs c) (covers_in spir c calls))
+}
+
+-- what is held of the association after one more turn
+abbrev pub held_after : ℕ → Event → List Call → Verdict → Option Held → Option Held
+held_after spir event calls verdict held = first_of (option_map begun (grant_in spir calls)) (option_map (advanced spir event calls verdict) held)
+
+-- what is held of the association, of what is held
+abbrev pub held_at : List Held → ℕ → Option Held
+held_at [] spir = None
+held_at (held ∷ more) spir = if held.sa.spir == spir then Some held else held_at more spir

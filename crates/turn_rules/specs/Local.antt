@@ -1,0 +1,32 @@
+-- Each end answers by its own turns and by what it was handed.
+use Rattle.std.specs.Prelude.{ℕ, ◌≡◌, ◌≤◌, Bool, false, List, [], ◌∷◌, ◌++◌}
+use Rattle.std.specs.List.{AllByRecursion}
+use Rattle.event_text.specs.declared.turn.Turn.{Turn}
+use Rattle.keeper_book.specs.Book.{Book, StandsFor}
+use Rattle.keeper_book.specs.declared.calls.Call.{Call}
+use Rattle.turn_rules.specs.Fits.{Fits}
+use Rattle.turn_rules.specs.Steps.{IsQuiet}
+
+-- no answer was hidden from the end that asked
+abbrev pub AreShown : List Call → Type 0
+AreShown calls = AllByRecursion (λ call. call.hidden ≡ false) calls
+
+-- a turn is explained by the turns before it
+pub record IsExplained (boxes : ℕ) (past : List Turn) (turn : Turn) : Type 0 where
+  pub fits : Fits boxes past turn.event turn.calls turn.step.verdict
+  pub shown : AreShown turn.calls
+  pub quiet : IsQuiet turn.step
+
+-- each turn is explained by those before it; the newest turn comes first
+abbrev pub Local : ℕ → List Turn → Type 0
+Local boxes [] = Unit {0}
+Local boxes (turn ∷ past) = IsExplained boxes past turn × Local boxes past
+
+-- all calls of a trace, in the order in which they were made
+abbrev pub calls_of : List Turn → List Call
+calls_of [] = []
+calls_of (turn ∷ past) = calls_of past ++ turn.calls
+
+-- the book is the one that the calls of the trace lead to
+abbrev pub Stands : List Turn → Book → Type 0
+Stands past book = StandsFor (calls_of past) book
