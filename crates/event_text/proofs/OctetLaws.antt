@@ -1,11 +1,14 @@
 -- Octets and their hexadecimal word determine each other.
-use Rattle.std.proofs.Common.{◌≡◌, ℕ, ◌+◌, ◌*◌, ◌/◌, ◌%◌, true, ◌&&◌, eqb, ltb, List, [], ◌∷◌, length, Some, Ok, refl, ap, ◌∙◌, arith}
+use Rattle.std.proofs.Common.{◌≡◌, ◌≢◌, ℕ, zero, suc, ◌+◌, ◌-◌, ◌*◌, ◌/◌, ◌%◌, ◌^◌, ◌<◌, ◌≤◌, Bool, true, false, ◌&&◌, ◌||◌, cond, eqb, ltb, leb, List, [], ◌∷◌, ◌++◌, length, get_or, take, drop, Option, Some, None, Result, Ok, Err, refl, sym, ap, ◌∙◌, subst, append_assoc, arith, inl, inr, rules}
 use Rattle.std.proofs.lemmas.Bool.{and_parts, eqb-true}
+use Rattle.std.proofs.lemmas.List.{nil_from_length}
+use Rattle.std.proofs.lemmas.Slice.Eq.{bytes_eq-Decides}
 use Rattle.std.specs.List.{list_all}
+use Rattle.std.specs.Str.{bytes_eq}
 use Rattle.hex.specs.Hex.{decode_pairs, decode_sized, hex_digit_value, value_at, digit_or_error, pair_value}
 use Rattle.hex.proofs.HexLemmas.{decode_of-even, decode_sized-twice}
 use Rattle.hex.proofs.Pairs.{cons_byte, decode_pairs-ok_pair}
-use Rattle.event_text.specs.Octets.{is_lower, is_hex, digit_of, decoded}
+use Rattle.event_text.specs.Octets.{is_lower, is_hex, digit_of, decoded, dash}
 
 lower_value : (c : ℕ) → is_lower c ≡ true → hex_digit_value c ≡ Some (digit_of c)
 lower_value c h = grind (arith)
@@ -30,3 +33,11 @@ hex_sized w n h half =
     let digits = and_parts (list_all is_lower w) (ltb 0 (length w)) parts.0 in
     let even = eqb-true (length w % 2) 0 parts.1 in
     decode_sized-twice w n (omega arith) ∙ decode_of-even w even ∙ lower_pairs 0 w digits.0 even
+
+-- no octets
+pub dash_fills : (w out : List ℕ) → bytes_eq w dash ≡ true → length w / 2 ≡ length out → out ≡ decoded w
+unfolding decoded
+dash_fills w out e half =
+    let is_dash = (bytes_eq-Decides w dash).0 e in
+    let none : length out ≡ 0 = sym half ∙ ap (λ (t : List ℕ). length t / 2) is_dash in
+    rw is_dash (nil_from_length out none)

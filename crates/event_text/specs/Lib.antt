@@ -1,4 +1,6 @@
 pub mod Words
 pub mod Numbers
 pub mod Octets
+pub mod Identities
+pub mod Events
 pub mod Reading

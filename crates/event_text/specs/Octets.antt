@@ -1,9 +1,9 @@
 -- Octets as lower-case hexadecimal words.
-use Rattle.std.specs.Prelude.{ℕ, ◌+◌, ◌-◌, ◌*◌, ◌/◌, ◌%◌, ◌==◌, ◌&&◌, ◌||◌, nat_lt, nat_le, Bool, List, [], ◌∷◌, length, codes, Result, Ok, Err, if◌then◌else◌}
+use Rattle.std.specs.Prelude.{ℕ, ◌≤◌, ◌+◌, ◌-◌, ◌*◌, ◌/◌, ◌%◌, ◌==◌, ◌&&◌, ◌||◌, nat_lt, nat_le, Bool, List, [], ◌∷◌, length, codes, Result, Ok, Err, if◌then◌else◌}
 use Rattle.std.specs.Int.{w32, w64, to_be_bytes, from_be_bytes}
 use Rattle.std.specs.List.{list_all}
 use Rattle.std.specs.Str.{bytes_eq}
-use Rattle.hex.specs.Hex.{encode_lower}
+use Rattle.hex.specs.Hex.{IsBytes, encode_lower}
 use Rattle.event_text.specs.declared.fault.LineReason.{LineReason}
 use Rattle.event_text.specs.declared.fault.LineReason.TheVariants.{Hex, Size}
 use Rattle.event_text.specs.Numbers.{is_digit}
@@ -34,10 +34,14 @@ abbrev pub octets_text : List ℕ → List ℕ
 octets_text [] = dash
 octets_text (b ∷ bs) = encode_lower (b ∷ bs)
 
+-- a word for octets
+abbrev pub spells_octets : List ℕ → Bool
+spells_octets w = bytes_eq w dash || is_hex w
+
 -- how many octets a word has, from least to most
 abbrev pub size_of : ℕ → ℕ → List ℕ → Result ℕ LineReason
 size_of least most w =
-    if bytes_eq w dash || is_hex w then (if nat_le least (length w / 2) && nat_le (length w / 2) most then Ok (length w / 2) else Err Size)
+    if spells_octets w then (if nat_le least (length w / 2) && nat_le (length w / 2) most then Ok (length w / 2) else Err Size)
     else Err Hex
 
 abbrev pub octets_in : List ℕ → Result ℕ LineReason → Result (List ℕ) LineReason
@@ -61,3 +65,9 @@ spi_of w = if is_hex w then (if length w / 2 == 8 then Ok (from_be_bytes w64 (de
 -- an SPI of an ESP packet (RFC 4303 section 2.1), in 8 digits
 abbrev pub esp_spi_of : List ℕ → Result ℕ LineReason
 esp_spi_of w = if is_hex w then (if length w / 2 == 4 then Ok (from_be_bytes w32 (decoded w)) else Err Size) else Err Hex
+
+-- octets of a number from least to most
+pub record IsOctets (least most : ℕ) (octets : List ℕ) : Type 0 where
+  pub least_size : least ≤ length octets
+  pub most_size : length octets ≤ most
+  pub bytes : IsBytes octets

@@ -4,8 +4,11 @@
 
 mod event;
 mod fault;
+mod fields;
+mod identity;
 mod number;
 mod octets;
+mod reading;
 mod seals;
 mod split;
 mod turn;

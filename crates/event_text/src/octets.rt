@@ -1,10 +1,11 @@
 //! Octets and SPIs as hexadecimal words.
 
-ghost use Rattle.std.specs.Prelude.{◌≡◌, ◌/◌, true, length};
+ghost use Rattle.std.specs.Prelude.{◌≡◌, ◌≤◌, ◌/◌, true, length, IfOk, OnOk};
 ghost use Rattle.std.specs.List.{list_all};
-ghost use Rattle.event_text.specs.Octets.{decoded, esp_spi_of, is_hex, is_lower, size_of, spi_of};
+ghost use Rattle.event_text.specs.Octets.{decoded, esp_spi_of, is_hex, is_lower, spells_octets, size_of, sized, spi_of};
 
 use crate::fault::LineReason;
+use ha_base::{OctetArray, OctetList};
 
 fn is_lower(octet: u8) -> bool
     ensures { result ≡ is_lower octet }
@@ -25,9 +26,9 @@ fn is_hex(word: &[u8]) -> bool
     all_lower(word) && !word.is_empty() && word.len() % 2 == 0
 }
 
-/// Writes the octets of a word.
+/// Writes the octets of a word of hexadecimal.
 #[tactic(auto, using(crate::proofs::OctetLaws::hex_sized))]
-fn fill(word: &[u8], out: &mut [u8])
+fn fill_hex(word: &[u8], out: &mut [u8])
     requires hex { is_hex word.now ≡ true }
     requires long { length word.now / 2 ≡ length out.old }
     ensures { out.new ≡ decoded word.now }
@@ -37,9 +38,25 @@ fn fill(word: &[u8], out: &mut [u8])
     }
 }
 
+/// Writes the octets of a word.
+#[tactic(auto, using(crate::proofs::OctetLaws::dash_fills))]
+fn fill(word: &[u8], out: &mut [u8])
+    requires octets { spells_octets word.now ≡ true }
+    requires long { length word.now / 2 ≡ length out.old }
+    ensures { out.new ≡ decoded word.now }
+{
+    if word == b"-".as_slice() {
+        return;
+    }
+    fill_hex(word, out);
+}
+
 /// How many octets the word has, which is from `least` to `most`. `-` is no octets.
-pub(crate) fn size_word(word: &[u8], least: usize, most: usize) -> Result<usize, LineReason>
-    ensures { result ≡ size_of least most word.now }
+fn size_word(word: &[u8], least: usize, most: usize) -> Result<usize, LineReason>
+    ensures value { result ≡ size_of least most word.now }
+    ensures octets { OnOk result (spells_octets word.now ≡ true) }
+    ensures size { IfOk result (λ size. size ≡ length word.now / 2) }
+    ensures within { IfOk result (λ size. (least ≤ size) × (size ≤ most)) }
 {
     if word != b"-".as_slice() && !is_hex(word) {
         return Err(LineReason::Hex);
@@ -49,6 +66,47 @@ pub(crate) fn size_word(word: &[u8], least: usize, most: usize) -> Result<usize,
         return Err(LineReason::Size);
     }
     Ok(size)
+}
+
+/// Octets of one number.
+pub(crate) fn array_word<const N: usize>(word: &[u8]) -> Result<[u8; N], LineReason>
+    ensures { result ≡ sized N N word.now }
+{
+    size_word(word, N, N)?;
+    let mut octets = [0; N];
+    fill(word, &mut octets);
+    Ok(octets)
+}
+
+/// Octets of a number from `least` to `most`.
+pub(crate) fn list_word<const N: usize>(
+    word: &[u8],
+    least: usize,
+    most: usize,
+) -> Result<OctetList<N>, LineReason>
+    requires { most ≤ N }
+    ensures value { result ≡ sized least most word.now }
+    ensures within { IfOk result (λ list. (least ≤ length list) × (length list ≤ most)) }
+{
+    let size = size_word(word, least, most)?;
+    let mut kept = [0; N];
+    fill(word, &mut kept[..size]);
+    Ok(OctetList::from_slice(&kept[..size]))
+}
+
+/// The same, in a list that is copied.
+pub(crate) fn copied_word<const N: usize>(
+    word: &[u8],
+    least: usize,
+    most: usize,
+) -> Result<OctetArray<N>, LineReason>
+    requires { most ≤ N }
+    ensures { result ≡ sized least most word.now }
+{
+    let size = size_word(word, least, most)?;
+    let mut kept = [0; N];
+    fill(word, &mut kept[..size]);
+    Ok(OctetArray::from_slice(&kept[..size]))
 }
 
 /// An SPI of the IKE header, in 16 digits.
@@ -62,7 +120,7 @@ pub(crate) fn spi_word(word: &[u8]) -> Result<u64, LineReason>
         return Err(LineReason::Size);
     }
     let mut octets = [0; 8];
-    fill(word, &mut octets);
+    fill_hex(word, &mut octets);
     Ok(u64::from_be_bytes(octets))
 }
 
@@ -77,6 +135,6 @@ pub(crate) fn esp_spi_word(word: &[u8]) -> Result<u32, LineReason>
         return Err(LineReason::Size);
     }
     let mut octets = [0; 4];
-    fill(word, &mut octets);
+    fill_hex(word, &mut octets);
     Ok(u32::from_be_bytes(octets))
 }

@@ -1,0 +1,49 @@
+-- What a line says of an event.
+use Rattle.std.specs.Prelude.{ℕ, List}
+use Rattle.ha_base.specs.declared.identities.Identity.{Identity}
+use Rattle.ha_base.specs.declared.key_material.KeySize.{KeySize}
+use Rattle.ha_base.specs.declared.key_material.SaKeys.{SaKeys}
+use Rattle.ha_base.specs.declared.key_material.ChildKeys.{ChildKeys}
+use Rattle.keeper_book.specs.declared.counters.Five.{Five}
+use Rattle.keeper_book.specs.declared.records.Record.{Record}
+use Rattle.event_text.specs.declared.event.Event.{Event}
+use Rattle.event_text.specs.declared.event.Event.TheVariants as events
+
+-- an association, by the fields of its record alone
+pub record Association : Type 0 where
+  pub spii : ℕ
+  pub spir : ℕ
+  pub size : KeySize
+  pub identity : Identity
+  pub keys : SaKeys
+  pub spi_in : ℕ
+  pub spi_out : ℕ
+  pub child : ChildKeys
+  pub starts : Five
+
+abbrev pub association : Record → Association
+association sa =
+    record {
+      spii = sa.spii;
+      spir = sa.spir;
+      size = sa.size;
+      identity = sa.identity;
+      keys = sa.keys;
+      spi_in = sa.spi_in;
+      spi_out = sa.spi_out;
+      child = sa.child;
+      starts = sa.starts;
+    }
+
+-- an event, by the fields of its line alone
+pub data PlainEvent : Type 0 where
+  Import : Association → PlainEvent
+  Join : List ℕ → PlainEvent
+  Own : ℕ → ℕ → PlainEvent
+  Draw : ℕ → ℕ → PlainEvent
+
+abbrev pub plain : Event → PlainEvent
+plain (events.Import sa) = Import (association sa)
+plain (events.Join fresh) = Join fresh
+plain (events.Own member spir) = Own member spir
+plain (events.Draw member spir) = Draw member spir
