@@ -33,3 +33,13 @@ prefix_cases p w (Some x) h = sym (prefix_behind p w x.now h)
 -- what `strip_prefix` gives
 pub prefix_found : (p w : List ℕ) (r : Option (Bor (List ℕ))) → MatchOption r (pointwise eqb (take (length p) w) p ≡ false) (λ x. (pointwise eqb (take (length p) w) p ≡ true) × (x.now ≡ drop (length p) w) × (length x.now + length p ≡ length w)) → option_copied r ≡ behind_prefix p w
 prefix_found p w r h = prefix_cases p w r (strip_prefix_is Decides-eqb w p r h)
+
+-- what stands behind a prefix is behind it
+pub prefix_takes : (p w rest : List ℕ) → behind_prefix p w ≡ Some rest → w ≡ p ++ rest
+prefix_takes [] w rest e = cc
+prefix_takes (c ∷ cs) [] rest e = absurd cc
+prefix_takes (c ∷ cs) (d ∷ ds) rest e =
+    elim (eqb_tells d c) [
+      | inl same ↦ let tail = prefix_takes cs ds rest (rw same.0 at e) in rw same.1 (ap (λ (t : List ℕ). c ∷ t) tail)
+      | inr other ↦ absurd (let k : None ≡ Some rest = rw other.0 at e in cc)
+    ]

@@ -2,3 +2,8 @@ pub mod WordLaws
 pub mod NumberLaws
 pub mod OctetLaws
 pub mod IdentityLaws
+pub mod FieldLaws
+pub mod SpacelessLaws
+pub mod EventLaws
+pub mod LineLaws
+pub mod WritingLaws

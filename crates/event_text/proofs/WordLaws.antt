@@ -1,6 +1,7 @@
 -- A line and its words determine each other.
-use Rattle.std.proofs.Common.{◌≡◌, ◌≢◌, ℕ, zero, suc, ◌+◌, ◌<◌, List, [], ◌∷◌, ◌++◌, length, get_or, take, drop, refl, sym, ap, ◌∙◌, arith, inl, inr}
-use Rattle.std.proofs.lemmas.Bool.{ne_eqb}
+use Rattle.std.proofs.Common.{◌≡◌, ◌≢◌, ℕ, zero, suc, ◌+◌, ◌<◌, ◌≤◌, Bool, true, false, not, cond, eqb, List, [], ◌∷◌, ◌++◌, length, get_or, take, drop, refl, sym, ap, ◌∙◌, append_assoc, arith, inl, inr}
+use Rattle.std.specs.List.{list_all}
+use Rattle.std.proofs.lemmas.Bool.{and_parts, ne_eqb}
 use Rattle.std.proofs.lemmas.Bool.Decides.{eqb_tells}
 use Rattle.event_text.specs.Words.{line_of, spaced, onto, words_of}
 
@@ -58,29 +59,45 @@ line-words (c ∷ cs) =
     ]
 
 -- a word has no space
-abbrev pub IsWord : List ℕ → Type 0
-IsWord [] = Unit {0}
-IsWord (c ∷ cs) = (c ≢ 32) × IsWord cs
+abbrev pub no_space : ℕ → Bool
+no_space c = not (eqb c 32)
 
-abbrev pub AreWords : List (List ℕ) → Type 0
-AreWords [] = Unit {0}
-AreWords (w ∷ ws) = IsWord w × AreWords ws
+abbrev pub is_word : List ℕ → Bool
+is_word w = list_all no_space w
 
-word_before : (w rest : List ℕ) → IsWord w → words_of (w ++ (32 ∷ rest)) ≡ w ∷ words_of rest
+abbrev pub are_words : List (List ℕ) → Bool
+are_words ws = list_all is_word ws
+
+other_octet : (c : ℕ) → no_space c ≡ true → eqb c 32 ≡ false
+other_octet c h =
+    elim (eqb_tells c 32) [
+      | inl space ↦ absurd (let k : not true ≡ true = rw space.0 at h in cc)
+      | inr other ↦ other.0
+    ]
+
+word_before : (w rest : List ℕ) → is_word w ≡ true → words_of (w ++ (32 ∷ rest)) ≡ w ∷ words_of rest
 unfolding words_of
 word_before [] rest h = refl
-word_before (c ∷ cs) rest h = rw (ne_eqb c 32 h.0, word_before cs rest h.1) refl
+word_before (c ∷ cs) rest h =
+    let parts = and_parts (no_space c) (is_word cs) h in
+    rw (other_octet c parts.0, word_before cs rest parts.1) refl
 
-word_alone : (w : List ℕ) → IsWord w → words_of (w ++ []) ≡ w ∷ []
+word_alone : (w : List ℕ) → is_word w ≡ true → words_of (w ++ []) ≡ w ∷ []
 unfolding words_of
 word_alone [] h = refl
-word_alone (c ∷ cs) h = rw (ne_eqb c 32 h.0, word_alone cs h.1) refl
+word_alone (c ∷ cs) h =
+    let parts = and_parts (no_space c) (is_word cs) h in
+    rw (other_octet c parts.0, word_alone cs parts.1) refl
 
 -- the words of a line that some words make are these
-pub words-line : (w : List ℕ) (ws : List (List ℕ)) → AreWords (w ∷ ws) → words_of (line_of (w ∷ ws)) ≡ w ∷ ws
-words-line w [] h = word_alone w h.0
-words-line w (v ∷ vs) h = word_before w (v ++ spaced vs) h.0 ∙ ap (λ (t : List (List ℕ)). w ∷ t) (words-line v vs h.1)
+pub words-line : (w : List ℕ) (ws : List (List ℕ)) → are_words (w ∷ ws) ≡ true → words_of (line_of (w ∷ ws)) ≡ w ∷ ws
+words-line w [] h = word_alone w (and_parts (is_word w) true h).0
+words-line w (v ∷ vs) h =
+    let parts = and_parts (is_word w) (are_words (v ∷ vs)) h in
+    word_before w (v ++ spaced vs) parts.0 ∙ ap (λ (t : List (List ℕ)). w ∷ t) (words-line v vs parts.1)
 
-pub IsWord-append : (v w : List ℕ) → IsWord v → IsWord w → IsWord (v ++ w)
-IsWord-append [] w hv hw = hw
-IsWord-append (c ∷ cs) w hv hw = (hv.0, IsWord-append cs w hv.1 hw)
+pub is_word-append : (v w : List ℕ) → is_word v ≡ true → is_word w ≡ true → is_word (v ++ w) ≡ true
+is_word-append [] w hv hw = hw
+is_word-append (c ∷ cs) w hv hw =
+    let parts = and_parts (no_space c) (is_word cs) hv in
+    rw (parts.0, is_word-append cs w parts.1 hw) refl

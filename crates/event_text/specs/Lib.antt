@@ -4,3 +4,6 @@ pub mod Octets
 pub mod Identities
 pub mod Events
 pub mod Reading
+pub mod Grammar
+pub mod Writing
+pub mod Report

@@ -14,6 +14,7 @@ mod split;
 mod turn;
 mod verdict;
 mod words;
+mod writing;
 
 pub use event::Event;
 pub use fault::{LineFault, LineReason};

@@ -1,9 +1,11 @@
 //! An event from its line.
 
-ghost use Rattle.std.specs.Prelude.{◌≡◌, length, IfOk, MatchResult, Ok, Err};
+ghost use Rattle.std.specs.Prelude.{◌≡◌, ◌≢◌, length, IfOk, MatchResult, Ok, Err};
 ghost use Rattle.keeper_book.specs.Counters.{AreWithinEnds};
 ghost use Rattle.keeper_book.specs.Records.{sealing_key_octets};
-ghost use Rattle.event_text.specs.Events.{plain};
+ghost use Rattle.event_text.specs.Events.{PlainEvent, plain};
+ghost use Rattle.event_text.specs.Grammar.{EventLine};
+ghost use Rattle.ha_base.specs.declared.outside.Moment.{Moment};
 ghost use Rattle.event_text.specs.Reading.{Gives, Fails, sa_keys_at, child_keys_at, starts_at, import_at, join_at, own_at, draw_at, event_at, moment_at, told_at, line_at};
 
 use crate::event::Event;
@@ -185,4 +187,29 @@ fn told(line: &[u8], last: Moment) -> Result<(Moment, Event), Failure>
     let event = event(&mut words)?;
     words.end()?;
     Ok((Moment(seconds), event))
+}
+
+/// The event that a line spells, with its moment, in seconds. `last` is the moment of the event before, or 0.
+///
+/// An error is the first fault of the line from left to right, or want of memory.
+pub fn read_line(_alloc: Global, line: &[u8], last: Moment) -> Result<(Moment, Event), LineFault>
+    // Which event it is, and else which fault.
+    ensures exact { MatchResult result (λ x. line_at last.0 line.now ≡ Ok (x.0, plain x.1))
+        (λ f. f.reason ≢ LineReason.Memory → line_at last.0 line.now ≡ Err f) }
+
+    // What is read is spelled so.
+    ensures found { IfOk result (λ x. EventLine last.0 line.now x.0 (plain x.1)) }
+
+    // What is spelled so is read, unless memory runs out.
+    ensures only { (m : Moment) (e : PlainEvent) → EventLine last.0 line.now m e
+        → MatchResult result (λ x. (x.0 ≡ m) × (plain x.1 ≡ e)) (λ f. f.reason ≡ LineReason.Memory) }
+{
+    match told(line, last) {
+        Ok(read) => Ok(read),
+        Err(Failure::At(fault)) => Err(fault),
+        Err(Failure::OutOfMemory) => Err(LineFault {
+            column: 0,
+            reason: LineReason::Memory,
+        }),
+    }
 }

@@ -1,4 +1,4 @@
-ghost use Rattle.std.specs.Prelude.{◌≡◌, ◌<◌, [], ◌∷◌, ◌++◌, length, slice_get};
+ghost use Rattle.std.specs.Prelude.{◌≡◌, ◌<◌, ◌≤◌, ◌==◌, [], ◌∷◌, ◌++◌, length, slice_get};
 ghost use Rattle.std.specs.Option.{option_copied};
 
 use ha_base::{CounterName, Octets};
@@ -41,6 +41,27 @@ impl Seals {
             first: None,
             second: None,
         }
+    }
+
+    /// How many seals there are.
+    pub fn len(&self) -> usize
+        ensures count { result ≡ length self.now }
+        ensures within { result ≤ 2 }
+    {
+        if self.second.is_some() {
+            2
+        } else if self.first.is_some() {
+            1
+        } else {
+            0
+        }
+    }
+
+    /// There is no seal.
+    pub fn is_empty(&self) -> bool
+        ensures { result ≡ (length self.now == 0) }
+    {
+        self.first.is_none()
     }
 
     /// Appends a seal.

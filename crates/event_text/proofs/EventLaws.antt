@@ -1,0 +1,228 @@
+-- What is read of a line is spelled so, and what is spelled so is read.
+use Rattle.std.proofs.Common.{◌≡◌, ◌≢◌, ℕ, zero, suc, ◌+◌, ◌-◌, ◌^◌, ◌<◌, ◌≤◌, Bool, true, false, cond, eqb, ltb, List, [], ◌∷◌, ◌++◌, length, Option, Some, None, Result, Ok, Err, refl, sym, ap, ◌∙◌, subst, append-nil, arith, inl, inr, codes, lit≤}
+use Rattle.std.proofs.lemmas.Bool.{ltb-false, le-ltb}
+use Rattle.std.proofs.lemmas.Slice.Eq.{bytes_eq-Decides}
+use Rattle.std.specs.Fmt.{decimal}
+use Rattle.std.specs.Str.{bytes_eq}
+use Rattle.ha_base.specs.declared.key_material.KeySize.{KeySize}
+use Rattle.ha_base.specs.declared.key_material.SaKeys.{SaKeys}
+use Rattle.ha_base.specs.declared.key_material.ChildKeys.{ChildKeys}
+use Rattle.ha_base.specs.declared.outside.Moment.{Moment}
+use Rattle.keeper_book.specs.declared.counters.Five.{Five}
+use Rattle.keeper_book.specs.Records.{sealing_key_octets}
+use Rattle.event_text.specs.declared.fault.LineFault.{LineFault}
+use Rattle.event_text.specs.declared.fault.LineReason.TheVariants as reasons
+use Rattle.event_text.specs.Words.{Spot, line_of, words_of}
+use Rattle.event_text.specs.Numbers.{number_of}
+use Rattle.event_text.specs.Events.{Association, PlainEvent, Import, Join, Own, Draw}
+use Rattle.event_text.specs.Reading.{◌>>=◌, behind, child_keys_at, draw_at, ended_at, end_in, event_at, fault_at, field, fields_at, import_at, join_at, line_at, moment_at, not_before, own_at, sa_keys_at, starts_at, told_at, word_at, word_in}
+use Rattle.event_text.specs.Grammar.{AreChildKeys, AreSaKeys, AreStarts, EventLine, Fits, IsAssociation, association_words, child_key_words, event_words, five_words, line_words, sa_key_words}
+use Rattle.event_text.proofs.WordLaws.{line-words, words-line}
+use Rattle.event_text.proofs.SpacelessLaws.{line_spaceless}
+use Rattle.event_text.proofs.FieldLaws.{IsField, IsReader, column_behind, done, esp_spi_field, field_again, identity_field, key_size_field, number_field, ok_is, pick, reader, sized_field, spi_field, then_word, then_words, walk}
+
+member_field : IsField (number_of 0 (2 ^ 63)) decimal (λ n. n < 2 ^ 63)
+member_field = number_field (2 ^ 63) (lit≤ tt)
+
+message_id_field : IsField (number_of 0 (2 ^ 32 - 1)) decimal (λ n. n < 2 ^ 32 - 1)
+message_id_field = number_field (2 ^ 32 - 1) (lit≤ tt)
+
+-- ---- the parts of an association
+
+sa_keys_takes : (size : KeySize) (s : Spot) (x : SaKeys) (t : Spot) → sa_keys_at size s ≡ Ok (x, t) → (s.words ≡ sa_key_words x ++ t.words) × AreSaKeys size x
+unfolding sa_keys_at
+sa_keys_takes size s x t e =
+    let n = sealing_key_octets size in
+    walk (reader (sized_field 32 32)) s _ (x, t) e (λ sk_d s1 w1 f1 e1.
+    walk (reader (sized_field n n)) s1 _ (x, t) e1 (λ sk_ei s2 w2 f2 e2.
+    walk (reader (sized_field n n)) s2 _ (x, t) e2 (λ sk_er s3 w3 f3 e3.
+    walk (reader (sized_field 32 32)) s3 _ (x, t) e3 (λ sk_pi s4 w4 f4 e4.
+    walk (reader (sized_field 32 32)) s4 _ (x, t) e4 (λ sk_pr s5 w5 f5 e5.
+    subst (λ (p : SaKeys × Spot). (s.words ≡ sa_key_words p.0 ++ p.1.words) × AreSaKeys size p.0)
+      (ok_is (record { sk_d = sk_d; sk_ei = sk_ei; sk_er = sk_er; sk_pi = sk_pi; sk_pr = sk_pr }, s5) (x, t) e5)
+      (then_word _ w1 (then_word _ w2 (then_word _ w3 (then_word _ w4 w5))), record { sk_d = f1; sk_ei = f2; sk_er = f3; sk_pi = f4; sk_pr = f5 }))))))
+
+sa_keys_again : (size : KeySize) (x : SaKeys) → AreSaKeys size x → (c : ℕ) (ws : List (List ℕ)) → sa_keys_at size (record { column = c; words = sa_key_words x ++ ws }) ≡ Ok (x, record { column = column_behind c (sa_key_words x); words = ws })
+unfolding sa_keys_at
+sa_keys_again size x h c ws =
+    let n = sealing_key_octets size in
+    rw (field_again (sized_field 32 32) x.sk_d h.sk_d, field_again (sized_field n n) x.sk_ei h.sk_ei, field_again (sized_field n n) x.sk_er h.sk_er, field_again (sized_field 32 32) x.sk_pi h.sk_pi, field_again (sized_field 32 32) x.sk_pr h.sk_pr) refl
+
+sa_keys_reader : (size : KeySize) → IsReader (sa_keys_at size) sa_key_words (AreSaKeys size)
+sa_keys_reader size = record { takes = sa_keys_takes size; again = sa_keys_again size }
+
+child_keys_takes : (size : KeySize) (s : Spot) (x : ChildKeys) (t : Spot) → child_keys_at size s ≡ Ok (x, t) → (s.words ≡ child_key_words x ++ t.words) × AreChildKeys size x
+unfolding child_keys_at
+child_keys_takes size s x t e =
+    let n = sealing_key_octets size in
+    walk (reader (sized_field n n)) s _ (x, t) e (λ to_cluster s1 w1 f1 e1.
+    walk (reader (sized_field n n)) s1 _ (x, t) e1 (λ to_peer s2 w2 f2 e2.
+    subst (λ (p : ChildKeys × Spot). (s.words ≡ child_key_words p.0 ++ p.1.words) × AreChildKeys size p.0)
+      (ok_is (record { to_cluster = to_cluster; to_peer = to_peer }, s2) (x, t) e2)
+      (then_word _ w1 w2, record { to_cluster = f1; to_peer = f2 })))
+
+child_keys_again : (size : KeySize) (x : ChildKeys) → AreChildKeys size x → (c : ℕ) (ws : List (List ℕ)) → child_keys_at size (record { column = c; words = child_key_words x ++ ws }) ≡ Ok (x, record { column = column_behind c (child_key_words x); words = ws })
+unfolding child_keys_at
+child_keys_again size x h c ws =
+    let n = sealing_key_octets size in
+    rw (field_again (sized_field n n) x.to_cluster h.to_cluster, field_again (sized_field n n) x.to_peer h.to_peer) refl
+
+child_keys_reader : (size : KeySize) → IsReader (child_keys_at size) child_key_words (AreChildKeys size)
+child_keys_reader size = record { takes = child_keys_takes size; again = child_keys_again size }
+
+starts_takes : (s : Spot) (x : Five) (t : Spot) → starts_at s ≡ Ok (x, t) → (s.words ≡ five_words x ++ t.words) × AreStarts x
+unfolding starts_at
+starts_takes s x t e =
+    walk (reader member_field) s _ (x, t) e (λ esp_out s1 w1 f1 e1.
+    walk (reader member_field) s1 _ (x, t) e1 (λ esp_in s2 w2 f2 e2.
+    walk (reader member_field) s2 _ (x, t) e2 (λ iv s3 w3 f3 e3.
+    walk (reader message_id_field) s3 _ (x, t) e3 (λ ask s4 w4 f4 e4.
+    walk (reader message_id_field) s4 _ (x, t) e4 (λ answer s5 w5 f5 e5.
+    subst (λ (p : Five × Spot). (s.words ≡ five_words p.0 ++ p.1.words) × AreStarts p.0)
+      (ok_is (record { esp_out = esp_out; esp_in = esp_in; iv = iv; ask = ask; answer = answer }, s5) (x, t) e5)
+      (then_word _ w1 (then_word _ w2 (then_word _ w3 (then_word _ w4 w5))), record { esp_out = f1; esp_in = f2; iv = f3; ask = f4; answer = f5 }))))))
+
+starts_again : (x : Five) → AreStarts x → (c : ℕ) (ws : List (List ℕ)) → starts_at (record { column = c; words = five_words x ++ ws }) ≡ Ok (x, record { column = column_behind c (five_words x); words = ws })
+unfolding starts_at
+starts_again x h c ws =
+    rw (field_again member_field x.esp_out h.esp_out, field_again member_field x.esp_in h.esp_in, field_again member_field x.iv h.iv, field_again message_id_field x.ask h.ask, field_again message_id_field x.answer h.answer) refl
+
+starts_reader : IsReader starts_at five_words AreStarts
+starts_reader = record { takes = starts_takes; again = starts_again }
+
+-- ---- events
+
+-- a word and the words behind it are an event's
+record IsSpelled (word : List ℕ) (s : Spot) (y : PlainEvent × Spot) : Type 0 where
+  words : word ∷ s.words ≡ event_words y.0 ++ y.1.words
+  fits : Fits y.0
+
+behind_word : (word : List ℕ) {ws vs : List (List ℕ)} → ws ≡ vs → word ∷ ws ≡ word ∷ vs
+behind_word word e = ap (λ (v : List (List ℕ)). word ∷ v) e
+
+import_takes : (s : Spot) (y : PlainEvent × Spot) → import_at s ≡ Ok y → IsSpelled (codes "import") s y
+unfolding import_at
+import_takes s y e =
+    walk (reader spi_field) s _ y e (λ spii s1 w1 f1 e1.
+    walk (reader spi_field) s1 _ y e1 (λ spir s2 w2 f2 e2.
+    walk (reader key_size_field) s2 _ y e2 (λ size s3 w3 f3 e3.
+    walk (reader identity_field) s3 _ y e3 (λ identity s4 w4 f4 e4.
+    walk (sa_keys_reader size) s4 _ y e4 (λ keys s5 w5 f5 e5.
+    walk (reader esp_spi_field) s5 _ y e5 (λ spi_in s6 w6 f6 e6.
+    walk (reader esp_spi_field) s6 _ y e6 (λ spi_out s7 w7 f7 e7.
+    walk (child_keys_reader size) s7 _ y e7 (λ child s8 w8 f8 e8.
+    walk starts_reader s8 _ y e8 (λ starts s9 w9 f9 e9.
+    subst (IsSpelled (codes "import") s)
+      (ok_is (Import (record { spii = spii; spir = spir; size = size; identity = identity; keys = keys; spi_in = spi_in; spi_out = spi_out; child = child; starts = starts }), s9) y e9)
+      (record {
+        words = behind_word (codes "import") (then_word _ w1 (then_word _ w2 (then_word _ w3 (then_word _ w4 (then_words (sa_key_words keys) w5 (then_word _ w6 (then_word _ w7 (then_words (child_key_words child) w8 w9))))))));
+        fits = record { spii = f1; spir = f2; identity = f4; keys = f5; spi_in = f6; spi_out = f7; child = f8; starts = f9 };
+      }))))))))))
+
+join_takes : (s : Spot) (y : PlainEvent × Spot) → join_at s ≡ Ok y → IsSpelled (codes "join") s y
+unfolding join_at
+join_takes s y e =
+    walk (reader (sized_field 24 24)) s _ y e (λ fresh s1 w1 f1 e1.
+    subst (IsSpelled (codes "join") s) (ok_is (Join fresh, s1) y e1) (record { words = behind_word (codes "join") w1; fits = f1 }))
+
+own_takes : (s : Spot) (y : PlainEvent × Spot) → own_at s ≡ Ok y → IsSpelled (codes "own") s y
+unfolding own_at
+own_takes s y e =
+    walk (reader member_field) s _ y e (λ member s1 w1 f1 e1.
+    walk (reader spi_field) s1 _ y e1 (λ spir s2 w2 f2 e2.
+    subst (IsSpelled (codes "own") s) (ok_is (Own member spir, s2) y e2) (record { words = behind_word (codes "own") (then_word _ w1 w2); fits = (f1, f2) })))
+
+draw_takes : (s : Spot) (y : PlainEvent × Spot) → draw_at s ≡ Ok y → IsSpelled (codes "draw") s y
+unfolding draw_at
+draw_takes s y e =
+    walk (reader member_field) s _ y e (λ member s1 w1 f1 e1.
+    walk (reader spi_field) s1 _ y e1 (λ spir s2 w2 f2 e2.
+    subst (IsSpelled (codes "draw") s) (ok_is (Draw member spir, s2) y e2) (record { words = behind_word (codes "draw") (then_word _ w1 w2); fits = (f1, f2) })))
+
+is_word_of : (name w : List ℕ) (s : Spot) (y : PlainEvent × Spot) → bytes_eq w name ≡ true → IsSpelled name s y → IsSpelled w s y
+is_word_of name w s y t h = subst (λ (v : List ℕ). IsSpelled v s y) (sym ((bytes_eq-Decides w name).0 t)) h
+
+fields_take : (c : ℕ) (w : List ℕ) (s : Spot) (y : PlainEvent × Spot) → fields_at c w s ≡ Ok y → IsSpelled w s y
+unfolding fields_at
+fields_take c w s y e =
+    pick (bytes_eq w (codes "import")) _ _ _ e (λ t h. is_word_of (codes "import") w s y t (import_takes s y h)) (λ _ e1.
+    pick (bytes_eq w (codes "join")) _ _ _ e1 (λ t h. is_word_of (codes "join") w s y t (join_takes s y h)) (λ _ e2.
+    pick (bytes_eq w (codes "own")) _ _ _ e2 (λ t h. is_word_of (codes "own") w s y t (own_takes s y h)) (λ _ e3.
+    pick (bytes_eq w (codes "draw")) _ _ _ e3 (λ t h. is_word_of (codes "draw") w s y t (draw_takes s y h)) (λ _ e4. absurd cc))))
+
+-- a step was run, and then the rest
+after : {A B P : Type 0} (r : Result A LineFault) (k : A → Result B LineFault) (y : B) → (r >>= k) ≡ Ok y → ((x : A) → r ≡ Ok x → k x ≡ Ok y → P) → P
+after (Err f) k y e go = absurd cc
+after (Ok x) k y e go = go x refl e
+
+word_is : (c : ℕ) (ws : List (List ℕ)) (p : List ℕ × Spot) → word_in c ws ≡ Ok p → ws ≡ p.0 ∷ p.1.words
+word_is c [] p e = absurd cc
+word_is c (v ∷ vs) p e = ap (λ (q : List ℕ × Spot). q.0 ∷ q.1.words) (ok_is (v, behind c v vs) p e)
+
+event_takes : (s : Spot) (y : PlainEvent × Spot) → event_at s ≡ Ok y → (s.words ≡ event_words y.0 ++ y.1.words) × Fits y.0
+unfolding event_at
+event_takes s y e =
+    after (word_at s) (λ w. fields_at s.column w.0 w.1) y e (λ w found rest.
+      let spelled = fields_take s.column w.0 w.1 y rest in
+      (word_is s.column s.words w found ∙ spelled.words, spelled.fits))
+
+event_again : (e : PlainEvent) → Fits e → (c : ℕ) → event_at (record { column = c; words = event_words e }) ≡ Ok (e, record { column = column_behind c (event_words e); words = [] })
+unfolding event_at fields_at import_at join_at own_at draw_at
+event_again (Import a) h c =
+    rw (field_again spi_field a.spii h.spii, field_again spi_field a.spir h.spir, field_again key_size_field a.size tt, field_again identity_field a.identity h.identity, sa_keys_again a.size a.keys h.keys, field_again esp_spi_field a.spi_in h.spi_in, field_again esp_spi_field a.spi_out h.spi_out, child_keys_again a.size a.child h.child, (starts_reader.again a.starts h.starts)) refl
+event_again (Join fresh) h c = rw (field_again (sized_field 24 24) fresh h) refl
+event_again (Own member spir) h c = rw (field_again member_field member h.0, field_again spi_field spir h.1) refl
+event_again (Draw member spir) h c = rw (field_again member_field member h.0, field_again spi_field spir h.1) refl
+
+-- ---- a line
+
+moment_takes : (last : ℕ) (s : Spot) (p : ℕ × Spot) → moment_at last s ≡ Ok p → (s.words ≡ decimal p.0 ∷ p.1.words) × (p.0 < 2 ^ 63) × (last ≤ p.0)
+unfolding moment_at
+moment_takes last s p e =
+    walk (reader member_field) s _ p e (λ n t w f e1.
+    pick (ltb n last) (Err (fault_at s.column reasons.ClockBack)) (Ok (n, t)) (Ok p) e1
+      (λ hit same. absurd cc)
+      (λ miss same. subst (λ (q : ℕ × Spot). (s.words ≡ decimal q.0 ∷ q.1.words) × (q.0 < 2 ^ 63) × (last ≤ q.0)) (ok_is (n, t) p same) (w, f, ltb-false n last miss)))
+
+moment_again : (last n : ℕ) → n < 2 ^ 63 → last ≤ n → (c : ℕ) (ws : List (List ℕ)) → moment_at last (record { column = c; words = decimal n ∷ ws }) ≡ Ok (n, behind c (decimal n) ws)
+unfolding moment_at
+moment_again last n lt le c ws = rw (field_again member_field n lt, le-ltb n last le) refl
+
+ended_is : (c : ℕ) (ws : List (List ℕ)) (x : Unit {0}) → end_in c ws ≡ Ok x → ws ≡ []
+ended_is c [] x e = refl
+ended_is c (w ∷ ws) x e = absurd cc
+
+told_takes : (last : ℕ) (s : Spot) (y : Moment × PlainEvent) → told_at last s ≡ Ok y → (s.words ≡ line_words y.0 y.1) × (last ≤ y.0.0) × (y.0.0 < 2 ^ 63) × Fits y.1
+unfolding told_at
+told_takes last s y e =
+    after (moment_at last s) _ y e (λ m is_m e1.
+    after (event_at m.1) _ y e1 (λ v is_v e2.
+    after (ended_at v.1) _ y e2 (λ x is_x e3.
+      let moment = moment_takes last s m is_m in
+      let event = event_takes m.1 v is_v in
+      let none = ended_is v.1.column v.1.words x is_x in
+      let words : m.1.words ≡ event_words v.0 = event.0 ∙ ap (λ (t : List (List ℕ)). event_words v.0 ++ t) none ∙ append-nil (event_words v.0) in
+      subst (λ (z : Moment × PlainEvent). (s.words ≡ line_words z.0 z.1) × (last ≤ z.0.0) × (z.0.0 < 2 ^ 63) × Fits z.1)
+        (ok_is (record { 0 = m.0 }, v.0) y e3)
+        (moment.0 ∙ ap (λ (t : List (List ℕ)). decimal m.0 ∷ t) words, moment.2, moment.1, event.1))))
+
+-- what is read of a line is what the line says
+pub line_takes : (last : ℕ) (line : List ℕ) (y : Moment × PlainEvent) → line_at last line ≡ Ok y → EventLine last line y.0 y.1
+unfolding line_at
+line_takes last line y e =
+    pick (ltb 16384 (length line)) (Err (fault_at 16385 reasons.LineTooLong)) (told_at last (record { column = 1; words = words_of line })) (Ok y) e
+      (λ hit same. absurd cc)
+      (λ miss same.
+          let told = told_takes last (record { column = 1; words = words_of line }) y same in
+          record { text = sym (line-words line) ∙ ap line_of told.0; short = ltb-false 16384 (length line) miss; late = told.1; seconds = told.2; fits = told.3 })
+
+told_again : (last : ℕ) (m : Moment) (e : PlainEvent) → last ≤ m.0 → m.0 < 2 ^ 63 → Fits e → told_at last (record { column = 1; words = line_words m e }) ≡ Ok (m, e)
+unfolding told_at
+told_again last m e late lt fits = rw (moment_again last m.0 lt late 1 (event_words e), event_again e fits (1 + length (decimal m.0) + 1)) refl
+
+-- what a line says is read of it
+pub line_again : (last : ℕ) (line : List ℕ) (m : Moment) (e : PlainEvent) → EventLine last line m e → line_at last line ≡ Ok (m, e)
+unfolding line_at
+line_again last line m e h =
+    let words : words_of line ≡ line_words m e = ap words_of h.text ∙ words-line (decimal m.0) (event_words e) (line_spaceless m e h.seconds h.fits) in
+    rw (le-ltb 16384 (length line) h.short, words) (told_again last m e h.late h.seconds h.fits)

@@ -1,0 +1,35 @@
+-- Words put one after another make a line.
+use Rattle.std.proofs.Common.{◌≡◌, ℕ, ◌+◌, ◌<◌, List, [], ◌∷◌, ◌++◌, length, take, Option, Some, None, refl, sym, ap, ◌∙◌, append_assoc, append-nil, arith}
+use Rattle.std.specs.Prelude.{slice_get}
+use Rattle.std.specs.List.{flat_map}
+use Rattle.std.proofs.lemmas.Grind.{flat_map-append}
+use Rattle.std.proofs.lemmas.List.{take_more}
+use Rattle.std.proofs.lemmas.List.Concat.{flat_map-cons}
+use Rattle.std.proofs.lemmas.Option.{get_or_from_slice_get, slice_get-get_or, slice_get_within}
+use Rattle.event_text.specs.Words.{spaced, line_of}
+use Rattle.event_text.specs.Report.{line_text}
+use Rattle.event_text.specs.Writing.{with_words}
+
+with_words_spaced : (text : List ℕ) (ws : List (List ℕ)) → with_words text ws ≡ text ++ spaced ws
+with_words_spaced text [] = sym (append-nil text)
+with_words_spaced text (w ∷ ws) = with_words_spaced (text ++ (32 ∷ w)) ws ∙ append_assoc text (32 ∷ w) (spaced ws)
+
+pub with_words_append : (text : List ℕ) (vs ws : List (List ℕ)) → with_words text (vs ++ ws) ≡ with_words (with_words text vs) ws
+with_words_append text [] ws = refl
+with_words_append text (v ∷ vs) ws = with_words_append (text ++ (32 ∷ v)) vs ws
+
+-- a word, the words behind it, and a line feed are their line
+pub line_put : (text w : List ℕ) (ws : List (List ℕ)) → with_words (text ++ w) ws ++ (10 ∷ []) ≡ text ++ line_text (w ∷ ws)
+line_put text w ws =
+    ap (λ (t : List ℕ). t ++ (10 ∷ [])) (with_words_spaced (text ++ w) ws ∙ append_assoc text w (spaced ws)) ∙ append_assoc text (line_of (w ∷ ws)) (10 ∷ [])
+
+-- the texts of one item more
+pub one_more : {X : Type 0} (f : X → List ℕ) (xs : List X) (i : ℕ) (x : X) → slice_get xs i ≡ Some x → flat_map f (take (i + 1) xs) ≡ flat_map f (take i xs) ++ f x
+one_more f xs i x e =
+    let item = take_more xs i x (slice_get_within xs i x e) ∙ ap (λ (y : _). take i xs ++ y ∷ []) (get_or_from_slice_get xs i x x e) in
+    ap (flat_map f) item ∙ flat_map-append f (take i xs) (x ∷ []) ∙ ap (λ (t : List ℕ). flat_map f (take i xs) ++ t) (flat_map-cons f x [] ∙ append-nil (f x))
+
+-- there is an item at each place
+pub item_there : {X : Type 0} (xs : List X) (i : ℕ) → slice_get xs i ≡ None → i < length xs → ⊥
+item_there [] i e lt = absurd (omega arith)
+item_there (x ∷ xs) i e lt = let some = slice_get-get_or (x ∷ xs) i x lt in absurd cc

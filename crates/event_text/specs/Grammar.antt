@@ -1,0 +1,87 @@
+-- The line of an event: its words, and what the fields of a line may be.
+use Rattle.std.specs.Prelude.{◌≡◌, ℕ, ◌-◌, ◌^◌, ◌<◌, ◌≤◌, List, [], ◌∷◌, ◌++◌, length, codes}
+use Rattle.std.specs.Fmt.{decimal}
+use Rattle.ha_base.specs.declared.key_material.KeySize.{KeySize}
+use Rattle.ha_base.specs.declared.key_material.KeySize.TheVariants.{Bits128, Bits256}
+use Rattle.ha_base.specs.declared.key_material.SaKeys.{SaKeys}
+use Rattle.ha_base.specs.declared.key_material.ChildKeys.{ChildKeys}
+use Rattle.ha_base.specs.declared.outside.Moment.{Moment}
+use Rattle.keeper_book.specs.declared.counters.Five.{Five}
+use Rattle.keeper_book.specs.Records.{sealing_key_octets}
+use Rattle.event_text.specs.Words.{line_of}
+use Rattle.event_text.specs.Octets.{IsOctets, esp_spi_text, octets_text, spi_text}
+use Rattle.event_text.specs.Identities.{IsIdentity, identity_text}
+use Rattle.event_text.specs.Events.{Association, PlainEvent, Import, Join, Own, Draw}
+
+abbrev pub size_text : KeySize → List ℕ
+size_text Bits128 = codes "128"
+size_text Bits256 = codes "256"
+
+abbrev pub sa_key_words : SaKeys → List (List ℕ)
+sa_key_words keys =
+    octets_text keys.sk_d ∷ octets_text keys.sk_ei ∷ octets_text keys.sk_er ∷ octets_text keys.sk_pi ∷ octets_text keys.sk_pr ∷ []
+
+abbrev pub child_key_words : ChildKeys → List (List ℕ)
+child_key_words keys = octets_text keys.to_cluster ∷ octets_text keys.to_peer ∷ []
+
+abbrev pub five_words : Five → List (List ℕ)
+five_words five = decimal five.esp_out ∷ decimal five.esp_in ∷ decimal five.iv ∷ decimal five.ask ∷ decimal five.answer ∷ []
+
+abbrev pub association_words : Association → List (List ℕ)
+association_words a =
+    spi_text a.spii ∷ spi_text a.spir ∷ size_text a.size ∷ identity_text a.identity
+    ∷ (sa_key_words a.keys ++ (esp_spi_text a.spi_in ∷ esp_spi_text a.spi_out ∷ (child_key_words a.child ++ five_words a.starts)))
+
+-- the event's word and its fields
+abbrev pub event_words : PlainEvent → List (List ℕ)
+event_words (Import a) = codes "import" ∷ association_words a
+event_words (Join fresh) = codes "join" ∷ octets_text fresh ∷ []
+event_words (Own member spir) = codes "own" ∷ decimal member ∷ spi_text spir ∷ []
+event_words (Draw member spir) = codes "draw" ∷ decimal member ∷ spi_text spir ∷ []
+
+pub record AreSaKeys (size : KeySize) (keys : SaKeys) : Type 0 where
+  pub sk_d : IsOctets 32 32 keys.sk_d
+  pub sk_ei : IsOctets (sealing_key_octets size) (sealing_key_octets size) keys.sk_ei
+  pub sk_er : IsOctets (sealing_key_octets size) (sealing_key_octets size) keys.sk_er
+  pub sk_pi : IsOctets 32 32 keys.sk_pi
+  pub sk_pr : IsOctets 32 32 keys.sk_pr
+
+pub record AreChildKeys (size : KeySize) (keys : ChildKeys) : Type 0 where
+  pub to_cluster : IsOctets (sealing_key_octets size) (sealing_key_octets size) keys.to_cluster
+  pub to_peer : IsOctets (sealing_key_octets size) (sealing_key_octets size) keys.to_peer
+
+pub record AreStarts (five : Five) : Type 0 where
+  pub esp_out : five.esp_out < 2 ^ 63
+  pub esp_in : five.esp_in < 2 ^ 63
+  pub iv : five.iv < 2 ^ 63
+  pub ask : five.ask < 2 ^ 32 - 1
+  pub answer : five.answer < 2 ^ 32 - 1
+
+pub record IsAssociation (a : Association) : Type 0 where
+  pub spii : a.spii < 2 ^ 64
+  pub spir : a.spir < 2 ^ 64
+  pub identity : IsIdentity a.identity
+  pub keys : AreSaKeys a.size a.keys
+  pub spi_in : a.spi_in < 2 ^ 32
+  pub spi_out : a.spi_out < 2 ^ 32
+  pub child : AreChildKeys a.size a.child
+  pub starts : AreStarts a.starts
+
+-- what the fields of a line may be
+abbrev pub Fits : PlainEvent → Type 0
+Fits (Import a) = IsAssociation a
+Fits (Join fresh) = IsOctets 24 24 fresh
+Fits (Own member spir) = (member < 2 ^ 63) × (spir < 2 ^ 64)
+Fits (Draw member spir) = (member < 2 ^ 63) × (spir < 2 ^ 64)
+
+-- the words of a line: the moment in seconds, and the event's
+abbrev pub line_words : Moment → PlainEvent → List (List ℕ)
+line_words moment event = decimal moment.0 ∷ event_words event
+
+-- The line says this event of this moment, where the moment of the event before is `last`.
+pub record EventLine (last : ℕ) (line : List ℕ) (moment : Moment) (event : PlainEvent) : Type 0 where
+  pub text : line ≡ line_of (line_words moment event)
+  pub short : length line ≤ 16384
+  pub late : last ≤ moment.0
+  pub seconds : moment.0 < 2 ^ 63
+  pub fits : Fits event

@@ -1,0 +1,107 @@
+//! The words of an event.
+
+ghost use Rattle.std.specs.Prelude.{◌≡◌, ◌∷◌, ◌++◌, OnOk};
+ghost use Rattle.event_text.specs.Identities.{identity_text, prefix_of};
+ghost use Rattle.event_text.specs.Events.{association, plain};
+ghost use Rattle.event_text.specs.Grammar.{association_words, child_key_words, event_words, five_words, sa_key_words, size_text};
+ghost use Rattle.event_text.specs.Writing.{with_words};
+
+use super::words::{put_bare_octets, put_esp_spi, put_number, put_octets, put_spi, put_word};
+use crate::event::Event;
+use ha_base::{ChildKeys, Identity, KeySize, Memory, Octets, SaKeys};
+use keeper_book::{Five, Record};
+use std::alloc::Global;
+
+fn prefix_of(kind: u8) -> &'static [u8]
+    ensures { result.now ≡ prefix_of kind }
+{
+    match kind {
+        1 => b"ipv4:",
+        5 => b"ipv6:",
+        2 => b"fqdn:",
+        3 => b"mail:",
+        _ => b"key:",
+    }
+}
+
+fn put_identity(alloc: Global, out: &mut Octets, identity: &Identity) -> Result<(), Memory>
+    ensures { OnOk result (out.new.octets ≡ out.old.octets ++ (32 ∷ identity_text identity.now)) }
+{
+    put_word(out, prefix_of(identity.kind))?;
+    put_bare_octets(alloc, out, identity.octets.as_slice())
+}
+
+fn size_text(size: KeySize) -> &'static [u8]
+    ensures { result.now ≡ size_text size }
+{
+    match size {
+        KeySize::Bits128 => b"128",
+        KeySize::Bits256 => b"256",
+    }
+}
+
+fn put_sa_keys(alloc: Global, out: &mut Octets, keys: &SaKeys) -> Result<(), Memory>
+    ensures { OnOk result (out.new.octets ≡ with_words out.old.octets (sa_key_words keys.now)) }
+{
+    put_octets(alloc, out, &keys.sk_d)?;
+    put_octets(alloc, out, keys.sk_ei.as_slice())?;
+    put_octets(alloc, out, keys.sk_er.as_slice())?;
+    put_octets(alloc, out, &keys.sk_pi)?;
+    put_octets(alloc, out, &keys.sk_pr)
+}
+
+fn put_child_keys(alloc: Global, out: &mut Octets, keys: &ChildKeys) -> Result<(), Memory>
+    ensures { OnOk result (out.new.octets ≡ with_words out.old.octets (child_key_words keys.now)) }
+{
+    put_octets(alloc, out, keys.to_cluster.as_slice())?;
+    put_octets(alloc, out, keys.to_peer.as_slice())
+}
+
+pub(super) fn put_five(alloc: Global, out: &mut Octets, five: &Five) -> Result<(), Memory>
+    ensures { OnOk result (out.new.octets ≡ with_words out.old.octets (five_words five.now)) }
+{
+    put_number(alloc, out, five.esp_out)?;
+    put_number(alloc, out, five.esp_in)?;
+    put_number(alloc, out, five.iv)?;
+    put_number(alloc, out, five.ask)?;
+    put_number(alloc, out, five.answer)
+}
+
+fn put_association(alloc: Global, out: &mut Octets, sa: &Record) -> Result<(), Memory>
+    ensures { OnOk result (out.new.octets ≡ with_words out.old.octets (association_words (association sa.now))) }
+{
+    put_spi(alloc, out, sa.spii)?;
+    put_spi(alloc, out, sa.spir)?;
+    put_word(out, size_text(sa.size))?;
+    put_identity(alloc, out, &sa.identity)?;
+    put_sa_keys(alloc, out, &sa.keys)?;
+    put_esp_spi(alloc, out, sa.spi_in)?;
+    put_esp_spi(alloc, out, sa.spi_out)?;
+    put_child_keys(alloc, out, &sa.child)?;
+    put_five(alloc, out, &sa.starts)
+}
+
+pub(super) fn put_event(alloc: Global, out: &mut Octets, event: &Event) -> Result<(), Memory>
+    ensures { OnOk result (out.new.octets ≡ with_words out.old.octets (event_words (plain event.now))) }
+{
+    match event {
+        Event::Import { sa } => {
+            put_word(out, b"import")?;
+            put_association(alloc, out, sa)
+        }
+        Event::Join { fresh } => {
+            put_word(out, b"join")?;
+            put_octets(alloc, out, fresh)
+        }
+        Event::Own { member, spir } => {
+            put_word(out, b"own")?;
+            put_number(alloc, out, *member)?;
+            put_spi(alloc, out, *spir)
+        }
+        Event::Draw { member, spir } => {
+            put_word(out, b"draw")?;
+            put_number(alloc, out, *member)?;
+            put_spi(alloc, out, *spir)
+        }
+    }
+}
