@@ -39,8 +39,8 @@ sa_keys_takes size s x t e =
     walk (reader (sized_field 32 32)) s3 _ (x, t) e3 (λ sk_pi s4 w4 f4 e4.
     walk (reader (sized_field 32 32)) s4 _ (x, t) e4 (λ sk_pr s5 w5 f5 e5.
     subst (λ (p : SaKeys × Spot). (s.words ≡ sa_key_words p.0 ++ p.1.words) × AreSaKeys size p.0)
-      (ok_is (record { sk_d = sk_d; sk_ei = sk_ei; sk_er = sk_er; sk_pi = sk_pi; sk_pr = sk_pr }, s5) (x, t) e5)
-      (then_word _ w1 (then_word _ w2 (then_word _ w3 (then_word _ w4 w5))), record { sk_d = f1; sk_ei = f2; sk_er = f3; sk_pi = f4; sk_pr = f5 }))))))
+    (ok_is (record { sk_d = sk_d; sk_ei = sk_ei; sk_er = sk_er; sk_pi = sk_pi; sk_pr = sk_pr }, s5) (x, t) e5)
+    (then_word _ w1 (then_word _ w2 (then_word _ w3 (then_word _ w4 w5))), record { sk_d = f1; sk_ei = f2; sk_er = f3; sk_pi = f4; sk_pr = f5 }))))))
 
 sa_keys_again : (size : KeySize) (x : SaKeys) → AreSaKeys size x → (c : ℕ) (ws : List (List ℕ)) → sa_keys_at size (record { column = c; words = sa_key_words x ++ ws }) ≡ Ok (x, record { column = column_behind c (sa_key_words x); words = ws })
 unfolding sa_keys_at
@@ -58,8 +58,8 @@ child_keys_takes size s x t e =
     walk (reader (sized_field n n)) s _ (x, t) e (λ to_cluster s1 w1 f1 e1.
     walk (reader (sized_field n n)) s1 _ (x, t) e1 (λ to_peer s2 w2 f2 e2.
     subst (λ (p : ChildKeys × Spot). (s.words ≡ child_key_words p.0 ++ p.1.words) × AreChildKeys size p.0)
-      (ok_is (record { to_cluster = to_cluster; to_peer = to_peer }, s2) (x, t) e2)
-      (then_word _ w1 w2, record { to_cluster = f1; to_peer = f2 })))
+    (ok_is (record { to_cluster = to_cluster; to_peer = to_peer }, s2) (x, t) e2)
+    (then_word _ w1 w2, record { to_cluster = f1; to_peer = f2 })))
 
 child_keys_again : (size : KeySize) (x : ChildKeys) → AreChildKeys size x → (c : ℕ) (ws : List (List ℕ)) → child_keys_at size (record { column = c; words = child_key_words x ++ ws }) ≡ Ok (x, record { column = column_behind c (child_key_words x); words = ws })
 unfolding child_keys_at
@@ -79,8 +79,8 @@ starts_takes s x t e =
     walk (reader message_id_field) s3 _ (x, t) e3 (λ ask s4 w4 f4 e4.
     walk (reader message_id_field) s4 _ (x, t) e4 (λ answer s5 w5 f5 e5.
     subst (λ (p : Five × Spot). (s.words ≡ five_words p.0 ++ p.1.words) × AreStarts p.0)
-      (ok_is (record { esp_out = esp_out; esp_in = esp_in; iv = iv; ask = ask; answer = answer }, s5) (x, t) e5)
-      (then_word _ w1 (then_word _ w2 (then_word _ w3 (then_word _ w4 w5))), record { esp_out = f1; esp_in = f2; iv = f3; ask = f4; answer = f5 }))))))
+    (ok_is (record { esp_out = esp_out; esp_in = esp_in; iv = iv; ask = ask; answer = answer }, s5) (x, t) e5)
+    (then_word _ w1 (then_word _ w2 (then_word _ w3 (then_word _ w4 w5))), record { esp_out = f1; esp_in = f2; iv = f3; ask = f4; answer = f5 }))))))
 
 starts_again : (x : Five) → AreStarts x → (c : ℕ) (ws : List (List ℕ)) → starts_at (record { column = c; words = five_words x ++ ws }) ≡ Ok (x, record { column = column_behind c (five_words x); words = ws })
 unfolding starts_at
@@ -113,11 +113,11 @@ import_takes s y e =
     walk (child_keys_reader size) s7 _ y e7 (λ child s8 w8 f8 e8.
     walk starts_reader s8 _ y e8 (λ starts s9 w9 f9 e9.
     subst (IsSpelled (codes "import") s)
-      (ok_is (Import (record { spii = spii; spir = spir; size = size; identity = identity; keys = keys; spi_in = spi_in; spi_out = spi_out; child = child; starts = starts }), s9) y e9)
-      (record {
-        words = behind_word (codes "import") (then_word _ w1 (then_word _ w2 (then_word _ w3 (then_word _ w4 (then_words (sa_key_words keys) w5 (then_word _ w6 (then_word _ w7 (then_words (child_key_words child) w8 w9))))))));
-        fits = record { spii = f1; spir = f2; identity = f4; keys = f5; spi_in = f6; spi_out = f7; child = f8; starts = f9 };
-      }))))))))))
+    (ok_is (Import (record { spii = spii; spir = spir; size = size; identity = identity; keys = keys; spi_in = spi_in; spi_out = spi_out; child = child; starts = starts }), s9) y e9)
+    (record {
+      words = behind_word (codes "import") (then_word _ w1 (then_word _ w2 (then_word _ w3 (then_word _ w4 (then_words (sa_key_words keys) w5 (then_word _ w6 (then_word _ w7 (then_words (child_key_words child) w8 w9))))))));
+      fits = record { spii = f1; spir = f2; identity = f4; keys = f5; spi_in = f6; spi_out = f7; child = f8; starts = f9 };
+    }))))))))))
 
 join_takes : (s : Spot) (y : PlainEvent × Spot) → join_at s ≡ Ok y → IsSpelled (codes "join") s y
 unfolding join_at
@@ -163,8 +163,8 @@ event_takes : (s : Spot) (y : PlainEvent × Spot) → event_at s ≡ Ok y → (s
 unfolding event_at
 event_takes s y e =
     after (word_at s) (λ w. fields_at s.column w.0 w.1) y e (λ w found rest.
-      let spelled = fields_take s.column w.0 w.1 y rest in
-      (word_is s.column s.words w found ∙ spelled.words, spelled.fits))
+    let spelled = fields_take s.column w.0 w.1 y rest in
+    (word_is s.column s.words w found ∙ spelled.words, spelled.fits))
 
 event_again : (e : PlainEvent) → Fits e → (c : ℕ) → event_at (record { column = c; words = event_words e }) ≡ Ok (e, record { column = column_behind c (event_words e); words = [] })
 unfolding event_at fields_at import_at join_at own_at draw_at
@@ -181,8 +181,8 @@ unfolding moment_at
 moment_takes last s p e =
     walk (reader member_field) s _ p e (λ n t w f e1.
     pick (ltb n last) (Err (fault_at s.column reasons.ClockBack)) (Ok (n, t)) (Ok p) e1
-      (λ hit same. absurd cc)
-      (λ miss same. subst (λ (q : ℕ × Spot). (s.words ≡ decimal q.0 ∷ q.1.words) × (q.0 < 2 ^ 63) × (last ≤ q.0)) (ok_is (n, t) p same) (w, f, ltb-false n last miss)))
+    (λ hit same. absurd cc)
+    (λ miss same. subst (λ (q : ℕ × Spot). (s.words ≡ decimal q.0 ∷ q.1.words) × (q.0 < 2 ^ 63) × (last ≤ q.0)) (ok_is (n, t) p same) (w, f, ltb-false n last miss)))
 
 moment_again : (last n : ℕ) → n < 2 ^ 63 → last ≤ n → (c : ℕ) (ws : List (List ℕ)) → moment_at last (record { column = c; words = decimal n ∷ ws }) ≡ Ok (n, behind c (decimal n) ws)
 unfolding moment_at
@@ -198,23 +198,23 @@ told_takes last s y e =
     after (moment_at last s) _ y e (λ m is_m e1.
     after (event_at m.1) _ y e1 (λ v is_v e2.
     after (ended_at v.1) _ y e2 (λ x is_x e3.
-      let moment = moment_takes last s m is_m in
-      let event = event_takes m.1 v is_v in
-      let none = ended_is v.1.column v.1.words x is_x in
-      let words : m.1.words ≡ event_words v.0 = event.0 ∙ ap (λ (t : List (List ℕ)). event_words v.0 ++ t) none ∙ append-nil (event_words v.0) in
-      subst (λ (z : Moment × PlainEvent). (s.words ≡ line_words z.0 z.1) × (last ≤ z.0.0) × (z.0.0 < 2 ^ 63) × Fits z.1)
-        (ok_is (record { 0 = m.0 }, v.0) y e3)
-        (moment.0 ∙ ap (λ (t : List (List ℕ)). decimal m.0 ∷ t) words, moment.2, moment.1, event.1))))
+    let moment = moment_takes last s m is_m in
+    let event = event_takes m.1 v is_v in
+    let none = ended_is v.1.column v.1.words x is_x in
+    let words : m.1.words ≡ event_words v.0 = event.0 ∙ ap (λ (t : List (List ℕ)). event_words v.0 ++ t) none ∙ append-nil (event_words v.0) in
+    subst (λ (z : Moment × PlainEvent). (s.words ≡ line_words z.0 z.1) × (last ≤ z.0.0) × (z.0.0 < 2 ^ 63) × Fits z.1)
+    (ok_is (record { 0 = m.0 }, v.0) y e3)
+    (moment.0 ∙ ap (λ (t : List (List ℕ)). decimal m.0 ∷ t) words, moment.2, moment.1, event.1))))
 
 -- what is read of a line is what the line says
 pub line_takes : (last : ℕ) (line : List ℕ) (y : Moment × PlainEvent) → line_at last line ≡ Ok y → EventLine last line y.0 y.1
 unfolding line_at
 line_takes last line y e =
     pick (ltb 16384 (length line)) (Err (fault_at 16385 reasons.LineTooLong)) (told_at last (record { column = 1; words = words_of line })) (Ok y) e
-      (λ hit same. absurd cc)
-      (λ miss same.
-          let told = told_takes last (record { column = 1; words = words_of line }) y same in
-          record { text = sym (line-words line) ∙ ap line_of told.0; short = ltb-false 16384 (length line) miss; late = told.1; seconds = told.2; fits = told.3 })
+    (λ hit same. absurd cc)
+    (λ miss same.
+    let told = told_takes last (record { column = 1; words = words_of line }) y same in
+    record { text = sym (line-words line) ∙ ap line_of told.0; short = ltb-false 16384 (length line) miss; late = told.1; seconds = told.2; fits = told.3 })
 
 told_again : (last : ℕ) (m : Moment) (e : PlainEvent) → last ≤ m.0 → m.0 < 2 ^ 63 → Fits e → told_at last (record { column = 1; words = line_words m e }) ≡ Ok (m, e)
 unfolding told_at

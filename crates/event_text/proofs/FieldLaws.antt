@@ -114,13 +114,13 @@ sized_takes least most w xs e =
     let parts = octets_in_is w xs (size_of least most w) e in
     pick (spells_octets w) (cond (leb least (length w / 2) && leb (length w / 2) most) (Ok (length w / 2)) (Err reasons.Size)) (Err reasons.Hex) (Ok parts.0) parts.1
     (λ hit rest. pick (leb least (length w / 2) && leb (length w / 2) most) (Ok (length w / 2)) (Err reasons.Size) (Ok parts.0) rest
-      (λ within same.
-          let text = text-decoded w hit in
-          let tests = and_parts (leb least (length w / 2)) (leb (length w / 2) most) within in
-          let size = length-decoded w in
-          subst (λ (ys : List ℕ). (w ≡ octets_text ys) × IsOctets least most ys) parts.2
-          (text.0, record { least_size = omega (arith, size, leb-true _ _ tests.0); most_size = omega (arith, size, leb-true _ _ tests.1); bytes = text.1 }))
-      (λ without same. absurd cc))
+    (λ within same.
+    let text = text-decoded w hit in
+    let tests = and_parts (leb least (length w / 2)) (leb (length w / 2) most) within in
+    let size = length-decoded w in
+    subst (λ (ys : List ℕ). (w ≡ octets_text ys) × IsOctets least most ys) parts.2
+    (text.0, record { least_size = omega (arith, size, leb-true _ _ tests.0); most_size = omega (arith, size, leb-true _ _ tests.1); bytes = text.1 }))
+    (λ without same. absurd cc))
     (λ miss rest. absurd cc)
 
 or_right : (a b : Bool) → b ≡ true → (a || b) ≡ true
@@ -155,15 +155,16 @@ spi_takes : (w : List ℕ) (n : ℕ) → spi_of w ≡ Ok n → (w ≡ spi_text n
 spi_takes w n e =
     pick (is_hex w) (cond (eqb (length w / 2) 8) (Ok (from_be_bytes w64 (decoded w))) (Err reasons.Size)) (Err reasons.Hex) (Ok n) e
     (λ hit rest. pick (eqb (length w / 2) 8) (Ok (from_be_bytes w64 (decoded w))) (Err reasons.Size) (Ok n) rest
-      (λ long same.
-          let parts = hex_parts w hit in
-          let bytes = bytes-decoded w parts.digits in
-          let size : length (decoded w) ≡ 8 = length-decoded w ∙ eqb-true _ _ long in
-          let value = ok_is (from_be_bytes w64 (decoded w)) n same in
-          let back = be_bytes_8 (decoded w) n size bytes (sym value) in
-          (sym (ap encode_lower back ∙ encode-decoded w parts.digits parts.even),
-           rw (← value) (omega (arith, bytes 0, bytes 1, bytes 2, bytes 3, bytes 4, bytes 5, bytes 6, bytes 7))))
-      (λ short same. absurd cc))
+    (λ long same.
+    let parts = hex_parts w hit in
+    let bytes = bytes-decoded w parts.digits in
+    let size : length (decoded w) ≡ 8 = length-decoded w ∙ eqb-true _ _ long in
+    let value = ok_is (from_be_bytes w64 (decoded w)) n same in
+    let back = be_bytes_8 (decoded w) n size bytes (sym value) in (
+      sym (ap encode_lower back ∙ encode-decoded w parts.digits parts.even),
+      rw (← value) (omega (arith, bytes 0, bytes 1, bytes 2, bytes 3, bytes 4, bytes 5, bytes 6, bytes 7)),
+    ))
+    (λ short same. absurd cc))
     (λ miss rest. absurd cc)
 
 spi_again : (n : ℕ) → n < 2 ^ 64 → spi_of (spi_text n) ≡ Ok n
@@ -181,15 +182,16 @@ esp_spi_takes : (w : List ℕ) (n : ℕ) → esp_spi_of w ≡ Ok n → (w ≡ es
 esp_spi_takes w n e =
     pick (is_hex w) (cond (eqb (length w / 2) 4) (Ok (from_be_bytes w32 (decoded w))) (Err reasons.Size)) (Err reasons.Hex) (Ok n) e
     (λ hit rest. pick (eqb (length w / 2) 4) (Ok (from_be_bytes w32 (decoded w))) (Err reasons.Size) (Ok n) rest
-      (λ long same.
-          let parts = hex_parts w hit in
-          let bytes = bytes-decoded w parts.digits in
-          let size : length (decoded w) ≡ 4 = length-decoded w ∙ eqb-true _ _ long in
-          let value = ok_is (from_be_bytes w32 (decoded w)) n same in
-          let back = be_bytes_4 (decoded w) n size bytes (sym value) in
-          (sym (ap encode_lower back ∙ encode-decoded w parts.digits parts.even),
-           rw (← value) (omega (arith, bytes 0, bytes 1, bytes 2, bytes 3))))
-      (λ short same. absurd cc))
+    (λ long same.
+    let parts = hex_parts w hit in
+    let bytes = bytes-decoded w parts.digits in
+    let size : length (decoded w) ≡ 4 = length-decoded w ∙ eqb-true _ _ long in
+    let value = ok_is (from_be_bytes w32 (decoded w)) n same in
+    let back = be_bytes_4 (decoded w) n size bytes (sym value) in (
+      sym (ap encode_lower back ∙ encode-decoded w parts.digits parts.even),
+      rw (← value) (omega (arith, bytes 0, bytes 1, bytes 2, bytes 3)),
+    ))
+    (λ short same. absurd cc))
     (λ miss rest. absurd cc)
 
 esp_spi_again : (n : ℕ) → n < 2 ^ 32 → esp_spi_of (esp_spi_text n) ≡ Ok n
@@ -210,8 +212,8 @@ key_size_takes w size e =
     pick (bytes_eq w (codes "128")) (Ok Bits128) (cond (bytes_eq w (codes "256")) (Ok Bits256) (Err reasons.Word)) (Ok size) e
     (λ hit same. ((bytes_eq-Decides w (codes "128")).0 hit ∙ ap size_text (ok_is Bits128 size same), tt))
     (λ miss rest. pick (bytes_eq w (codes "256")) (Ok Bits256) (Err reasons.Word) (Ok size) rest
-      (λ hit same. ((bytes_eq-Decides w (codes "256")).0 hit ∙ ap size_text (ok_is Bits256 size same), tt))
-      (λ neither same. absurd cc))
+    (λ hit same. ((bytes_eq-Decides w (codes "256")).0 hit ∙ ap size_text (ok_is Bits256 size same), tt))
+    (λ neither same. absurd cc))
 
 key_size_again : (size : KeySize) → Unit {0} → key_size_of (size_text size) ≡ Ok size
 key_size_again Bits128 h = refl

@@ -77,12 +77,25 @@ number_word n limit lt small = word_decimal n (omega arith)
 pub event_spaceless : (e : PlainEvent) → Fits e → are_words (event_words e) ≡ true
 event_spaceless (Import a) h =
     rw (
-      word_spi a.spii, word_spi a.spir, word_size a.size, word_identity a.identity h.identity, word_octets _ _ a.keys.sk_d h.keys.sk_d,
-      word_octets _ _ a.keys.sk_ei h.keys.sk_ei, word_octets _ _ a.keys.sk_er h.keys.sk_er, word_octets _ _ a.keys.sk_pi h.keys.sk_pi,
-      word_octets _ _ a.keys.sk_pr h.keys.sk_pr, word_esp_spi a.spi_in, word_esp_spi a.spi_out, word_octets _ _ a.child.to_cluster h.child.to_cluster,
-      word_octets _ _ a.child.to_peer h.child.to_peer, number_word a.starts.esp_out (2 ^ 63) h.starts.esp_out (lit≤ tt),
-      number_word a.starts.esp_in (2 ^ 63) h.starts.esp_in (lit≤ tt), number_word a.starts.iv (2 ^ 63) h.starts.iv (lit≤ tt),
-      number_word a.starts.ask (2 ^ 32 - 1) h.starts.ask (lit≤ tt), number_word a.starts.answer (2 ^ 32 - 1) h.starts.answer (lit≤ tt)) refl
+      word_spi a.spii,
+      word_spi a.spir,
+      word_size a.size,
+      word_identity a.identity h.identity,
+      word_octets _ _ a.keys.sk_d h.keys.sk_d,
+      word_octets _ _ a.keys.sk_ei h.keys.sk_ei,
+      word_octets _ _ a.keys.sk_er h.keys.sk_er,
+      word_octets _ _ a.keys.sk_pi h.keys.sk_pi,
+      word_octets _ _ a.keys.sk_pr h.keys.sk_pr,
+      word_esp_spi a.spi_in,
+      word_esp_spi a.spi_out,
+      word_octets _ _ a.child.to_cluster h.child.to_cluster,
+      word_octets _ _ a.child.to_peer h.child.to_peer,
+      number_word a.starts.esp_out (2 ^ 63) h.starts.esp_out (lit≤ tt),
+      number_word a.starts.esp_in (2 ^ 63) h.starts.esp_in (lit≤ tt),
+      number_word a.starts.iv (2 ^ 63) h.starts.iv (lit≤ tt),
+      number_word a.starts.ask (2 ^ 32 - 1) h.starts.ask (lit≤ tt),
+      number_word a.starts.answer (2 ^ 32 - 1) h.starts.answer (lit≤ tt),
+    ) refl
 event_spaceless (Join fresh) h = rw (word_octets 24 24 fresh h) refl
 event_spaceless (Own member spir) h = rw (number_word member (2 ^ 63) h.0 (lit≤ tt), word_spi spir) refl
 event_spaceless (Draw member spir) h = rw (number_word member (2 ^ 63) h.0 (lit≤ tt), word_spi spir) refl

@@ -88,12 +88,15 @@ abbrev pub served_text : Option Served → List ℕ
 served_text None = []
 served_text (Some served) = line_text (codes "serve" ∷ served_words served)
 
+-- what the keys of a resumed association were derived from
+unfoldable pub derivation_text : Derivation → List ℕ
+derivation_text d =
+    spi_text d.old_spir ++ (46 ∷ octets_text d.ni) ++ (46 ∷ octets_text d.nr) ++ (46 ∷ spi_text d.spii) ++ (46 ∷ spi_text d.spir)
+
 -- the key's origin, in one word
 abbrev pub origin_text : Origin → List ℕ
 origin_text (origins.Imported spir) = codes "i" ++ spi_text spir
-origin_text (origins.Resumed d) =
-    codes "r" ++ spi_text d.old_spir ++ codes "." ++ octets_text d.ni ++ codes "." ++ octets_text d.nr ++ codes "." ++ spi_text d.spii ++ codes "."
-    ++ spi_text d.spir
+origin_text (origins.Resumed derivation) = codes "r" ++ derivation_text derivation
 origin_text (origins.TicketKey generation) = codes "t" ++ decimal generation
 origin_text origins.Pool = codes "p"
 

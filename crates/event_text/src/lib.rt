@@ -18,6 +18,8 @@ mod writing;
 
 pub use event::Event;
 pub use fault::{LineFault, LineReason};
+pub use reading::read_line;
 pub use seals::{Seal, Seals};
 pub use turn::{Datagram, Medium, Served, Step, Turn};
 pub use verdict::{Refusal, Verdict};
+pub use writing::{write_end, write_head, write_turn};

@@ -6,4 +6,4 @@ mod outcome;
 mod turn;
 mod words;
 
-
+pub use turn::{write_end, write_head, write_turn};

@@ -6,7 +6,7 @@ ghost use Rattle.event_text.specs.Writing.{with_words};
 
 use super::calls::put_calls;
 use super::event::put_event;
-use super::outcome::put_served;
+use super::outcome::{put_gives, put_out, put_seals, put_served};
 use super::words::put_number;
 use crate::turn::Turn;
 use ha_base::{Memory, Octets};
@@ -28,4 +28,62 @@ fn put_head(alloc: Global, out: &mut Octets, number: u64, turn: &Turn) -> Result
     out.extend(b"turn")?;
     put_title(alloc, out, number, turn)?;
     out.push(b'\n')
+}
+
+#[tactic(auto, unfolding(crate::specs::Report::turn_text))]
+fn text_of(alloc: Global, number: u64, datagram: u64, turn: &Turn) -> Result<Octets, Memory>
+    ensures { IfOk result (λ text. text.octets ≡ turn_text number datagram turn.now) }
+{
+    let mut text = Octets::new(alloc);
+    put_head(alloc, &mut text, number, turn)?;
+    put_calls(alloc, &mut text, &turn.calls)?;
+    put_served(alloc, &mut text, &turn.step.served)?;
+    put_seals(alloc, &mut text, &turn.step.seals)?;
+    put_gives(alloc, &mut text, datagram, &turn.step.gives)?;
+    put_out(alloc, &mut text, &turn.step.verdict)?;
+    Ok(text)
+}
+
+/// Appends a turn's text. `number` is the turn's number, from 1, and `datagram` that of the datagram that it gives, if it
+/// gives one. An error is want of memory.
+pub fn write_turn(
+    alloc: Global,
+    number: u64,
+    datagram: u64,
+    turn: &Turn,
+    out: &mut Octets,
+) -> Result<(), Memory>
+    ensures ok { OnOk result (out.new.octets ≡ out.old.octets ++ turn_text number datagram turn.now) }
+    ensures err { OnErr result (out.new.octets ≡ out.old.octets) }
+{
+    let text = text_of(alloc, number, datagram, turn)?;
+    out.extend(text.as_slice())
+}
+
+/// Appends a report's first line. An error is want of memory.
+pub fn write_head(out: &mut Octets) -> Result<(), Memory>
+    ensures ok { OnOk result (out.new.octets ≡ out.old.octets ++ report_head) }
+    ensures err { OnErr result (out.new.octets ≡ out.old.octets) }
+{
+    out.extend(b"ha-report 1\n")
+}
+
+#[tactic(auto, using(crate::proofs::WritingLaws::line_put))]
+fn end_of(alloc: Global, turns: u64) -> Result<Octets, Memory>
+    ensures { IfOk result (λ text. text.octets ≡ report_end turns) }
+{
+    let mut text = Octets::new(alloc);
+    text.extend(b"end")?;
+    put_number(alloc, &mut text, turns)?;
+    text.push(b'\n')?;
+    Ok(text)
+}
+
+/// Appends a report's last line, after a number of turns. An error is want of memory.
+pub fn write_end(alloc: Global, turns: u64, out: &mut Octets) -> Result<(), Memory>
+    ensures ok { OnOk result (out.new.octets ≡ out.old.octets ++ report_end turns) }
+    ensures err { OnErr result (out.new.octets ≡ out.old.octets) }
+{
+    let text = end_of(alloc, turns)?;
+    out.extend(text.as_slice())
 }

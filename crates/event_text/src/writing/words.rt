@@ -33,6 +33,14 @@ pub(super) fn put_word(out: &mut Octets, word: &[u8]) -> Result<(), Memory>
     out.extend(word)
 }
 
+/// The number's word, with no space before it.
+pub(super) fn put_bare_number(alloc: Global, out: &mut Octets, number: u64) -> Result<(), Memory>
+    ensures { OnOk result (out.new.octets ≡ out.old.octets ++ decimal number) }
+{
+    let text = number_text(alloc, number)?;
+    out.extend(text.as_bytes())
+}
+
 pub(super) fn put_number(alloc: Global, out: &mut Octets, number: u64) -> Result<(), Memory>
     ensures { OnOk result (out.new.octets ≡ out.old.octets ++ (32 ∷ decimal number)) }
 {
@@ -41,11 +49,7 @@ pub(super) fn put_number(alloc: Global, out: &mut Octets, number: u64) -> Result
 }
 
 /// The octets' word, with no space before it.
-pub(super) fn put_bare_octets(
-    alloc: Global,
-    out: &mut Octets,
-    octets: &[u8],
-) -> Result<(), Memory>
+pub(super) fn put_bare_octets(alloc: Global, out: &mut Octets, octets: &[u8]) -> Result<(), Memory>
     ensures { OnOk result (out.new.octets ≡ out.old.octets ++ octets_text octets.now) }
 {
     if octets.is_empty() {
