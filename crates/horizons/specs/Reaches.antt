@@ -35,3 +35,11 @@ pub record IsInRange (h : Reach) : Type 0 where
   pub from_low : h.base ≤ h.high
   pub within : h.high ≤ end_of h.counter
   pub before_end : h.next ≤ end_of h.counter
+
+-- the same counter in the same epoch
+pub record IsSameCounter (old new : Reach) : Type 0 where
+  pub name : new.name ≡ old.name
+  pub counter : new.counter ≡ old.counter
+  pub spir : new.spir ≡ old.spir
+  pub epoch : new.epoch ≡ old.epoch
+  pub base : new.base ≡ old.base

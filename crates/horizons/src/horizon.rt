@@ -1,5 +1,5 @@
-ghost use Rattle.std.specs.Prelude.{◌≡◌, ◌+◌, ◌≤◌, ◌<◌, max, Some, List, ◌↔◌, IfSome, IfNone, IsSome, OnSome};
-ghost use Rattle.horizons.specs.Reaches.{IsInRange, lead_of};
+ghost use Rattle.std.specs.Prelude.{◌≡◌, ◌+◌, ◌≤◌, ◌<◌, max, Some, List, ◌↔◌, IfOk, IfSome, IfNone, IsSome, OnSome};
+ghost use Rattle.horizons.specs.Reaches.{IsInRange, IsSameCounter, lead_of};
 ghost use Rattle.horizons.specs.Ready.{Readies, Sends, next_number};
 ghost use Rattle.keeper_book.specs.Counters.{counter_named, end_of};
 ghost use Rattle.keeper_book.specs.Asks.{Asks};
@@ -108,6 +108,7 @@ impl Horizon {
         ensures calls { (calls : List Call) × Readies self.old at calls result self.new
             × Asks K.Keeper keeper.old calls keeper.new }
         ensures held { K.held keeper.new ≡ K.held keeper.old }
+        ensures same { IsSameCounter self.old self.new }
     {
         if at < self.high {
             return Ok(());
@@ -135,6 +136,7 @@ impl Horizon {
         ensures calls { (calls : List Call) × Readies self.old at calls result self.new
             × Asks K.Keeper keeper.old calls keeper.new }
         ensures held { K.held keeper.new ≡ K.held keeper.old }
+        ensures same { IsSameCounter self.old self.new }
     {
         let _ = &self.base;
         self.cover_to(keeper, at)
@@ -158,7 +160,9 @@ impl Horizon {
     pub fn send_number<K: Keeper>(&mut self, keeper: &mut K) -> Result<Number, Stop>
         ensures calls { (calls : List Call) × Sends self.old calls result self.new
             × Asks K.Keeper keeper.old calls keeper.new }
+        ensures below { IfOk result (λ number. number.value < self.new.high) }
         ensures held { K.held keeper.new ≡ K.held keeper.old }
+        ensures same { IsSameCounter self.old self.new }
     {
         let next = self.next();
         self.ready(keeper, next)?;
@@ -174,6 +178,7 @@ impl Horizon {
         ensures calls { (calls : List Call) × Readies self.old n calls result self.new
             × Asks K.Keeper keeper.old calls keeper.new }
         ensures held { K.held keeper.new ≡ K.held keeper.old }
+        ensures same { IsSameCounter self.old self.new }
     {
         self.cover_to(keeper, n)
     }

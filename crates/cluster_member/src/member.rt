@@ -1,0 +1,53 @@
+use crate::holding::Holding;
+use crate::holdings::Holdings;
+use crate::refusals;
+use event_text::{Step, Verdict};
+use ha_base::{Memory, Service};
+use keeper_book::{Keeper, KeeperFault};
+use std::alloc::Global;
+
+/// A member of the cluster, and the service that executes requests for it.
+#[derive(Drop)]
+pub struct Member {
+    service: Box<dyn Service>,
+    number: u32,
+    fresh: [u8; 24],
+    holdings: Holdings,
+}
+
+impl Member {
+    /// A member that holds nothing. Its fresh octets are its own alone.
+    pub fn join(alloc: Global, number: u32, fresh: [u8; 24], service: Box<dyn Service>) -> Member {
+        Member {
+            service,
+            number,
+            fresh,
+            holdings: Holdings::new(alloc),
+        }
+    }
+
+    /// Takes over an association: an epoch begins, in which this member may use numbers. What it held of the association
+    /// begins anew. An error is want of memory, and the member is then as it was.
+    pub fn take_over<K: Keeper>(&mut self, keeper: &mut K, spir: u64) -> Result<Step, Memory> {
+        self.holdings.reserve()?;
+        match keeper.take_over(spir, self.number) {
+            Ok(taken) => {
+                let verdict = Verdict::Owned {
+                    epoch: taken.epoch,
+                    bases: taken.bases,
+                };
+                self.holdings.put(Holding::begin(taken));
+                Ok(Step::quiet(verdict))
+            }
+            Err(fault) => match refusals::of_fault(fault) {
+                Some(refusal) => Ok(Step::quiet(Verdict::Refused(refusal))),
+                None => Err(Memory),
+            },
+        }
+    }
+
+    /// Draws the next ESP number of an association and gives it up. It takes no memory.
+    pub fn draw<K: Keeper>(&mut self, keeper: &mut K, spir: u64) -> Verdict {
+        self.holdings.draw(keeper, spir)
+    }
+}
