@@ -7,3 +7,4 @@ pub mod SpacelessLaws
 pub mod EventLaws
 pub mod LineLaws
 pub mod WritingLaws
+pub mod InputLaws

@@ -5,5 +5,6 @@ pub mod Identities
 pub mod Events
 pub mod Reading
 pub mod Grammar
+pub mod Input
 pub mod Writing
 pub mod Report

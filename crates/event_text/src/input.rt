@@ -1,0 +1,208 @@
+//! A whole input, line by line.
+
+ghost use Rattle.std.specs.Prelude.{◌≡◌, ◌≢◌, ◌≤◌, ◌<◌, ◌+◌, ◌^◌, [], ◌∷◌, length, take, IfErr, IfNone, IfOk, IfSome, OnErr, OnOk, OnSome, MatchResult, None, Some, Ok, Err};
+ghost use Rattle.event_text.specs.Events.{plain};
+ghost use Rattle.event_text.specs.Input.{contents_of, event_in, faulty, lines_of, left_contents, overlong, unfed, version_in, with_event};
+ghost use Rattle.event_text.specs.Reading.{fault_at};
+
+use crate::event::Event;
+use crate::fault::{LineFault, LineReason};
+use crate::place::{InputFault, Place};
+use crate::reading::read_line;
+use crate::split::octets_before;
+use ha_base::Moment;
+use std::alloc::Global;
+use std::marker::Model;
+
+/// How many octets a line may have.
+const LINE_OCTETS: usize = 16_384;
+
+/// How many octets an input may have.
+const INPUT_OCTETS: usize = 67_108_864;
+
+/// How many events an input may have.
+const EVENTS: u32 = 100_000;
+
+/// A line without its line feed, how many octets it has with it, and what stands behind.
+#[derive(Clone, Copy)]
+struct Front<'a> {
+    line: &'a [u8],
+    octets: usize,
+    rest: &'a [u8],
+}
+
+fn front_of(octets: &[u8]) -> Front<'_>
+    requires { 0 < length octets.now }
+    ensures lines { lines_of octets.now ≡ take result.octets octets.now ∷ lines_of result.rest.now }
+    ensures line { unfed (take result.octets octets.now) ≡ result.line.now }
+    ensures some { 0 < result.octets }
+    ensures within { result.octets ≤ length octets.now }
+{
+    let len = octets_before(octets, b'\n');
+    if len < octets.len() {
+        Front {
+            line: &octets[..len],
+            octets: len + 1,
+            rest: &octets[len + 1..],
+        }
+    } else {
+        Front {
+            line: octets,
+            octets: len,
+            rest: &octets[len..],
+        }
+    }
+}
+
+/// The fault of a line that is too long, or that passes the end that a file may have.
+fn overlong(before: usize, octets: usize, size: usize) -> Option<LineFault>
+    requires file { before ≤ 67108864 }
+    requires line { octets < 2 ^ 63 }
+    ensures { result ≡ overlong before octets size }
+{
+    if size > LINE_OCTETS && before + LINE_OCTETS <= INPUT_OCTETS {
+        return Some(LineFault {
+            column: 16_385,
+            reason: LineReason::LineTooLong,
+        });
+    }
+    if before + octets > INPUT_OCTETS {
+        return Some(LineFault {
+            column: (INPUT_OCTETS + 1 - before) as u32,
+            reason: LineReason::FileTooLong,
+        });
+    }
+    None
+}
+
+#[tactic(auto, unfolding(crate::specs::Input::version_in))]
+fn version(octets: usize, line: &[u8]) -> Result<(), LineFault>
+    requires { octets < 2 ^ 63 }
+    ensures value { result ≡ version_in octets line.now }
+    ensures within { OnOk result (octets ≤ 67108864) }
+{
+    if let Some(fault) = overlong(0, octets, line.len()) {
+        return Err(fault);
+    }
+    if line != b"ha 1".as_slice() {
+        return Err(LineFault {
+            column: 1,
+            reason: LineReason::Word,
+        });
+    }
+    Ok(())
+}
+
+#[tactic(auto, unfolding(crate::specs::Input::event_in))]
+fn event(
+    alloc: Global,
+    place: Place,
+    octets: usize,
+    line: &[u8],
+) -> Result<(Moment, Event), LineFault>
+    requires file { place.before ≤ 67108864 }
+    requires line { octets < 2 ^ 63 }
+    ensures value { MatchResult result (λ x. event_in place octets line.now ≡ Ok (x.0, plain x.1))
+        (λ f. f.reason ≢ LineReason.Memory → event_in place octets line.now ≡ Err f) }
+    ensures within { IfOk result (λ _. place.before + octets ≤ 67108864) }
+    ensures few { IfOk result (λ _. place.count ≢ 100000) }
+{
+    if let Some(fault) = overlong(place.before, octets, line.len()) {
+        return Err(fault);
+    }
+    if place.count == EVENTS {
+        return Err(LineFault {
+            column: 1,
+            reason: LineReason::TooMany,
+        });
+    }
+    read_line(alloc, line, place.last)
+}
+
+fn in_line(line: u32, fault: LineFault) -> InputFault
+    ensures { result ≡ record { line = line; column = fault.column; reason = fault.reason } }
+{
+    InputFault {
+        line,
+        column: fault.column,
+        reason: fault.reason,
+    }
+}
+
+/// What is left of an input, behind its first line.
+#[derive(Drop)]
+pub struct EventReader<'a> {
+    rest: &'a [u8],
+    place: Place,
+}
+
+impl<'a> Model for EventReader<'a> {
+    ghost use Rattle.std.specs.Prelude.{◌+◌, ◌≤◌};
+    ghost use Rattle.event_text.specs.Input.{Left, lines_of};
+
+    ghost Value = { Left };
+
+    ghost view = { λ reader. record { lines = lines_of reader.rest.now; place = reader.place } };
+
+    ghost invariant = { λ reader. (reader.place.before ≤ 67108864) × (reader.place.line ≤ reader.place.before + 1) × (reader.place.count ≤ 100000) };
+}
+
+impl<'a> EventReader<'a> {
+    /// Reads the version line. An error is the first fault of the input.
+    pub fn new(input: &'a [u8]) -> Result<EventReader<'a>, InputFault>
+        ensures { MatchResult result (λ reader. contents_of input.now ≡ left_contents reader)
+            (λ f. contents_of input.now ≡ record { events = []; fault = Some f }) }
+    {
+        if input.is_empty() {
+            return Err(InputFault {
+                line: 1,
+                column: 1,
+                reason: LineReason::Missing,
+            });
+        }
+        let front = front_of(input);
+        match version(front.octets, front.line) {
+            Ok(()) => Ok(EventReader {
+                rest: front.rest,
+                place: Place {
+                    line: 2,
+                    before: front.octets,
+                    count: 0,
+                    last: Moment(0),
+                },
+            }),
+            Err(fault) => Err(in_line(1, fault)),
+        }
+    }
+
+    /// The next event, with its moment, or `None` at the end of the input. An error is the first fault of the input, or want
+    /// of memory, and leaves the reader as it was.
+    #[tactic(auto, unfolding(crate::specs::Input::contents_at))]
+    pub fn next_event(&mut self, alloc: Global) -> Result<Option<(Moment, Event)>, InputFault>
+        ensures event { IfOk result (λ next. IfSome next (λ x.
+            left_contents self.old ≡ with_event (x.0, plain x.1) (left_contents self.new))) }
+        ensures fewer { IfOk result (λ next. OnSome next (length self.new.lines < length self.old.lines)) }
+        ensures end { IfOk result (λ next. IfNone next (left_contents self.old ≡ record { events = []; fault = None })) }
+        ensures fault { IfErr result (λ f. f.reason ≢ LineReason.Memory
+            → left_contents self.old ≡ record { events = []; fault = Some f }) }
+        ensures err { OnErr result (self.new ≡ self.old) }
+    {
+        if self.rest.is_empty() {
+            return Ok(None);
+        }
+        let front = front_of(self.rest);
+        match event(alloc, self.place, front.octets, front.line) {
+            Ok((moment, event)) => {
+                self.rest = front.rest;
+                self.place = Place {
+                    line: self.place.line + 1,
+                    before: self.place.before + front.octets,
+                    count: self.place.count + 1,
+                    last: moment,
+                };
+                Ok(Some((moment, event)))
+            }
+            Err(fault) => Err(in_line(self.place.line, fault)),
+        }
+    }
+}
