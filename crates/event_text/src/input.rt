@@ -206,3 +206,41 @@ impl<'a> EventReader<'a> {
         }
     }
 }
+
+#[cfg(test)]
+mod tests {
+    use super::*;
+
+    #[test]
+    fn limits(rt: HostRuntime) {
+        let long = LineFault {
+            column: 16_385,
+            reason: LineReason::LineTooLong,
+        };
+        assert_eq!(rt; overlong(5, 16_385, 16_384), None);
+        assert_eq!(rt; overlong(5, 16_386, 16_385), Some(long));
+        assert_eq!(rt; overlong(67_092_480, 16_385, 16_385), Some(long));
+        assert_eq!(rt; overlong(67_108_854, 10, 9), None);
+        assert_eq!(rt;
+            overlong(67_108_855, 10, 9),
+            Some(LineFault {
+                column: 10,
+                reason: LineReason::FileTooLong,
+            })
+        );
+        let full = Place {
+            line: 100_002,
+            before: 5,
+            count: 100_000,
+            last: Moment(0),
+        };
+        let fault = event(rt.alloc(), full, 2, b"x").err();
+        assert_eq!(rt;
+            fault,
+            Some(LineFault {
+                column: 1,
+                reason: LineReason::TooMany,
+            })
+        );
+    }
+}

@@ -27,3 +27,6 @@ pub use seals::{Seal, Seals};
 pub use turn::{Datagram, Medium, Served, Step, Turn};
 pub use verdict::{Refusal, Verdict};
 pub use writing::{write_end, write_head, write_turn};
+
+#[cfg(test)]
+mod tests;
