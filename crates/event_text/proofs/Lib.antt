@@ -8,3 +8,4 @@ pub mod EventLaws
 pub mod LineLaws
 pub mod WritingLaws
 pub mod InputLaws
+pub mod FrontLaws

@@ -1,0 +1,196 @@
+-- What an input says is told by as many of its octets as a file may have, and one more.
+use Rattle.std.proofs.Common.{◌≡◌, ◌≢◌, ℕ, zero, suc, ◌+◌, ◌-◌, ◌<◌, ◌≤◌, Bool, true, false, ◌&&◌, not, cond, eqb, ltb, leb, List, [], ◌∷◌, ◌++◌, length, Option, Some, None, Result, Ok, Err, refl, sym, ap, ◌∙◌, subst, append_assoc, append-nil, arith, inl, inr, ◌⊎◌, codes}
+use Rattle.std.proofs.lemmas.Bool.{cases_lt, le-leb, lt-leb, lt-ltb}
+use Rattle.std.proofs.lemmas.Bool.Decides.{eqb_tells}
+use Rattle.std.proofs.lemmas.List.{length-append}
+use Rattle.std.specs.Str.{bytes_eq}
+use Rattle.ha_base.specs.declared.outside.Moment.{Moment}
+use Rattle.event_text.specs.declared.fault.LineFault.{LineFault}
+use Rattle.event_text.specs.declared.fault.LineReason.TheVariants as reasons
+use Rattle.event_text.specs.declared.place.Place.{Place}
+use Rattle.event_text.specs.Words.{onto}
+use Rattle.event_text.specs.Events.{PlainEvent}
+use Rattle.event_text.specs.Reading.{fault_at, line_at}
+use Rattle.event_text.specs.Input.{Contents, behind_line, contents_at, contents_in, contents_of, event_in, faulty, lines_of, on_event, on_version, overlong, second_line, unfed, unless, version_in, with_event}
+
+-- ---- the first line of an input
+
+-- the octets begin with a whole line
+record HasLine (a : List ℕ) : Type 0 where
+  line : List ℕ
+  rest : List ℕ
+  parts : a ≡ line ++ rest
+  some : 0 < length line
+  first : (b : List ℕ) → lines_of (line ++ b) ≡ line ∷ lines_of b
+
+-- the octets are the beginning of a line
+record BeginsLine (a b : List ℕ) : Type 0 where
+  more : List ℕ
+  others : List (List ℕ)
+  first : lines_of (a ++ b) ≡ (a ++ more) ∷ others
+  long : length a ≤ length (unfed (a ++ more))
+
+-- the first line, with an octet before it
+begins : (c : ℕ) (bs : List ℕ) → eqb c 10 ≡ false → BeginsLine (c ∷ []) bs
+unfolding lines_of
+begins c bs other = on_lines (lines_of bs) refl
+  where
+    on_lines : (ls : List (List ℕ)) → lines_of bs ≡ ls → BeginsLine (c ∷ []) bs
+    on_lines [] e = record { more = []; others = []; first = rw (other, e) refl; long = rw other (omega arith) }
+    on_lines (l ∷ ls) e = record { more = l; others = ls; first = rw (other, e) refl; long = rw other (omega arith) }
+
+begins_more : (c : ℕ) (a b : List ℕ) → eqb c 10 ≡ false → BeginsLine a b → BeginsLine (c ∷ a) b
+unfolding lines_of
+begins_more c a b other h =
+    record { more = h.more; others = h.others; first = rw (other, h.first) refl; long = rw other (let long = h.long in omega arith) }
+
+first_line : (c : ℕ) (cs : List ℕ) → HasLine (c ∷ cs) ⊎ ((b : List ℕ) → BeginsLine (c ∷ cs) b)
+unfolding lines_of
+first_line c [] =
+    elim (eqb_tells c 10) [
+      | inl feed ↦ inl (record { line = c ∷ []; rest = []; parts = refl; some = omega arith; first = λ b. rw feed.0 refl })
+      | inr other ↦ inr (λ b. begins c b other.0)
+    ]
+first_line c (d ∷ ds) =
+    elim (eqb_tells c 10) [
+      | inl feed ↦ inl (record { line = c ∷ []; rest = d ∷ ds; parts = refl; some = omega arith; first = λ b. rw feed.0 refl })
+      | inr other ↦
+          elim (first_line d ds) [
+            | inl h ↦
+                inl (record { line = c ∷ h.line; rest = h.rest; parts = ap (λ (t : List ℕ). c ∷ t) h.parts; some = omega arith; first = λ b. rw (other.0, h.first b) refl })
+            | inr h ↦ inr (λ b. begins_more c (d ∷ ds) b other.0 (h b))
+          ]
+    ]
+
+-- ---- a line that passes the end of the file
+
+false_right : (a b : Bool) → b ≡ false → (a && b) ≡ false
+false_right true b h = h
+false_right false b h = refl
+
+-- both are the same fault, since the line is faulty whatever follows
+overlong_both : (before octets size more_octets more_size : ℕ) → before ≤ 67108864 → 67108865 ≤ before + octets → 67108865 ≤ before + size → octets ≤ more_octets → size ≤ more_size → overlong before more_octets more_size ≡ overlong before octets size
+overlong_both before octets size more_octets more_size within past past_size fewer shorter =
+    elim (cases_lt 67108865 (before + 16385)) [
+      | inl far ↦
+          rw (false_right (ltb 16384 more_size) (leb (before + 16385) 67108865) (lt-leb (before + 16385) 67108865 far), false_right (ltb 16384 size) (leb (before + 16385) 67108865) (lt-leb (before + 16385) 67108865 far), lt-ltb 67108864 (before + more_octets) (omega arith), lt-ltb 67108864 (before + octets) (omega arith)) refl
+      | inr near ↦
+          rw (lt-ltb 16384 more_size (omega arith), lt-ltb 16384 size (omega arith), le-leb (before + 16385) 67108865 near) refl
+    ]
+
+-- how a line that passes the end is at fault
+record IsPast (before n : ℕ) : Type 0 where
+  fault : LineFault
+  is : overlong before n n ≡ Some fault
+
+past : (before n : ℕ) → before ≤ 67108864 → 67108865 ≤ before + n → IsPast before n
+past before n within far_enough =
+    elim (cases_lt 67108865 (before + 16385)) [
+      | inl far ↦
+          record {
+            fault = fault_at (67108865 - before) reasons.FileTooLong;
+            is = rw (false_right (ltb 16384 n) (leb (before + 16385) 67108865) (lt-leb (before + 16385) 67108865 far), lt-ltb 67108864 (before + n) (omega arith)) refl;
+          }
+      | inr near ↦
+          record {
+            fault = fault_at 16385 reasons.LineTooLong;
+            is = rw (lt-ltb 16384 n (omega arith), le-leb (before + 16385) 67108865 near) refl;
+          }
+    ]
+
+-- a line that passes the end is at fault, whatever follows
+past_line : (n : ℕ) (line : List ℕ) (others : List (List ℕ)) (p : Place) (h : IsPast p.before n) → p.before ≤ 67108864 → 67108865 ≤ p.before + n → n ≤ length line → n ≤ length (unfed line) → contents_at (line ∷ others) p ≡ faulty p.line h.fault
+unfolding contents_at event_in
+past_line n line others p h within far_enough long unfed_long =
+    rw (overlong_both p.before n n (length line) (length (unfed line)) within far_enough far_enough long unfed_long, h.is) refl
+
+past_version : (n : ℕ) (line : List ℕ) (others : List (List ℕ)) (h : IsPast 0 n) → 67108865 ≤ n → n ≤ length line → n ≤ length (unfed line) → contents_in (line ∷ others) ≡ faulty 1 h.fault
+unfolding version_in
+past_version n line others h far_enough long unfed_long =
+    rw (overlong_both 0 n n (length line) (length (unfed line)) (omega arith) (omega arith) (omega arith) long unfed_long, h.is) refl
+
+-- ---- a line that is read
+
+unless_ok : {A : Type 0} (o : Option LineFault) (r : Result A LineFault) (x : A) → unless o r ≡ Ok x → o ≡ None
+unless_ok (Some f) r x e = absurd cc
+unless_ok None r x e = refl
+
+overlong_none : (before octets size : ℕ) → overlong before octets size ≡ None → before + octets ≤ 67108864
+overlong_none before octets size e =
+    elim (cases_lt 67108864 (before + octets)) [
+      | inl more ↦ absurd (passes (ltb 16384 size && leb (before + 16385) 67108865) (rw (lt-ltb 67108864 (before + octets) more) at e))
+      | inr le ↦ le
+    ]
+  where
+    passes : (b : Bool) → cond b (Some (fault_at 16385 reasons.LineTooLong)) (Some (fault_at (67108865 - before) reasons.FileTooLong)) ≡ None → ⊥
+    passes true h = absurd cc
+    passes false h = absurd cc
+
+read_within : (p : Place) (octets : ℕ) (line : List ℕ) (x : Moment × PlainEvent) → event_in p octets line ≡ Ok x → p.before + octets ≤ 67108864
+unfolding event_in
+read_within p octets line x e = overlong_none p.before octets (length line) (unless_ok (overlong p.before octets (length line)) _ x e)
+
+version_within : (octets : ℕ) (line : List ℕ) (x : Unit {0}) → version_in octets line ≡ Ok x → octets ≤ 67108864
+unfolding version_in
+version_within octets line x e = let within = overlong_none 0 octets (length line) (unless_ok (overlong 0 octets (length line)) _ x e) in omega arith
+
+on_same : (line : ℕ) (r : Result (Moment × PlainEvent) LineFault) (f g : Moment → Contents) → ((x : Moment × PlainEvent) → r ≡ Ok x → f x.0 ≡ g x.0) → on_event line r f ≡ on_event line r g
+on_same line (Err d) f g h = refl
+on_same line (Ok x) f g h = ap (with_event x) (h x refl)
+
+-- what follows a line may be other lines, if they say the same
+step : (line : List ℕ) (ls ms : List (List ℕ)) (p : Place) → ((moment : Moment) → p.before + length line ≤ 67108864 → contents_at ls (behind_line p (length line) moment) ≡ contents_at ms (behind_line p (length line) moment)) → contents_at (line ∷ ls) p ≡ contents_at (line ∷ ms) p
+unfolding contents_at
+step line ls ms p h =
+    on_same p.line (event_in p (length line) (unfed line)) _ _ (λ x e. h x.0 (read_within p (length line) (unfed line) x e))
+
+at_front : (fuel : ℕ) (a b : List ℕ) (p : Place) → length a ≤ fuel → p.before ≤ 67108864 → 67108865 ≤ p.before + length a → contents_at (lines_of (a ++ b)) p ≡ contents_at (lines_of a) p
+at_front zero a b p small within far_enough = absurd (omega arith)
+at_front (suc n) [] b p small within far_enough = absurd (omega arith)
+at_front (suc n) (c ∷ cs) b p small within far_enough =
+    elim (first_line c cs) [
+      | inl h ↦
+          let a = c ∷ cs in
+          let size : length a ≡ length h.line + length h.rest = ap length h.parts ∙ length-append h.line h.rest in
+          let some = h.some in
+          let whole : lines_of a ≡ h.line ∷ lines_of h.rest = ap lines_of h.parts ∙ h.first h.rest in
+          let longer : lines_of (a ++ b) ≡ h.line ∷ lines_of (h.rest ++ b) = ap lines_of (ap (λ (t : List ℕ). t ++ b) h.parts ∙ append_assoc h.line h.rest b) ∙ h.first (h.rest ++ b) in
+          rw (longer, whole) (step h.line (lines_of (h.rest ++ b)) (lines_of h.rest) p (λ moment fits. at_front n h.rest b (behind_line p (length h.line) moment) (omega arith) fits (omega arith)))
+      | inr h ↦
+          let a = c ∷ cs in
+          let x = h b in
+          let y = h [] in
+          let is_past = past p.before (length a) within far_enough in
+          let size_x = length-append a x.more in
+          let size_y = length-append a y.more in
+          let longer = ap (λ (ls : List (List ℕ)). contents_at ls p) x.first ∙ past_line (length a) (a ++ x.more) x.others p is_past within far_enough (omega arith) x.long in
+          let whole = ap (λ (t : List ℕ). contents_at (lines_of t) p) (sym (append-nil a)) ∙ ap (λ (ls : List (List ℕ)). contents_at ls p) y.first ∙ past_line (length a) (a ++ y.more) y.others p is_past within far_enough (omega arith) y.long in
+          longer ∙ sym whole
+    ]
+
+on_version_same : (r : Result Unit LineFault) (x y : Contents) → ((u : Unit {0}) → r ≡ Ok u → x ≡ y) → on_version r x ≡ on_version r y
+on_version_same (Err f) x y h = refl
+on_version_same (Ok u) x y h = h u refl
+
+pub contents_front : (front more : List ℕ) → 67108865 ≤ length front → contents_of (front ++ more) ≡ contents_of front
+contents_front [] more far_enough = absurd (omega arith)
+contents_front (c ∷ cs) more far_enough =
+    elim (first_line c cs) [
+      | inl h ↦
+          let a = c ∷ cs in
+          let size : length a ≡ length h.line + length h.rest = ap length h.parts ∙ length-append h.line h.rest in
+          let whole : lines_of a ≡ h.line ∷ lines_of h.rest = ap lines_of h.parts ∙ h.first h.rest in
+          let longer : lines_of (a ++ more) ≡ h.line ∷ lines_of (h.rest ++ more) = ap lines_of (ap (λ (t : List ℕ). t ++ more) h.parts ∙ append_assoc h.line h.rest more) ∙ h.first (h.rest ++ more) in
+          rw (longer, whole) (on_version_same (version_in (length h.line) (unfed h.line)) _ _ (λ u e.
+          at_front (length h.rest) h.rest more (second_line (length h.line)) (omega arith) (version_within (length h.line) (unfed h.line) u e) (omega arith)))
+      | inr h ↦
+          let a = c ∷ cs in
+          let x = h more in
+          let y = h [] in
+          let is_past = past 0 (length a) (omega arith) (omega arith) in
+          let size_x = length-append a x.more in
+          let size_y = length-append a y.more in
+          let longer = ap contents_in x.first ∙ past_version (length a) (a ++ x.more) x.others is_past far_enough (omega arith) x.long in
+          let whole = ap contents_of (sym (append-nil a)) ∙ ap contents_in y.first ∙ past_version (length a) (a ++ y.more) y.others is_past far_enough (omega arith) y.long in
+          longer ∙ sym whole
+    ]
