@@ -1,15 +1,16 @@
+ghost use Rattle.std.specs.Prelude.{◌≡◌};
+
 use crate::holding::Holding;
 use crate::holdings::Holdings;
 use crate::refusals;
 use event_text::{Step, Verdict};
-use ha_base::{Memory, Service};
+use ha_base::Memory;
 use keeper_book::{Keeper, KeeperFault};
 use std::alloc::Global;
 
-/// A member of the cluster, and the service that executes requests for it.
+/// A member of the cluster, by what it holds.
 #[derive(Drop)]
 pub struct Member {
-    service: Box<dyn Service>,
     number: u32,
     fresh: [u8; 24],
     holdings: Holdings,
@@ -17,9 +18,8 @@ pub struct Member {
 
 impl Member {
     /// A member that holds nothing. Its fresh octets are its own alone.
-    pub fn join(alloc: Global, number: u32, fresh: [u8; 24], service: Box<dyn Service>) -> Member {
+    pub fn join(alloc: Global, number: u32, fresh: [u8; 24]) -> Member {
         Member {
-            service,
             number,
             fresh,
             holdings: Holdings::new(alloc),
@@ -28,7 +28,9 @@ impl Member {
 
     /// Takes over an association: an epoch begins, in which this member may use numbers. What it held of the association
     /// begins anew. An error is want of memory, and the member is then as it was.
-    pub fn take_over<K: Keeper>(&mut self, keeper: &mut K, spir: u64) -> Result<Step, Memory> {
+    pub fn take_over<K: Keeper>(&mut self, keeper: &mut K, spir: u64) -> Result<Step, Memory>
+        ensures held { K.held keeper.new ≡ K.held keeper.old }
+    {
         self.holdings.reserve()?;
         match keeper.take_over(spir, self.number) {
             Ok(taken) => {
@@ -47,7 +49,9 @@ impl Member {
     }
 
     /// Draws the next ESP number of an association and gives it up. It takes no memory.
-    pub fn draw<K: Keeper>(&mut self, keeper: &mut K, spir: u64) -> Verdict {
+    pub fn draw<K: Keeper>(&mut self, keeper: &mut K, spir: u64) -> Verdict
+        ensures held { K.held keeper.new ≡ K.held keeper.old }
+    {
         self.holdings.draw(keeper, spir)
     }
 }

@@ -5,25 +5,22 @@ ghost use Rattle.turn_rules.specs.Steps.{Says};
 
 use crate::slots::Slots;
 use event_text::{Refusal, Step, Verdict};
-use ha_base::{Memory, Service};
+use ha_base::Memory;
 use keeper_book::Record;
 use std::alloc::Global;
 
-/// The peer: its associations, and the service that executes requests for it.
+/// What the peer holds: its associations.
 #[derive(Drop)]
 pub struct Peer {
-    service: Box<dyn Service>,
     slots: Slots,
 }
 
 impl Peer {
     /// A peer with no association.
-    pub fn new(alloc: Global, service: Box<dyn Service>) -> Peer
-        ensures service { result.service ≡ service }
+    pub fn new(alloc: Global) -> Peer
         ensures slots { result.slots.records ≡ [] }
     {
         Peer {
-            service,
             slots: Slots::new(alloc),
         }
     }
@@ -43,7 +40,6 @@ impl Peer {
         ensures refused { admits self.old.slots.records sa.now ≡ false → IfOk result (Says (Verdict.Refused refusal.SpiInUse)) }
         ensures unchanged { admits self.old.slots.records sa.now ≡ false → self.new.slots.records ≡ self.old.slots.records }
         ensures err { OnErr result (self.new.slots.records ≡ self.old.slots.records) }
-        ensures service { self.new.service ≡ self.old.service }
     {
         if !self.slots.admit(sa) {
             return Ok(Step::quiet(Verdict::Refused(Refusal::SpiInUse)));

@@ -1,0 +1,8 @@
+use Rattle.std.proofs.Common.{◌≡◌, length}
+use Rattle.replay_world.proofs.play.play_events.Given as goal
+
+abbrev pub invariant-loop-moment : goal.invariant-loop-moment
+invariant-loop-moment g l = g.K.Keeper.held l.keeper.keeper ≡ g.K.Keeper.held l.fn.keeper.keeper
+
+abbrev pub decreases-loop-moment : goal.decreases-loop-moment
+decreases-loop-moment g l = length l.reader.lines

@@ -1,0 +1,10 @@
+//! A run: the members of a cluster, the peer, and the trace of what they did; and the top call that plays an event file.
+#![tactic(auto)]
+
+mod input;
+mod play;
+pub mod top;
+mod world;
+
+pub use world::World;
+

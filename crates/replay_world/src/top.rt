@@ -1,0 +1,91 @@
+//! The top call, which is the whole program but for what standard input and output are.
+
+ghost use Rattle.std.specs.Prelude.{◌≡◌};
+ghost use Rattle.std.specs.List.{AllByRecursion};
+
+use crate::input::{Unread, read_input};
+use crate::play::play;
+use crate::world::World;
+use event_text::InputFault;
+use ha_base::{Failed, Service, Sink, Source, write_all};
+use keeper_book::{Gate, Keeper};
+use std::alloc::Global;
+
+/// How a call ends.
+#[derive(Clone, Copy, Debug, PartialEq, Eq)]
+pub enum Status {
+    /// The input was read to its end, and the whole output was written.
+    Done,
+    /// A line is faulty, or a limit of lines is reached.
+    FaultyLine,
+    /// The words are no command.
+    Words,
+    /// Want of memory.
+    Memory,
+    /// The input could not be read.
+    ReadFault,
+    /// The output, or a line on the error output, could not be written.
+    WriteFault,
+}
+
+// The one command is `run`.
+fn is_run(words: &Vec<String>) -> bool {
+    words.len() == 1 && words[0].as_str() == "run"
+}
+
+// Says why a call ends; where that can't be written, it ends so all the same.
+fn complain<D: Sink>(diag: &mut D, line: &[u8], status: Status) -> Status {
+    let _ = write_all(diag, line);
+    status
+}
+
+// Says which line is faulty.
+fn name_line<D: Sink>(alloc: Global, diag: &mut D, fault: InputFault) -> Status {
+    let Ok(text) = format!(in alloc; "ha: line {}\n", fault.line) else {
+        return complain(diag, b"ha: want of memory\n", Status::Memory);
+    };
+    match write_all(diag, text.as_bytes()) {
+        Ok(()) => Status::FaultyLine,
+        Err(Failed) => Status::WriteFault,
+    }
+}
+
+/// Does what the words say: `run` reads an event file and writes its report. What is to be said besides goes to `diag`.
+pub fn replay<S: Source, O: Sink, D: Sink, K: Keeper>(
+    alloc: Global,
+    words: &Vec<String>,
+    source: &mut S,
+    out: &mut O,
+    diag: &mut D,
+    keeper: &mut K,
+    peer_service: Box<dyn Service>,
+    services: Vec<Box<dyn Service>>,
+) -> Status
+    requires peer { count peer_service ≡ 0 }
+    requires services { AllByRecursion (λ service. count service ≡ 0) services.items }
+    ensures held { K.held keeper.new ≡ K.held keeper.old }
+{
+    if !is_run(words) {
+        return match write_all(diag, b"ha: usage: run\n") {
+            Ok(()) => Status::Words,
+            Err(Failed) => Status::WriteFault,
+        };
+    }
+    let input = match read_input(alloc, source) {
+        Ok(input) => input,
+        Err(Unread::Memory) => return complain(diag, b"ha: want of memory\n", Status::Memory),
+        Err(Unread::Fault) => return complain(diag, b"ha: read fault\n", Status::ReadFault),
+    };
+    let mut world = World::new(alloc, peer_service, services);
+    let mut gate = Gate::new(keeper);
+    let Ok(played) = play(alloc, input.as_slice(), &mut world, &mut gate) else {
+        return complain(diag, b"ha: want of memory\n", Status::Memory);
+    };
+    if write_all(out, played.report.as_slice()).is_err() {
+        return complain(diag, b"ha: write fault\n", Status::WriteFault);
+    }
+    match played.fault {
+        None => Status::Done,
+        Some(fault) => name_line(alloc, diag, fault),
+    }
+}
