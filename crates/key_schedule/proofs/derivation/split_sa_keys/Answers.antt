@@ -1,0 +1,16 @@
+use Rattle.std.proofs.Common.{◌≡◌, ◌+◌, ◌*◌, ◌++◌, length, sym, length-take-le, arith, ◌∙◌}
+use Rattle.key_schedule.proofs.Parts.{five_parts}
+use Rattle.key_schedule.proofs.derivation.split_sa_keys.Goals as goal
+
+pub slice_bounds-key_of-end : goal.slice_bounds-key_of-end
+slice_bounds-key_of-end c = sym (length-take-le 32 c.args.stream.now (omega arith))
+
+pub key_of-requires : goal.key_of-requires
+key_of-requires c = length-take-le 32 c.args.stream.now (omega arith)
+
+pub returns-clause-stream : goal.returns-clause-stream
+returns-clause-stream c =
+    let e = c.args.e in
+    (λ i. c.key_of.ensures i ++ c.from_slice.ensures i ++ c.from_slice-2.ensures i ++ c.key_of-2.ensures i ++ c.key_of-3.ensures i)
+    ∙ five_parts c.args.stream.now 32 (32 + e) (32 + 2 * e) (64 + 2 * e) (96 + 2 * e)
+    (omega arith) (omega arith) (omega arith) (omega arith) (omega arith)

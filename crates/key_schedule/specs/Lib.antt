@@ -1,0 +1,4 @@
+pub mod Hmac
+pub mod PrfPlus
+pub mod Keys
+pub mod Codes
