@@ -1,12 +1,12 @@
 use super::*;
+use std::test::Fail;
 
-// The octets that a code of RFC 4231 is written as there, in four parts of eight octets.
+// The octets of a code that is written as four numbers.
 fn code(parts: [u64; 4]) -> [u8; 32] {
     let mut octets = [0; 32];
-    for (i, part) in parts.iter().enumerate() {
-        if i < 4 {
-            octets[8 * i..8 * i + 8].copy_from_slice(&part.to_be_bytes());
-        }
+    for i in 0..4 {
+        let part = parts[i].to_be_bytes();
+        octets[8 * i..8 * i + 8].copy_from_slice(&part);
     }
     octets
 }
@@ -36,32 +36,21 @@ fn hmac_of_the_standard_cases(rt: HostRuntime) {
     );
 }
 
-// The text that a block of prf+ is the code of: the block before it, the seed and its number.
-fn text_of_block(previous: &[u8], seed: &[u8; 5], number: u8) -> ([u8; 38], usize) {
-    let mut text = [0; 38];
-    let mut len = 0;
-    for octet in previous.iter().chain(seed).chain(&[number]) {
-        if len < 38 {
-            text[len] = *octet;
-            len += 1;
-        }
-    }
-    (text, len)
-}
-
 #[test]
-fn prf_plus_is_its_blocks_one_after_the_other(rt: HostRuntime) {
+fn prf_plus_is_its_blocks_one_after_the_other(rt: HostRuntime) -> Result<(), Fail> {
     let mut out = [0; 8160];
-    prf_plus(b"key", b"seeds", &mut out);
-    let mut block = [0; 32];
-    for i in 0..255 {
-        let previous = if i == 0 { &block[..0] } else { &block[..] };
-        let (text, len) = text_of_block(previous, b"seeds", (i + 1) as u8);
-        assert!(rt; len <= 38);
-        let next = hmac(b"key", &text[..len]);
-        assert_eq!(rt; &out[32 * i..32 * i + 32], next.as_slice(), "block {i}");
-        block = next;
+    prf_plus(b"key", b"seed", &mut out);
+    let mut text = Vec::new(rt.alloc());
+    for i in 0..255u8 {
+        text.extend_from_slice(b"seed")?;
+        text.push(i + 1)?;
+        let block = hmac(b"key", text.as_slice());
+        let at = 32 * usize::from(i);
+        assert_eq!(rt; &out[at..at + 32], block.as_slice(), "block {i}");
+        text.clear();
+        text.extend_from_slice(&block)?;
     }
+    Ok(())
 }
 
 #[test]
