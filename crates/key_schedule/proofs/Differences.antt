@@ -1,5 +1,5 @@
 -- When two lists of octets have no bit that differs.
-use Rattle.std.proofs.Common.{◌≡◌, ℕ, suc, ◌+◌, ◌≤◌, List, [], ◌∷◌, length, sym, ◌∙◌, ap, subst, refl, arith}
+use Rattle.std.proofs.Common.{◌≡◌, ℕ, ◌≤◌, List, [], ◌∷◌, length, sym, ◌∙◌, ap, subst, refl, arith}
 use Rattle.std.specs.Prelude.{fold, bit_or, bit_xor}
 use Rattle.std.specs.List.{zip}
 use Rattle.std.proofs.lemmas.Nat.{le_or_l, le_or_r}

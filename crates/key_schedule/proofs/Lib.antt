@@ -1,3 +1,4 @@
 pub mod Prefixes
 pub mod Parts
 pub mod Differences
+pub mod Vectors

@@ -1,12 +1,12 @@
 -- The first octets of prf+, as its blocks are made one after the other.
-use Rattle.std.proofs.Common.{inl, inr, length-take-le, ◌≡◌, ℕ, zero, suc, ◌+◌, ◌-◌, ◌*◌, ◌<◌, ◌≤◌, min, List, [], ◌∷◌, ◌++◌, length, take, sym, ◌∙◌, ap, subst, refl, arith, length-append, take_all, length-take, length-drop}
+use Rattle.std.proofs.Common.{inl, inr, length-take-le, ◌≡◌, ℕ, zero, suc, ◌+◌, ◌-◌, ◌*◌, ◌≤◌, min, List, [], ◌++◌, length, take, sym, ◌∙◌, ap, subst, refl, arith, length-append, take_all, length-take, length-drop}
 use Rattle.std.proofs.lemmas.List.{take-take, take_min, take-append-le}
 use Rattle.std.proofs.lemmas.Slice.{take-put_mid}
 use Rattle.std.proofs.Math.Seq.{take-append-add}
 use Rattle.std.proofs.Math.Nat.{eq-or-lt_of_le}
 use borrow.Rule.Slice.PartMut.{put_mid}
 use Rattle.sha2.proofs.Facts256.{length-sha256}
-use Rattle.key_schedule.specs.Hmac.{hmac, masked, block_key}
+use Rattle.key_schedule.specs.Hmac.{hmac}
 use Rattle.key_schedule.specs.PrfPlus.{block, blocks, prf_plus}
 
 pub length-hmac : (key text : List ℕ) → length (hmac key text) ≡ 32

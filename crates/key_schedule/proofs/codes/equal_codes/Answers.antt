@@ -1,4 +1,4 @@
-use Rattle.std.proofs.Common.{◌≡◌, ◌∙◌, sym, eq-eqb}
+use Rattle.std.proofs.Common.{◌∙◌, sym, eq-eqb}
 use Rattle.std.proofs.lemmas.Bool.{eqb-true}
 use Rattle.key_schedule.proofs.Differences.{same_from_difference, difference-same}
 use Rattle.key_schedule.proofs.codes.equal_codes.Goals as goal

@@ -1,4 +1,4 @@
-use Rattle.std.proofs.Common.{◌≡◌, ◌++◌, ◌∙◌, append_assoc, sym}
+use Rattle.std.proofs.Common.{◌++◌, ◌∙◌, append_assoc, sym}
 use Rattle.std.specs.Int.{w64, to_be_bytes}
 use Rattle.key_schedule.specs.Keys.{nonces_and_spis}
 use Rattle.key_schedule.proofs.derivation.joined_seed.Goals as goal

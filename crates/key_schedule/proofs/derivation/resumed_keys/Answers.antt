@@ -1,7 +1,7 @@
 use Rattle.std.proofs.Common.{◌≡◌, ℕ, ◌+◌, ◌*◌, ◌≤◌, length, take, length-take-le, ◌∙◌, ap, arith}
 use Rattle.std.specs.Prelude.{replicate}
 use Rattle.key_schedule.specs.PrfPlus.{prf_plus}
-use Rattle.key_schedule.specs.Keys.{sealing_size, skeyseed, nonces_and_spis, sa_stream, sa_keys}
+use Rattle.key_schedule.specs.Keys.{sealing_size, skeyseed, sa_stream, sa_keys}
 use Rattle.key_schedule.proofs.derivation.resumed_keys.Goals as goal
 
 -- what prf+ filled

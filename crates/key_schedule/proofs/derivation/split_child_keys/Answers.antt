@@ -1,4 +1,4 @@
-use Rattle.std.proofs.Common.{◌≡◌, ◌*◌, ◌++◌, arith, ◌∙◌}
+use Rattle.std.proofs.Common.{◌*◌, ◌++◌, arith, ◌∙◌}
 use Rattle.key_schedule.proofs.Parts.{two_parts}
 use Rattle.key_schedule.proofs.derivation.split_child_keys.Goals as goal
 

@@ -1,4 +1,4 @@
-use Rattle.std.proofs.Common.{◌≡◌, ◌+◌, ◌*◌, ◌++◌, length, sym, length-take-le, arith, ◌∙◌}
+use Rattle.std.proofs.Common.{◌+◌, ◌*◌, ◌++◌, sym, length-take-le, arith, ◌∙◌}
 use Rattle.key_schedule.proofs.Parts.{five_parts}
 use Rattle.key_schedule.proofs.derivation.split_sa_keys.Goals as goal
 

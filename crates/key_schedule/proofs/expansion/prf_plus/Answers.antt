@@ -1,8 +1,8 @@
-use Rattle.std.proofs.Common.{◌≡◌, ℕ, suc, ◌+◌, ◌-◌, ◌*◌, ◌≤◌, ◌∷◌, [], ◌++◌, length, take, min, ◌∙◌, sym, ap, refl, arith, add-one, take_all, List}
+use Rattle.std.proofs.Common.{◌≡◌, suc, ◌+◌, ◌-◌, ◌*◌, ◌≤◌, ◌∷◌, [], ◌++◌, length, take, min, ◌∙◌, sym, ap, refl, arith, add-one, take_all}
 use Rattle.std.proofs.lemmas.Grind.{div_ceil_times}
 use borrow.Rule.Slice.PartMut.{put_mid}
 use Rattle.key_schedule.specs.Hmac.{hmac}
-use Rattle.key_schedule.specs.PrfPlus.{block, blocks, prf_plus}
+use Rattle.key_schedule.specs.PrfPlus.{block, blocks}
 use Rattle.key_schedule.proofs.Prefixes.{length-blocks, length-block, take_piece, prf_plus-blocks}
 use Rattle.key_schedule.proofs.expansion.prf_plus.Goals as goal
 

@@ -1,4 +1,4 @@
-use Rattle.std.proofs.Common.{◌≡◌, ◌*◌, take, min, length}
+use Rattle.std.proofs.Common.{◌≡◌, ◌*◌, take, min}
 use Rattle.key_schedule.specs.PrfPlus.{block, blocks}
 use Rattle.key_schedule.proofs.expansion.prf_plus.Given as goal
 

@@ -1,4 +1,4 @@
-use Rattle.std.proofs.Common.{◌≡◌, ◌++◌, ◌∙◌, ap, []}
+use Rattle.std.proofs.Common.{◌++◌, ◌∙◌, ap, []}
 use Rattle.std.proofs.lemmas.List.{append-nil}
 use Rattle.key_schedule.specs.Hmac.{hmac}
 use Rattle.key_schedule.proofs.mac.hmac.Goals as goal

@@ -1,4 +1,4 @@
-use Rattle.std.proofs.Common.{◌≡◌, ◌<◌, ◌≤◌, ◌++◌, [], take, drop, length, ◌∙◌, take_all, ℕ, get_or, arith, length-append, length-take, length-drop}
+use Rattle.std.proofs.Common.{◌<◌, ◌≤◌, ◌++◌, length, ◌∙◌, take_all, get_or, arith, length-append, length-take, length-drop}
 use Rattle.std.specs.Prelude.{map, bit_xor}
 use Rattle.std.proofs.lemmas.List.{drop_all, append-nil, get_or_default, length-map}
 use Rattle.std.proofs.lemmas.List.Edits.{map_over_more}

@@ -1,4 +1,4 @@
-use Rattle.std.proofs.Common.{◌≡◌, ◌++◌, length}
+use Rattle.std.proofs.Common.{◌++◌, length}
 use Rattle.std.proofs.lemmas.List.{drop-replicate}
 use Rattle.key_schedule.specs.Hmac.{padded_block}
 use Rattle.key_schedule.proofs.mac.padded.Goals as goal
