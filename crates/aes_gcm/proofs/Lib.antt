@@ -1,0 +1,4 @@
+pub mod Lists
+pub mod OctetLaws
+pub mod Rounds
+pub mod Schedules

@@ -1,0 +1,23 @@
+-- Lists of octets, joined place by place.
+use Rattle.std.proofs.Common.{◌≡◌, ℕ, suc, ◌+◌, ◌-◌, ◌*◌, ◌<◌, ◌≤◌, List, [], ◌∷◌, ◌++◌, length, get_or, take, drop, refl, sym, ap, ◌∙◌, arith}
+use Rattle.std.proofs.lemmas.List.{ext_get_or}
+use Rattle.std.proofs.lemmas.Simd.{get_or-zip2}
+use Rattle.std.specs.Int.Bits.{bit_xor}
+use lib.Lanes.{zip2}
+use Rattle.aes_gcm.specs.Aes.{xored}
+
+pub length-zip2_le : (xs ys : List ℕ) → length xs ≤ length ys → length (zip2 bit_xor xs ys) ≡ length xs
+length-zip2_le [] ys h = refl
+length-zip2_le (x ∷ xs) [] h = omega arith
+length-zip2_le (x ∷ xs) (y ∷ ys) h = ap suc (length-zip2_le xs ys (omega arith))
+
+pub length-xored : (xs ys : List ℕ) → length xs ≤ length ys → length (xored xs ys) ≡ length xs
+unfolding xored
+length-xored xs ys h = length-zip2_le xs ys h
+
+-- a list is `xored` where each place says so
+pub xored_from_places : (xs ys zs : List ℕ) → length zs ≡ length xs → length xs ≤ length ys → ((k : ℕ) → k < length xs → get_or zs k 0 ≡ bit_xor (get_or xs k 0) (get_or ys k 0)) → zs ≡ xored xs ys
+unfolding xored
+xored_from_places xs ys zs long fits each =
+    ext_get_or 0 zs (zip2 bit_xor xs ys) (long ∙ sym (length-zip2_le xs ys fits)) (λ k h.
+    each k (omega arith) ∙ sym (get_or-zip2 bit_xor xs ys k 0 0 0 (omega arith) (omega arith)))

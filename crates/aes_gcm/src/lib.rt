@@ -1,0 +1,8 @@
+//! AES-GCM.
+#![tactic(auto)]
+
+mod cipher;
+mod counter;
+mod expansion;
+mod ghash;
+mod octets;
