@@ -1,6 +1,7 @@
 -- Lists of octets, joined place by place.
 use Rattle.std.proofs.Common.{◌≡◌, ℕ, suc, ◌+◌, ◌-◌, ◌*◌, ◌<◌, ◌≤◌, List, [], ◌∷◌, ◌++◌, length, get_or, take, drop, refl, sym, ap, ◌∙◌, arith}
-use Rattle.std.proofs.lemmas.List.{ext_get_or}
+use Rattle.std.proofs.lemmas.List.{ext_get_or, append-nil, take_at, drop_at, drop_all}
+use borrow.Rule.Slice.PartMut.{put_mid}
 use Rattle.std.proofs.lemmas.Simd.{get_or-zip2}
 use Rattle.std.specs.Int.Bits.{bit_xor}
 use lib.Lanes.{zip2}
@@ -21,3 +22,18 @@ unfolding xored
 xored_from_places xs ys zs long fits each =
     ext_get_or 0 zs (zip2 bit_xor xs ys) (long ∙ sym (length-zip2_le xs ys fits)) (λ k h.
     each k (omega arith) ∙ sym (get_or-zip2 bit_xor xs ys k 0 0 0 (omega arith) (omega arith)))
+
+xored-append_zip : (ps qs xs ys : List ℕ) → length ps ≡ length xs → zip2 bit_xor (ps ++ qs) (xs ++ ys) ≡ zip2 bit_xor ps xs ++ zip2 bit_xor qs ys
+xored-append_zip [] qs [] ys h = refl
+xored-append_zip [] qs (x ∷ xs) ys h = absurd (omega arith)
+xored-append_zip (p ∷ ps) qs [] ys h = absurd (omega arith)
+xored-append_zip (p ∷ ps) qs (x ∷ xs) ys h = ap (λ zs. bit_xor p x ∷ zs) (xored-append_zip ps qs xs ys (omega arith))
+
+pub xored-append : (ps qs xs ys : List ℕ) → length ps ≡ length xs → xored (ps ++ qs) (xs ++ ys) ≡ xored ps xs ++ xored qs ys
+unfolding xored
+xored-append ps qs xs ys h = xored-append_zip ps qs xs ys h
+
+-- an array whose second part was written after its first
+pub two_parts : (a k : ℕ) (xs zs ys : List ℕ) → length xs ≡ a → length zs ≡ k → put_mid a k (xs ++ zs) ys ≡ xs ++ ys
+two_parts a k xs zs ys first second =
+    rw (take_at xs zs a first, drop_at xs zs a first, drop_all k zs (omega arith)) (ap (λ t. xs ++ t) (append-nil ys))

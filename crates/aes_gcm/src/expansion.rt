@@ -76,13 +76,22 @@ fn next_word(w: &[u8; 240], nk: usize, i: usize) -> [u8; 4]
     next
 }
 
+/// A key followed by zeros.
+fn begun(key: &[u8]) -> [u8; 240]
+    requires { length key.now ≤ 240 }
+    ensures { take (length key.now) result ≡ key.now }
+{
+    let mut w = [0; 240];
+    w[..key.len()].copy_from_slice(key);
+    w
+}
+
 /// The key schedule of a key of 16 or 32 octets, followed by zeros in the first case.
 pub(crate) fn expand(key: &[u8]) -> [u8; 240]
     requires { (length key.now ≡ 16) ⊎ (length key.now ≡ 32) }
     ensures { take (16 * (length key.now / 4 + 7)) result ≡ schedule key.now }
 {
-    let mut w = [0; 240];
-    w[..key.len()].copy_from_slice(key);
+    let mut w = begun(key);
     let nk = key.len() / 4;
     for i in nk..4 * (nk + 7) {
         let next = next_word(&w, nk, i);

@@ -1,7 +1,9 @@
-use Rattle.std.proofs.Common.{◌≡◌, ◌∙◌, ◌-◌, arith, sym}
+use Rattle.std.proofs.Common.{◌≡◌, ◌∙◌, ◌++◌, ℕ, ◌-◌, arith, sym, ap, length}
+use Rattle.std.proofs.lemmas.List.{drop-replicate}
 use Rattle.aes_gcm.specs.Gcm.{element}
 use Rattle.aes_gcm.proofs.ghash.load.Goals as goal
 
 pub returns : goal.returns
 unfolding element
-returns c = ?
+returns c =
+    c.from_be_bytes.ensures ∙ (λ i. element (c.copy_from_slice.ensures.after i ++ drop-replicate {X = ℕ} (length c.args.octets.now) 16 0 i))

@@ -1,0 +1,42 @@
+-- GHASH: the product bit by bit, and blocks that zeros complete.
+use Rattle.std.proofs.Common.{◌≡◌, ℕ, zero, suc, ◌+◌, ◌-◌, ◌*◌, ◌/◌, ◌%◌, ◌^◌, ◌<◌, ◌≤◌, List, ◌++◌, length, take, drop, refl, sym, ap, ◌∙◌, add-one, arith, ⊎_elim}
+use Rattle.std.specs.Prelude.{replicate, min}
+use Rattle.std.proofs.lemmas.List.{length-take, length-drop, length-append, length-replicate, drop-append-le, take-append-le, take_all, append-nil}
+use Rattle.std.proofs.lemmas.Bool.{cases_lt}
+use Rattle.std.specs.Int.Bits.{bit_xor, xor_assoc}
+use Rattle.aes_gcm.specs.Gcm.{next_power, product_low, product, element, block_at, block_count, padded, hashed_from}
+
+pub product_more : (i a v sum : ℕ) → i < 128 → bit_xor (bit_xor sum (a / 2 ^ (127 - i) % 2 * v)) (product_low (128 - (i + 1)) a (next_power v)) ≡ bit_xor sum (product_low (128 - i) a v)
+unfolding product_low
+product_more i a v sum h =
+    let left : 128 - (i + 1) ≡ 127 - i = omega arith in
+    let now : 128 - i ≡ suc (127 - i) = omega arith in
+    rw (left, now) (xor_assoc sum (a / 2 ^ (127 - i) % 2 * v) (product_low (127 - i) a (next_power v)))
+
+pub hashed_more : (h y : ℕ) (xs : List ℕ) (i : ℕ) → hashed_from h y xs (i + 1) ≡ product (bit_xor (hashed_from h y xs i) (element (block_at xs i))) h
+unfolding hashed_from
+hashed_more h y xs i = rw add-one
+
+-- a whole block of a list that zeros complete
+whole_block : (xs zs : List ℕ) (i : ℕ) → 16 * i + 16 ≤ length xs → take 16 (drop (16 * i) (xs ++ zs)) ≡ take 16 (drop (16 * i) xs)
+whole_block xs zs i h =
+    rw (drop-append-le (16 * i) xs zs (omega arith)) (take-append-le 16 (drop (16 * i) xs) zs (omega (arith, length-drop (16 * i) xs)))
+
+-- the last block of a list that zeros complete
+last_block : (xs : List ℕ) (i n : ℕ) → 16 * i ≤ length xs → length xs + n ≡ 16 * i + 16 → take 16 (drop (16 * i) (xs ++ replicate n 0)) ≡ drop (16 * i) xs ++ replicate n 0
+last_block xs i n begun full =
+    rw (drop-append-le (16 * i) xs (replicate n 0) begun) (take_all 16 (drop (16 * i) xs ++ replicate n 0) (omega (arith, length-append (drop (16 * i) xs) (replicate n 0), length-drop (16 * i) xs, length-replicate {A = ℕ} n 0)))
+
+-- a block of a list that zeros complete
+pub block_at-padded : (xs : List ℕ) (i e : ℕ) → e ≡ min (length xs) (16 * i + 16) → i < (length xs + 15) / 16 → block_at (padded xs) i ≡ take (e - 16 * i) (drop (16 * i) xs) ++ replicate (16 - length (take (e - 16 * i) (drop (16 * i) xs))) 0
+unfolding block_at padded block_count
+block_at-padded xs i e end within =
+    ⊎_elim (λ h.
+        let count : 16 * ((length xs + 15) / 16) - length xs ≡ 16 * i + 16 - length xs = omega arith in
+        let width : e - 16 * i ≡ length xs - 16 * i = omega arith in
+        let all : take (length xs - 16 * i) (drop (16 * i) xs) ≡ drop (16 * i) xs = take_all (length xs - 16 * i) (drop (16 * i) xs) (omega (arith, length-drop (16 * i) xs)) in
+        let zeros : 16 - length (drop (16 * i) xs) ≡ 16 * i + 16 - length xs = omega (arith, length-drop (16 * i) xs) in
+        rw (count, width, all, zeros) (last_block xs i (16 * i + 16 - length xs) (omega arith) (omega arith))) (λ h.
+        let width : e - 16 * i ≡ 16 = omega arith in
+        let long : length (take 16 (drop (16 * i) xs)) ≡ 16 = omega (arith, length-take 16 (drop (16 * i) xs), length-drop (16 * i) xs) in
+        rw (width, long) (whole_block xs (replicate (16 * ((length xs + 15) / 16) - length xs) 0) i h ∙ sym (append-nil (take 16 (drop (16 * i) xs))))) (cases_lt (length xs) (16 * i + 16))
