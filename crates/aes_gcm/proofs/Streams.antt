@@ -7,7 +7,7 @@ use Rattle.std.proofs.lemmas.Slice.{take-put_mid, drop-put_mid}
 use borrow.Rule.Slice.PartMut.{put_mid}
 use Rattle.aes_gcm.specs.Aes.{xored}
 use Rattle.aes_gcm.specs.Gcm.{key_stream, counter_block, encrypted, block_count}
-use Rattle.aes_gcm.proofs.Lists.{xored-append, length-xored}
+use Rattle.aes_gcm.proofs.Lists.{xored-append, length-xored, xored_twice}
 
 pub stream_more : (f : List ℕ → List ℕ) (nonce : List ℕ) (i : ℕ) → key_stream f nonce (i + 1) ≡ key_stream f nonce i ++ f (counter_block nonce (i + 2))
 unfolding key_stream
@@ -58,3 +58,22 @@ unfolding encrypted block_count
 streamed_all f nonce xs now i e same sofar =
     let text = take_all (16 * i) xs (omega arith) in
     sym (take_all (16 * i) now (omega arith)) ∙ sofar ∙ (λ j. xored (text j) (key_stream f nonce (e j)))
+
+length-key_stream : (f : List ℕ → List ℕ) (nonce : List ℕ) → ((k : ℕ) → length (f (counter_block nonce k)) ≡ 16) → (n : ℕ) → length (key_stream f nonce n) ≡ 16 * n
+unfolding key_stream
+length-key_stream f nonce each zero = refl
+length-key_stream f nonce each (suc n) =
+    length-append (key_stream f nonce n) (f (counter_block nonce (n + 2))) ∙ omega (arith, length-key_stream f nonce each n, each (n + 2))
+
+pub length-encrypted : (f : List ℕ → List ℕ) (nonce xs : List ℕ) → ((k : ℕ) → length (f (counter_block nonce k)) ≡ 16) → length (encrypted f nonce xs) ≡ length xs
+unfolding encrypted block_count
+length-encrypted f nonce xs each =
+    length-xored xs (key_stream f nonce ((length xs + 15) / 16)) (omega (arith, length-key_stream f nonce each ((length xs + 15) / 16)))
+
+-- counter mode is its own inverse
+pub encrypted_twice : (f : List ℕ → List ℕ) (nonce xs : List ℕ) → ((k : ℕ) → length (f (counter_block nonce k)) ≡ 16) → encrypted f nonce (encrypted f nonce xs) ≡ xs
+unfolding encrypted block_count
+encrypted_twice f nonce xs each =
+    let stream = key_stream f nonce ((length xs + 15) / 16) in
+    let long : length xs ≤ length stream = omega (arith, length-key_stream f nonce each ((length xs + 15) / 16)) in
+    rw (length-xored xs stream long) (xored_twice xs stream long)

@@ -1,2 +1,5 @@
 pub mod Aes
 pub mod Gcm
+pub mod HeldKey
+pub mod NamedKey
+pub mod Sealing

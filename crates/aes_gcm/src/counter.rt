@@ -1,14 +1,13 @@
-//! Counter mode and the tag (NIST SP 800-38D, sections 6.5 and 7.1) for a nonce of 96 bits.
+//! Counter mode (NIST SP 800-38D, sections 6.5 and 7.1) for a nonce of 96 bits.
 
-ghost use Rattle.std.specs.Prelude.{◌≡◌, ◌≤◌, IsTrue, ◌↔◌, length};
+ghost use Rattle.std.specs.Prelude.{◌≡◌, ◌≤◌, length};
 ghost use Rattle.aes_gcm.specs.Aes.{cipher};
-ghost use Rattle.aes_gcm.specs.Gcm.{counter_block, encrypted, hash_subkey, tag_under};
+ghost use Rattle.aes_gcm.specs.Gcm.{counter_block, encrypted};
 
 use crate::cipher::encrypt;
-use crate::ghash::{hash_onto, load};
 use crate::octets::xor_into;
 
-fn counter_block(nonce: &[u8; 12], counter: u32) -> [u8; 16]
+pub(crate) fn counter_block(nonce: &[u8; 12], counter: u32) -> [u8; 16]
     ensures { result ≡ counter_block nonce.now counter }
 {
     let mut block = [0; 16];

@@ -34,7 +34,7 @@ fn word(w: &[u8; 240], i: usize) -> &[u8]
     &w[4 * i..4 * i + 4]
 }
 
-fn copied(word: &[u8]) -> [u8; 4]
+pub(crate) fn copied(word: &[u8]) -> [u8; 4]
     requires { length word.now ≡ 4 }
     ensures { result ≡ word.now }
 {

@@ -21,14 +21,14 @@ loop-i-preserved c =
     let long : length c.encrypt-pad.result ≡ 16 = search rules in
     let end : e ≡ min (length xs) (16 * i + 16) = c.min-end.ensures ∙ ap (λ n. min n (16 * i + 16)) c.loop-i.auto.buf in
     let pad : c.encrypt-pad.result ≡ f (counter_block nonce (i + 2)) =
-        c.encrypt-pad.ensures ∙ ap f c.counter_block.ensures in
+    c.encrypt-pad.ensures ∙ ap f c.counter_block.ensures in
     let block : length (f (counter_block nonce (i + 2))) ≡ 16 = sym (ap length pad) ∙ long in
     let part_is = c.xor_into.ensures ∙ ap (xored _) pad in
     let inv = c.loop-i.invariant in
     record {
-        done = streamed_step f nonce xs now part i e c.loop-i.auto.buf end (omega arith) part_is block inv.rest inv.done inv.stream_length;
-        rest = streamed_rest f nonce xs now part i e c.loop-i.auto.buf end (omega arith) part_is block inv.rest;
-        stream_length = length-stream_more f nonce i inv.stream_length block
+      done = streamed_step f nonce xs now part i e c.loop-i.auto.buf end (omega arith) part_is block inv.rest inv.done inv.stream_length;
+      rest = streamed_rest f nonce xs now part i e c.loop-i.auto.buf end (omega arith) part_is block inv.rest;
+      stream_length = length-stream_more f nonce i inv.stream_length block;
     }
 
 pub returns : goal.returns

@@ -15,5 +15,5 @@ returns-then-i-nk-eq4 c =
 pub returns-else-nk-gt6 : goal.returns-else-nk-gt6
 returns-else-nk-gt6 c =
     let second : 6 < c.args.nk → c.args.i % c.args.nk ≢ 4 =
-        elim c.else-nk-gt6.branch [ else-nk-gt6-via-then-nk-gt6+else-i-nk-eq4 w ↦ λ _. w.if-i-nk-eq4.false | else-nk-gt6-via-else-nk-gt6 w ↦ λ wide. absurd (omega arith) ] in
+    elim c.else-nk-gt6.branch [ else-nk-gt6-via-then-nk-gt6+else-i-nk-eq4 w ↦ λ _. w.if-i-nk-eq4.false | else-nk-gt6-via-else-nk-gt6 w ↦ λ wide. absurd (omega arith) ] in
     c.copied.ensures ∙ sym (unchanged c.args.nk c.args.i c.args.before.now c.if-i-nk-eq0.false second)

@@ -1,0 +1,63 @@
+//! The tag over associated data and ciphertext (NIST SP 800-38D, section 7.1).
+
+ghost use Rattle.std.specs.Prelude.{◌≡◌, ◌*◌, ◌≤◌, ◌++◌, ◌↔◌, IsTrue, length};
+ghost use Rattle.std.specs.Int.{w64, to_be_bytes};
+ghost use Rattle.aes_gcm.specs.Aes.{cipher};
+ghost use Rattle.aes_gcm.specs.Gcm.{ghash, hash_subkey, hashed_text, tag_under};
+
+use crate::cipher::encrypt;
+use crate::counter::counter_block;
+use crate::ghash::hash_onto;
+use crate::octets::xor_into;
+
+/// The block of the two lengths, which are given in octets and written in bits.
+fn length_block(aad: usize, ciphertext: usize) -> [u8; 16]
+    requires aad { aad ≤ 65536 }
+    requires ciphertext { ciphertext ≤ 65536 }
+    ensures { result ≡ to_be_bytes w64 (8 * aad) ++ to_be_bytes w64 (8 * ciphertext) }
+{
+    let mut block = [0; 16];
+    block[..8].copy_from_slice(&(8 * aad as u64).to_be_bytes());
+    block[8..].copy_from_slice(&(8 * ciphertext as u64).to_be_bytes());
+    block
+}
+
+fn hash(h: u128, aad: &[u8], ciphertext: &[u8]) -> u128
+    requires aad_size { length aad.now ≤ 65536 }
+    requires size { length ciphertext.now ≤ 65536 }
+    ensures { result ≡ ghash h (hashed_text aad.now ciphertext.now) }
+{
+    let hashed = hash_onto(h, hash_onto(h, 0, aad), ciphertext);
+    hash_onto(h, hashed, &length_block(aad.len(), ciphertext.len()))
+}
+
+/// The tag under the key schedule `w`, whose hash subkey is `h`.
+pub(crate) fn tag(
+    w: &[u8; 240],
+    n: usize,
+    h: u128,
+    nonce: &[u8; 12],
+    aad: &[u8],
+    ciphertext: &[u8],
+) -> [u8; 16]
+    requires rounds { n ≤ 13 }
+    requires subkey { h ≡ hash_subkey (cipher w.now n) }
+    requires aad_size { length aad.now ≤ 65536 }
+    requires size { length ciphertext.now ≤ 65536 }
+    ensures { result ≡ tag_under (cipher w.now n) nonce.now aad.now ciphertext.now }
+{
+    let mut tag = encrypt(w, n, counter_block(nonce, 1));
+    xor_into(&mut tag, &hash(h, aad, ciphertext).to_be_bytes());
+    tag
+}
+
+/// Whether two tags are the same. Each octet is looked at, whatever the ones before it are.
+pub(crate) fn is_same(a: &[u8; 16], b: &[u8; 16]) -> bool
+    ensures { IsTrue result ↔ (a.now ≡ b.now) }
+{
+    let mut apart = 0;
+    for i in 0..16 {
+        apart |= a[i] ^ b[i];
+    }
+    apart == 0
+}
