@@ -78,9 +78,9 @@ sealing octets size =
     record {
       ciphertext_length = λ iv aad plain. length-encrypted (cipher_of octets) (nonce_of octets iv) plain (λ k. each (counter_block (nonce_of octets iv) k));
       tag_length = λ iv aad plain.
-            let text = hashed_text aad (encrypted (cipher_of octets) (nonce_of octets iv) plain) in
-            let first = each (counter_block (nonce_of octets iv) 1) in
-            length-xored (cipher_of octets (counter_block (nonce_of octets iv) 1)) (to_be_bytes w128 (ghash (hash_subkey (cipher_of octets)) text)) (omega arith) ∙ first;
+          let text = hashed_text aad (encrypted (cipher_of octets) (nonce_of octets iv) plain) in
+          let first = each (counter_block (nonce_of octets iv) 1) in
+          length-xored (cipher_of octets (counter_block (nonce_of octets iv) 1)) (to_be_bytes w128 (ghash (hash_subkey (cipher_of octets)) text)) (omega arith) ∙ first;
       injective = λ iv aad first second e.
           let f = cipher_of octets in
           let nonce = nonce_of octets iv in

@@ -15,6 +15,7 @@ mod cipher;
 mod counter;
 mod expansion;
 mod ghash;
+pub mod known_answers;
 mod octets;
 mod tag;
 
