@@ -18,6 +18,8 @@ mod ghash;
 pub mod known_answers;
 mod octets;
 mod tag;
+#[cfg(test)]
+mod tests;
 
 use crate::cipher::encrypt;
 use crate::counter::apply_key_stream;
