@@ -1,8 +1,8 @@
 -- What sealing gives, read backwards; and the lengths of all that it is made of.
-use Rattle.std.proofs.Common.{◌≡◌, ℕ, zero, suc, ◌+◌, ◌-◌, ◌*◌, ◌/◌, ◌<◌, ◌≤◌, ◌⊎◌, ⊎_elim, inl, inr, Bool, true, false, cond, eqb, ltb, ◌&&◌, ◌%◌, List, ◌++◌, length, take, drop, map, refl, sym, ap, ◌∙◌, arith}
+use Rattle.std.proofs.Common.{◌≡◌, ℕ, zero, suc, ◌+◌, ◌-◌, ◌*◌, ◌/◌, ◌<◌, ◌≤◌, ◌⊎◌, ⊎_elim, inl, inr, Bool, true, false, cond, eqb, ltb, ◌&&◌, ◌%◌, List, length, take, drop, sym, ap, ◌∙◌, arith}
 use Rattle.std.proofs.lemmas.List.{length-append, length-take, length-drop, length-map}
-use Rattle.aes_gcm.specs.Aes.{xored, sub_byte, sub_bytes, rot_word, round_constant, word, changed_word, expanded, schedule, cipher, aes}
-use Rattle.aes_gcm.specs.Gcm.{cipher_of, nonce_of, counter_block, encrypted, block_count, hash_subkey, hashed_text, ghash, tag_under, tag_of, sealed, Sealed}
+use Rattle.aes_gcm.specs.Aes.{xored, sub_byte, sub_bytes, rot_word, round_constant, word, changed_word, expanded, schedule, aes}
+use Rattle.aes_gcm.specs.Gcm.{cipher_of, nonce_of, counter_block, encrypted, hash_subkey, hashed_text, ghash, tag_under, tag_of, sealed, Sealed}
 use Rattle.std.specs.Int.{w128, to_be_bytes}
 use Rattle.aes_gcm.specs.Sealing.{IsSealing}
 use Rattle.aes_gcm.proofs.Lists.{length-xored}

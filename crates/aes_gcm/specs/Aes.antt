@@ -1,6 +1,6 @@
 -- The Advanced Encryption Standard (FIPS 197) over lists of octets, with 10 and with 14 rounds.
 -- An octet is a number below 256. As an element of GF(2 ^ 8) its bit i is the coefficient of x ^ i.
-use Rattle.std.specs.Prelude.{ℕ, zero, suc, ◌+◌, ◌-◌, ◌*◌, ◌/◌, ◌%◌, Bool, ◌&&◌, ◌==◌, nat_lt, if◌then◌else◌, List, [], ◌∷◌, ◌++◌, length, map, take, drop, slice_index, bit_xor}
+use Rattle.std.specs.Prelude.{ℕ, zero, suc, ◌+◌, ◌-◌, ◌*◌, ◌/◌, ◌%◌, ◌&&◌, ◌==◌, nat_lt, if◌then◌else◌, List, [], ◌∷◌, ◌++◌, length, map, take, drop, slice_index, bit_xor}
 use Rattle.std.specs.Int.{w8, rotate_left}
 use lib.Lanes.{zip2}
 

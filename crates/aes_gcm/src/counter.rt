@@ -4,6 +4,7 @@ ghost use Rattle.std.specs.Prelude.{◌≡◌, ◌≤◌, length};
 ghost use Rattle.aes_gcm.specs.Aes.{cipher};
 ghost use Rattle.aes_gcm.specs.Gcm.{counter_block, encrypted};
 
+use crate::MAX_LEN;
 use crate::cipher::encrypt;
 use crate::octets::xor_into;
 
@@ -19,7 +20,7 @@ pub(crate) fn counter_block(nonce: &[u8; 12], counter: u32) -> [u8; 16]
 /// Exclusive-ors the key stream into `buf`, which enciphers a plaintext and deciphers a ciphertext.
 pub(crate) fn apply_key_stream(w: &[u8; 240], n: usize, nonce: &[u8; 12], buf: &mut [u8])
     requires rounds { n ≤ 13 }
-    requires size { length buf.old ≤ 65536 }
+    requires size { length buf.old ≤ MAX_LEN }
     ensures { buf.new ≡ encrypted (cipher w.now n) nonce.now buf.old }
 {
     for i in 0..buf.len().div_ceil(16) {

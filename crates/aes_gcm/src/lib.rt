@@ -106,7 +106,7 @@ impl Key {
     }
 
     fn stream_into(&self, iv: u64, buf: &mut [u8])
-        requires { length buf.old ≤ 65536 }
+        requires { length buf.old ≤ MAX_LEN }
         ensures streamed { buf.new ≡ encrypted (cipher_of self.now.octets) (nonce_of self.now.octets iv) buf.old }
 
         // Counter mode under a key is its own inverse.
@@ -116,9 +116,10 @@ impl Key {
     }
 
     fn tag(&self, iv: u64, aad: &[u8], ciphertext: &[u8]) -> [u8; 16]
-        requires aad_size { length aad.now ≤ 65536 }
-        requires size { length ciphertext.now ≤ 65536 }
-        ensures { result ≡ tag_of self.now.octets iv aad.now ciphertext.now }
+        requires aad_size { length aad.now ≤ MAX_LEN }
+        requires size { length ciphertext.now ≤ MAX_LEN }
+        ensures tag { result ≡ tag_of self.now.octets iv aad.now ciphertext.now }
+        ensures key_size { (length self.now.octets ≡ 20) ⊎ (length self.now.octets ≡ 36) }
     {
         let nonce = self.nonce(iv);
         tag(
@@ -147,6 +148,9 @@ pub fn seal_in_place(key: &Key, number: Number, aad: &[u8], buf: &mut [u8], tag:
     requires size { length buf.old ≤ MAX_LEN }
     ensures ciphertext { buf.new ≡ (sealed key.now.octets number.value aad.now buf.old).ciphertext }
     ensures tag { tag.new ≡ (sealed key.now.octets number.value aad.now buf.old).tag }
+
+    // With it `sealing_laws` says how long both are.
+    ensures key_size { (length key.now.octets ≡ 20) ⊎ (length key.now.octets ≡ 36) }
 {
     let iv = number.value();
     number.burn();
@@ -165,6 +169,7 @@ pub fn open_in_place(key: &Key, iv: u64, aad: &[u8], buf: &mut [u8], tag: &[u8; 
 
     // What was sealed is opened, and gives the plaintext.
     ensures unsealed { (plain : List ℕ) → sealed key.now.octets iv aad.now plain ≡ record { ciphertext = buf.old; tag = tag.now } → IsTrue result × (buf.new ≡ plain) }
+    ensures key_size { (length key.now.octets ≡ 20) ⊎ (length key.now.octets ≡ 36) }
 {
     if !is_same(tag, &key.tag(iv, aad, buf)) {
         return false;

@@ -5,6 +5,7 @@ ghost use Rattle.std.specs.Int.{w64, to_be_bytes};
 ghost use Rattle.aes_gcm.specs.Aes.{cipher};
 ghost use Rattle.aes_gcm.specs.Gcm.{ghash, hash_subkey, hashed_text, tag_under};
 
+use crate::MAX_LEN;
 use crate::cipher::encrypt;
 use crate::counter::counter_block;
 use crate::ghash::hash_onto;
@@ -12,8 +13,8 @@ use crate::octets::xor_into;
 
 /// The block of the two lengths, which are given in octets and written in bits.
 fn length_block(aad: usize, ciphertext: usize) -> [u8; 16]
-    requires aad { aad ≤ 65536 }
-    requires ciphertext { ciphertext ≤ 65536 }
+    requires aad { aad ≤ MAX_LEN }
+    requires ciphertext { ciphertext ≤ MAX_LEN }
     ensures { result ≡ to_be_bytes w64 (8 * aad) ++ to_be_bytes w64 (8 * ciphertext) }
 {
     let mut block = [0; 16];
@@ -23,8 +24,8 @@ fn length_block(aad: usize, ciphertext: usize) -> [u8; 16]
 }
 
 fn hash(h: u128, aad: &[u8], ciphertext: &[u8]) -> u128
-    requires aad_size { length aad.now ≤ 65536 }
-    requires size { length ciphertext.now ≤ 65536 }
+    requires aad_size { length aad.now ≤ MAX_LEN }
+    requires size { length ciphertext.now ≤ MAX_LEN }
     ensures { result ≡ ghash h (hashed_text aad.now ciphertext.now) }
 {
     let hashed = hash_onto(h, hash_onto(h, 0, aad), ciphertext);
@@ -42,8 +43,8 @@ pub(crate) fn tag(
 ) -> [u8; 16]
     requires rounds { n ≤ 13 }
     requires subkey { h ≡ hash_subkey (cipher w.now n) }
-    requires aad_size { length aad.now ≤ 65536 }
-    requires size { length ciphertext.now ≤ 65536 }
+    requires aad_size { length aad.now ≤ MAX_LEN }
+    requires size { length ciphertext.now ≤ MAX_LEN }
     ensures { result ≡ tag_under (cipher w.now n) nonce.now aad.now ciphertext.now }
 {
     let mut tag = encrypt(w, n, counter_block(nonce, 1));

@@ -1,4 +1,4 @@
-use Rattle.std.proofs.Common.{◌≡◌, ◌∙◌, ◌++◌, ◌∷◌, [], ℕ, ◌+◌, ◌-◌, ◌/◌, ◌≤◌, ◌⊎◌, inl, inr, ⊎_elim, refl, sym, ap, take, drop, length, arith, rules}
+use Rattle.std.proofs.Common.{◌≡◌, ◌∙◌, ap}
 use Rattle.aes_gcm.specs.Gcm.{cipher_of, nonce_of, encrypted, sealed, tag_of}
 use Rattle.aes_gcm.proofs.seal_in_place.Goals as goal
 use Rattle.aes_gcm.proofs.seal_in_place.Goals.{After-tag}
@@ -15,4 +15,4 @@ returns-clause-ciphertext c = streamed c
 pub returns-clause-tag : goal.returns-clause-tag
 unfolding sealed
 returns-clause-tag c =
-    c.tag.ensures ∙ (λ i. tag_of c.args.key.now.octets (c.value-iv.ensures i) c.args.aad.now (streamed c i))
+    c.tag.ensures.tag ∙ (λ i. tag_of c.args.key.now.octets (c.value-iv.ensures i) c.args.aad.now (streamed c i))

@@ -1,4 +1,4 @@
-use Rattle.std.proofs.Common.{◌≡◌, ◌∙◌, ◌++◌, ◌∷◌, [], ℕ, ◌+◌, ◌-◌, ◌/◌, ◌≤◌, ⊎_elim, refl, sym, ap, take, drop, length, arith, rules}
+use Rattle.std.proofs.Common.{◌∙◌, ap}
 use Rattle.aes_gcm.proofs.HeldKeys.{under_is}
 use Rattle.aes_gcm.proofs.Key.cipher.Goals as goal
 

@@ -1,4 +1,3 @@
-use Rattle.std.proofs.Common.{◌≡◌, ◌∙◌, ◌++◌, ◌∷◌, [], ℕ, ◌+◌, ◌-◌, ◌/◌, ◌≤◌, ◌⊎◌, inl, inr, ⊎_elim, refl, sym, ap, take, drop, length, arith, rules}
 use Rattle.aes_gcm.proofs.HeldKeys.{size_is}
 use Rattle.aes_gcm.proofs.Key.name.Goals as goal
 

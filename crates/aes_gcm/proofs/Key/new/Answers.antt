@@ -1,7 +1,6 @@
-use Rattle.std.proofs.Common.{◌≡◌, ◌∙◌, ◌++◌, ◌∷◌, [], ℕ, ◌+◌, ◌-◌, ◌/◌, ◌≤◌, ◌⊎◌, inl, inr, ⊎_elim, refl, sym, ap, take, drop, length, arith, rules}
+use Rattle.std.proofs.Common.{◌≡◌, ◌∙◌, ◌++◌, ◌-◌, ◌⊎◌, inl, inr, ⊎_elim, ap, length, arith, rules}
 use Rattle.std.specs.Prelude.{replicate}
 use Rattle.std.proofs.lemmas.List.{append-nil, take-append-drop}
-use Rattle.aes_gcm.specs.HeldKey.{key_in}
 use Rattle.aes_gcm.specs.Gcm.{element, hash_subkey}
 use Rattle.aes_gcm.proofs.HeldKeys.{key_is, cipher_is}
 use Rattle.aes_gcm.proofs.Key.new.Goals as goal

@@ -1,4 +1,4 @@
-use Rattle.std.proofs.Common.{◌≡◌, ◌∙◌, ◌++◌, ◌∷◌, [], ℕ, ◌+◌, ◌-◌, ◌/◌, ◌≤◌, ⊎_elim, refl, sym, ap, take, drop, length, arith, rules}
+use Rattle.std.proofs.Common.{◌∙◌, ◌++◌, ◌∷◌, [], refl}
 use Rattle.aes_gcm.proofs.Lists.{two_parts}
 use Rattle.aes_gcm.proofs.HeldKeys.{nonce_is}
 use Rattle.aes_gcm.proofs.Key.nonce.Goals as goal

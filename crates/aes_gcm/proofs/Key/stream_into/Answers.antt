@@ -1,4 +1,4 @@
-use Rattle.std.proofs.Common.{◌≡◌, ◌∙◌, ◌++◌, ◌∷◌, [], ℕ, ◌+◌, ◌-◌, ◌/◌, ◌≤◌, ⊎_elim, refl, sym, ap, take, drop, length, arith, rules}
+use Rattle.std.proofs.Common.{◌∙◌}
 use Rattle.aes_gcm.specs.Gcm.{cipher_of, counter_block, encrypted, nonce_of}
 use Rattle.aes_gcm.proofs.Streams.{encrypted_twice}
 use Rattle.aes_gcm.proofs.HeldKeys.{under_is, length-under}

@@ -1,4 +1,4 @@
-use Rattle.std.proofs.Common.{◌≡◌, ◌∙◌, ap, arith, rules}
+use Rattle.std.proofs.Common.{◌≡◌, ◌∙◌, ap, arith}
 use Rattle.aes_gcm.specs.Aes.{xored, cipher, rounds}
 use Rattle.aes_gcm.proofs.Rounds.{rounds_more}
 use Rattle.aes_gcm.proofs.cipher.encrypt.Goals as goal

@@ -1,4 +1,3 @@
-use Rattle.std.proofs.Common.{refl}
 use Rattle.aes_gcm.specs.Aes.{mix_column, mix_columns}
 use Rattle.aes_gcm.proofs.cipher.mix_columns.Goals as goal
 

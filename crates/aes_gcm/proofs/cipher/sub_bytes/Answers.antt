@@ -1,4 +1,4 @@
-use Rattle.std.proofs.Common.{◌≡◌, ◌<◌, ◌≤◌, ◌∙◌, ◌++◌, ap, map, get_or, length, arith, sym, refl}
+use Rattle.std.proofs.Common.{◌∙◌, map, get_or, arith}
 use Rattle.std.proofs.lemmas.List.{take_all, drop_all, append-nil, get_or_default}
 use Rattle.std.proofs.lemmas.List.Edits.{map_over_more}
 use Rattle.aes_gcm.specs.Aes.{sub_byte, sub_bytes}

@@ -1,4 +1,4 @@
-use Rattle.std.proofs.Common.{arith, ◌≡◌}
+use Rattle.std.proofs.Common.{arith}
 use Rattle.aes_gcm.proofs.OctetLaws.{triple_is}
 use Rattle.aes_gcm.proofs.cipher.triple.Goals as goal
 

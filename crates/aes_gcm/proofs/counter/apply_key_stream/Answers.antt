@@ -1,7 +1,7 @@
-use Rattle.std.proofs.Common.{◌≡◌, ◌∙◌, ◌+◌, ◌*◌, ℕ, ◌-◌, ◌/◌, ◌≤◌, arith, sym, ap, length, refl, rules}
+use Rattle.std.proofs.Common.{◌≡◌, ◌∙◌, ◌+◌, ◌*◌, arith, sym, ap, length, refl, rules}
 use Rattle.std.specs.Prelude.{min}
 use Rattle.aes_gcm.specs.Aes.{cipher, xored}
-use Rattle.aes_gcm.specs.Gcm.{key_stream, encrypted, block_count, counter_block}
+use Rattle.aes_gcm.specs.Gcm.{key_stream, counter_block}
 use Rattle.aes_gcm.proofs.Streams.{streamed_step, streamed_rest, length-stream_more, streamed_all}
 use Rattle.aes_gcm.proofs.counter.apply_key_stream.Goals as goal
 

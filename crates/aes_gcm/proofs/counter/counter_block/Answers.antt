@@ -1,4 +1,4 @@
-use Rattle.std.proofs.Common.{◌≡◌, ◌∙◌, ◌∷◌, [], ◌++◌, arith, sym, ap, refl}
+use Rattle.std.proofs.Common.{◌∙◌, ◌∷◌, [], ◌++◌, refl}
 use Rattle.aes_gcm.specs.Gcm.{counter_block}
 use Rattle.aes_gcm.proofs.Lists.{two_parts}
 use Rattle.aes_gcm.proofs.counter.counter_block.Goals as goal

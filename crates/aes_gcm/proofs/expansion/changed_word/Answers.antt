@@ -1,5 +1,4 @@
-use Rattle.std.proofs.Common.{◌≡◌, ◌≢◌, ◌<◌, ◌%◌, ◌∙◌, sym, ap, arith}
-use Rattle.aes_gcm.specs.Aes.{changed_word, xored, sub_bytes}
+use Rattle.std.proofs.Common.{◌≢◌, ◌<◌, ◌%◌, ◌∙◌, sym, arith}
 use Rattle.aes_gcm.proofs.Schedules.{changed_at_key, changed_at_half, unchanged}
 use Rattle.aes_gcm.proofs.expansion.changed_word.Goals as goal
 use Rattle.aes_gcm.proofs.expansion.changed_word.Goals.{else-nk-gt6-via-then-nk-gt6+else-i-nk-eq4, else-nk-gt6-via-else-nk-gt6}

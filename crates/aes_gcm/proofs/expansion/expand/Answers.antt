@@ -1,6 +1,5 @@
-use Rattle.std.proofs.Common.{◌≡◌, ◌+◌, ◌-◌, ◌*◌, ◌/◌, ◌≤◌, ◌<◌, ◌∙◌, length, sym, ap, arith, rules}
+use Rattle.std.proofs.Common.{◌≡◌, ◌+◌, ◌-◌, ◌*◌, ◌/◌, ◌∙◌, length, arith, rules}
 use Rattle.std.proofs.lemmas.Slice.{take-put_mid}
-use Rattle.aes_gcm.specs.Aes.{expanded}
 use Rattle.aes_gcm.proofs.Schedules.{expanded_none, expanded_step, expanded_all}
 use Rattle.aes_gcm.proofs.expansion.expand.Goals as goal
 

@@ -1,4 +1,4 @@
-use Rattle.std.proofs.Common.{◌≡◌, ◌-◌, ◌∷◌, [], ap, arith}
+use Rattle.std.proofs.Common.{◌-◌, ◌∷◌, [], ap, arith}
 use Rattle.aes_gcm.specs.Aes.{round_constant}
 use Rattle.aes_gcm.proofs.Schedules.{powers_are}
 use Rattle.aes_gcm.proofs.expansion.round_constant.Goals as goal

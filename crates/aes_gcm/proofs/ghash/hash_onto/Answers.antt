@@ -1,4 +1,4 @@
-use Rattle.std.proofs.Common.{◌≡◌, ◌∙◌, ◌+◌, ◌*◌, ℕ, ◌-◌, ◌/◌, ◌≤◌, arith, sym, ap, length, refl}
+use Rattle.std.proofs.Common.{◌≡◌, ◌∙◌, ◌+◌, ◌/◌, arith, ap, length, refl}
 use Rattle.aes_gcm.specs.Gcm.{hashed_from, padded, block_count}
 use Rattle.aes_gcm.proofs.Hashing.{hashed_more, block_at-padded}
 use Rattle.aes_gcm.proofs.ghash.hash_onto.Goals as goal

@@ -1,4 +1,4 @@
-use Rattle.std.proofs.Common.{◌≡◌, ◌∙◌, ◌++◌, ℕ, ◌-◌, arith, sym, ap, length}
+use Rattle.std.proofs.Common.{◌∙◌, ◌++◌, ℕ, length}
 use Rattle.std.proofs.lemmas.List.{drop-replicate}
 use Rattle.aes_gcm.specs.Gcm.{element}
 use Rattle.aes_gcm.proofs.ghash.load.Goals as goal

@@ -1,4 +1,4 @@
-use Rattle.std.proofs.Common.{◌≡◌, ◌∙◌, ◌-◌, arith, sym, refl}
+use Rattle.std.proofs.Common.{◌≡◌, ◌∙◌, ◌-◌, arith, sym}
 use Rattle.std.specs.Int.Bits.{xor_zero_r}
 use Rattle.aes_gcm.specs.Gcm.{next_power, product, product_low}
 use Rattle.aes_gcm.proofs.Hashing.{product_more}

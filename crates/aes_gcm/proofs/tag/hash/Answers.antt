@@ -1,5 +1,5 @@
-use Rattle.std.proofs.Common.{◌≡◌, ◌++◌, ◌*◌, ap, length, arith, rules, refl}
-use Rattle.aes_gcm.specs.Gcm.{hashed_from, padded, block_count}
+use Rattle.std.proofs.Common.{◌≡◌, ap, length}
+use Rattle.aes_gcm.specs.Gcm.{block_count}
 use Rattle.aes_gcm.proofs.Hashing.{hashed_text_is}
 use Rattle.aes_gcm.proofs.tag.hash.Goals as goal
 

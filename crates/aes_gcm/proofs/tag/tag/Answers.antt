@@ -1,7 +1,7 @@
-use Rattle.std.proofs.Common.{◌≡◌, ◌∙◌, ap}
+use Rattle.std.proofs.Common.{◌∙◌, ap}
 use Rattle.std.specs.Int.{w128, to_be_bytes}
 use Rattle.aes_gcm.specs.Aes.{xored, cipher}
-use Rattle.aes_gcm.specs.Gcm.{ghash, hash_subkey, hashed_text, tag_under}
+use Rattle.aes_gcm.specs.Gcm.{ghash, hashed_text, tag_under}
 use Rattle.aes_gcm.proofs.tag.tag.Goals as goal
 
 pub returns : goal.returns
