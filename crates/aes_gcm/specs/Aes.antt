@@ -83,7 +83,7 @@ cipher w n s = xored (shift_rows (sub_bytes (rounds w s n))) (round_key w (n + 1
 unfoldable pub word : List ℕ → ℕ → List ℕ
 word w i = take 4 (drop (4 * i) w)
 
--- the first word's octets moved by one place
+-- a word's octets, each moved by one place
 unfoldable pub rot_word : List ℕ → List ℕ
 rot_word w = slice_index w 1 ∷ slice_index w 2 ∷ slice_index w 3 ∷ slice_index w 0 ∷ []
 
@@ -96,7 +96,7 @@ power_of_x (suc k) = times_x (power_of_x k)
 unfoldable pub round_constant : ℕ → List ℕ
 round_constant j = power_of_x (j - 1) ∷ 0 ∷ 0 ∷ 0 ∷ []
 
--- what the word before word i adds to it, where the key has nk words (FIPS 197, 5.2)
+-- what word i adds to the word nk before it, made of the word just before it, where the key has nk words (FIPS 197, 5.2)
 unfoldable pub changed_word : ℕ → ℕ → List ℕ → List ℕ
 changed_word nk i before =
     if i % nk == 0 then xored (sub_bytes (rot_word before)) (round_constant (i / nk))

@@ -91,13 +91,13 @@ fn mix_columns(s: &[u8; 16]) -> [u8; 16]
     ]
 }
 
-/// The round key number `r` of a key schedule.
-fn round_key(w: &[u8; 240], r: usize) -> &[u8]
-    requires { r ≤ 14 }
-    ensures key { result.now ≡ round_key w.now r }
+/// The round key number `round` of a key schedule.
+fn round_key(round_keys: &[u8; 240], round: usize) -> &[u8]
+    requires { round ≤ 14 }
+    ensures key { result.now ≡ round_key round_keys.now round }
     ensures len { length result.now ≡ 16 }
 {
-    &w[16 * r..16 * r + 16]
+    &round_keys[16 * round..16 * round + 16]
 }
 
 fn middle_round(state: &[u8; 16], key: &[u8]) -> [u8; 16]
@@ -122,16 +122,16 @@ fn last_round(state: &[u8; 16], key: &[u8]) -> [u8; 16]
     next
 }
 
-/// Enciphers a block in `n` rounds that mix columns and one that does not.
-pub(crate) fn encrypt(w: &[u8; 240], n: usize, block: [u8; 16]) -> [u8; 16]
-    requires { n ≤ 13 }
-    ensures { result ≡ cipher w.now n block }
+/// Enciphers a block in `middle_rounds` rounds that mix columns and one that does not.
+pub(crate) fn encrypt(round_keys: &[u8; 240], middle_rounds: usize, block: [u8; 16]) -> [u8; 16]
+    requires { middle_rounds ≤ 13 }
+    ensures { result ≡ cipher round_keys.now middle_rounds block }
 {
     let mut state = block;
-    xor_into(&mut state, round_key(w, 0));
-    for r in 0..n {
-        let next = middle_round(&state, round_key(w, r + 1));
+    xor_into(&mut state, round_key(round_keys, 0));
+    for round in 0..middle_rounds {
+        let next = middle_round(&state, round_key(round_keys, round + 1));
         state = next;
     }
-    last_round(&state, round_key(w, n + 1))
+    last_round(&state, round_key(round_keys, middle_rounds + 1))
 }

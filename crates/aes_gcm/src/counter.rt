@@ -18,13 +18,22 @@ pub(crate) fn counter_block(nonce: &[u8; 12], counter: u32) -> [u8; 16]
 }
 
 /// Exclusive-ors the key stream into `buf`, which enciphers a plaintext and deciphers a ciphertext.
-pub(crate) fn apply_key_stream(w: &[u8; 240], n: usize, nonce: &[u8; 12], buf: &mut [u8])
-    requires rounds { n ≤ 13 }
+pub(crate) fn apply_key_stream(
+    round_keys: &[u8; 240],
+    middle_rounds: usize,
+    nonce: &[u8; 12],
+    buf: &mut [u8],
+)
+    requires rounds { middle_rounds ≤ 13 }
     requires size { length buf.old ≤ MAX_LEN }
-    ensures { buf.new ≡ encrypted (cipher w.now n) nonce.now buf.old }
+    ensures { buf.new ≡ encrypted (cipher round_keys.now middle_rounds) nonce.now buf.old }
 {
     for i in 0..buf.len().div_ceil(16) {
-        let pad = encrypt(w, n, counter_block(nonce, i as u32 + 2));
+        let pad = encrypt(
+            round_keys,
+            middle_rounds,
+            counter_block(nonce, i as u32 + 2),
+        );
         let end = buf.len().min(16 * i + 16);
         xor_into(&mut buf[16 * i..end], &pad);
     }

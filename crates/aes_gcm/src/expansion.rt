@@ -26,12 +26,12 @@ fn rot_word(word: &[u8]) -> [u8; 4]
 }
 
 /// The word number `i` of a key schedule.
-fn word(w: &[u8; 240], i: usize) -> &[u8]
+fn word(words: &[u8; 240], i: usize) -> &[u8]
     requires { i < 60 }
-    ensures word { result.now ≡ word w.now i }
+    ensures word { result.now ≡ word words.now i }
     ensures len { length result.now ≡ 4 }
 {
-    &w[4 * i..4 * i + 4]
+    &words[4 * i..4 * i + 4]
 }
 
 pub(crate) fn copied(word: &[u8]) -> [u8; 4]
@@ -65,14 +65,14 @@ fn changed_word(nk: usize, i: usize, before: &[u8]) -> [u8; 4]
     }
 }
 
-fn next_word(w: &[u8; 240], nk: usize, i: usize) -> [u8; 4]
+fn next_word(words: &[u8; 240], nk: usize, i: usize) -> [u8; 4]
     requires key_words { (nk ≡ 4) ⊎ (nk ≡ 8) }
     requires after_key { nk ≤ i }
     requires in_schedule { i < 4 * (nk + 7) }
-    ensures { result ≡ xored (word w.now (i - nk)) (changed_word nk i (word w.now (i - 1))) }
+    ensures { result ≡ xored (word words.now (i - nk)) (changed_word nk i (word words.now (i - 1))) }
 {
-    let mut next = copied(word(w, i - nk));
-    xor_into(&mut next, &changed_word(nk, i, word(w, i - 1)));
+    let mut next = copied(word(words, i - nk));
+    xor_into(&mut next, &changed_word(nk, i, word(words, i - 1)));
     next
 }
 
@@ -81,9 +81,9 @@ fn begun(key: &[u8]) -> [u8; 240]
     requires { length key.now ≤ 240 }
     ensures { take (length key.now) result ≡ key.now }
 {
-    let mut w = [0; 240];
-    w[..key.len()].copy_from_slice(key);
-    w
+    let mut words = [0; 240];
+    words[..key.len()].copy_from_slice(key);
+    words
 }
 
 /// The key schedule of a key of 16 or 32 octets, followed by zeros in the first case.
@@ -91,11 +91,11 @@ pub(crate) fn expand(key: &[u8]) -> [u8; 240]
     requires { (length key.now ≡ 16) ⊎ (length key.now ≡ 32) }
     ensures { take (16 * (length key.now / 4 + 7)) result ≡ schedule key.now }
 {
-    let mut w = begun(key);
+    let mut words = begun(key);
     let nk = key.len() / 4;
     for i in nk..4 * (nk + 7) {
-        let next = next_word(&w, nk, i);
-        w[4 * i..4 * i + 4].copy_from_slice(&next);
+        let next = next_word(&words, nk, i);
+        words[4 * i..4 * i + 4].copy_from_slice(&next);
     }
-    w
+    words
 }

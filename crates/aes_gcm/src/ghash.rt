@@ -8,11 +8,11 @@ ghost use Rattle.aes_gcm.specs.Gcm.{block_count, element, hashed_from, padded, p
 const REDUCTION: u128 = 0xe1 << 120;
 
 /// The product of two elements (SP 800-38D, section 6.3).
-fn multiply(a: u128, h: u128) -> u128
-    ensures { result ≡ product a h }
+fn multiply(a: u128, b: u128) -> u128
+    ensures { result ≡ product a b }
 {
     let mut sum = 0;
-    let mut power = h;
+    let mut power = b;
     for i in 0..128u32 {
         sum ^= (a >> (127 - i)) % 2 * power;
         power = (power >> 1) ^ (power % 2 * REDUCTION);
@@ -30,14 +30,14 @@ pub(crate) fn load(octets: &[u8]) -> u128
     u128::from_be_bytes(block)
 }
 
-/// Hashes the blocks of `octets`, the last of them completed by zeros, onto `y`.
-pub(crate) fn hash_onto(h: u128, y: u128, octets: &[u8]) -> u128
-    ensures { result ≡ hashed_from h y (padded octets.now) (block_count (length octets.now)) }
+/// Hashes the blocks of `octets`, the last of them completed by zeros, onto `before`.
+pub(crate) fn hash_onto(subkey: u128, before: u128, octets: &[u8]) -> u128
+    ensures { result ≡ hashed_from subkey before (padded octets.now) (block_count (length octets.now)) }
 {
-    let mut sum = y;
+    let mut sum = before;
     for i in 0..octets.len().div_ceil(16) {
         let end = octets.len().min(16 * i + 16);
-        sum = multiply(sum ^ load(&octets[16 * i..end]), h);
+        sum = multiply(sum ^ load(&octets[16 * i..end]), subkey);
     }
     sum
 }

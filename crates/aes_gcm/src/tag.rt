@@ -23,32 +23,32 @@ fn length_block(aad: usize, ciphertext: usize) -> [u8; 16]
     block
 }
 
-fn hash(h: u128, aad: &[u8], ciphertext: &[u8]) -> u128
+fn hash(subkey: u128, aad: &[u8], ciphertext: &[u8]) -> u128
     requires aad_size { length aad.now ≤ MAX_LEN }
     requires size { length ciphertext.now ≤ MAX_LEN }
-    ensures { result ≡ ghash h (hashed_text aad.now ciphertext.now) }
+    ensures { result ≡ ghash subkey (hashed_text aad.now ciphertext.now) }
 {
-    let hashed = hash_onto(h, hash_onto(h, 0, aad), ciphertext);
-    hash_onto(h, hashed, &length_block(aad.len(), ciphertext.len()))
+    let hashed = hash_onto(subkey, hash_onto(subkey, 0, aad), ciphertext);
+    hash_onto(subkey, hashed, &length_block(aad.len(), ciphertext.len()))
 }
 
-/// The tag under the key schedule `w`, whose hash subkey is `h`.
+/// The tag under the key schedule `round_keys`, whose hash subkey is `subkey`.
 pub(crate) fn tag(
-    w: &[u8; 240],
-    n: usize,
-    h: u128,
+    round_keys: &[u8; 240],
+    middle_rounds: usize,
+    subkey: u128,
     nonce: &[u8; 12],
     aad: &[u8],
     ciphertext: &[u8],
 ) -> [u8; 16]
-    requires rounds { n ≤ 13 }
-    requires subkey { h ≡ hash_subkey (cipher w.now n) }
+    requires rounds { middle_rounds ≤ 13 }
+    requires hash_subkey { subkey ≡ hash_subkey (cipher round_keys.now middle_rounds) }
     requires aad_size { length aad.now ≤ MAX_LEN }
     requires size { length ciphertext.now ≤ MAX_LEN }
-    ensures { result ≡ tag_under (cipher w.now n) nonce.now aad.now ciphertext.now }
+    ensures { result ≡ tag_under (cipher round_keys.now middle_rounds) nonce.now aad.now ciphertext.now }
 {
-    let mut tag = encrypt(w, n, counter_block(nonce, 1));
-    xor_into(&mut tag, &hash(h, aad, ciphertext).to_be_bytes());
+    let mut tag = encrypt(round_keys, middle_rounds, counter_block(nonce, 1));
+    xor_into(&mut tag, &hash(subkey, aad, ciphertext).to_be_bytes());
     tag
 }
 

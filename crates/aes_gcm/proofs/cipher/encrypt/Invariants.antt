@@ -2,5 +2,5 @@ use Rattle.std.proofs.Common.{◌≡◌}
 use Rattle.aes_gcm.specs.Aes.{rounds}
 use Rattle.aes_gcm.proofs.cipher.encrypt.Given as goal
 
-abbrev pub invariant-loop-r : goal.invariant-loop-r
-invariant-loop-r l = l.state ≡ rounds l.w l.fn.block l.r
+abbrev pub invariant-loop-round : goal.invariant-loop-round
+invariant-loop-round l = l.state ≡ rounds l.round_keys l.fn.block l.round

@@ -4,4 +4,4 @@ use Rattle.aes_gcm.proofs.cipher.round_key.Goals as goal
 
 pub returns-clause-key : goal.returns-clause-key
 unfolding round_key
-returns-clause-key c = let width : 16 * c.args.r + 16 - 16 * c.args.r ≡ 16 = omega arith in rw width
+returns-clause-key c = let width : 16 * c.args.round + 16 - 16 * c.args.round ≡ 16 = omega arith in rw width

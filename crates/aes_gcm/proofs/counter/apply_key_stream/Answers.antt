@@ -11,7 +11,7 @@ loop-i-init c = record { done = refl; rest = refl; stream_length = refl }
 
 pub loop-i-preserved : goal.loop-i-preserved
 loop-i-preserved c =
-    let f = cipher c.args.w.now c.args.n in
+    let f = cipher c.args.round_keys.now c.args.middle_rounds in
     let nonce = c.args.nonce.now in
     let xs = c.args.buf.now in
     let now = c.loop-i.buf in
@@ -33,4 +33,4 @@ loop-i-preserved c =
 
 pub returns : goal.returns
 returns c =
-    streamed_all (cipher c.args.w.now c.args.n) c.args.nonce.now c.args.buf.now c.loop-i.buf c.loop-i.i (omega arith) c.loop-i.auto.buf c.loop-i.invariant.done
+    streamed_all (cipher c.args.round_keys.now c.args.middle_rounds) c.args.nonce.now c.args.buf.now c.loop-i.buf c.loop-i.i (omega arith) c.loop-i.auto.buf c.loop-i.invariant.done

@@ -5,7 +5,7 @@ use Rattle.aes_gcm.proofs.counter.apply_key_stream.Given as goal
 
 abbrev pub invariant-loop-i : goal.invariant-loop-i
 invariant-loop-i l = record {
-  done : take (16 * l.i) l.buf ≡ xored (take (16 * l.i) l.initial.buf) (key_stream (cipher l.w l.n) l.nonce l.i);
+  done : take (16 * l.i) l.buf ≡ xored (take (16 * l.i) l.initial.buf) (key_stream (cipher l.round_keys l.middle_rounds) l.nonce l.i);
   rest : drop (16 * l.i) l.buf ≡ drop (16 * l.i) l.initial.buf;
-  stream_length : length (key_stream (cipher l.w l.n) l.nonce l.i) ≡ 16 * l.i;
+  stream_length : length (key_stream (cipher l.round_keys l.middle_rounds) l.nonce l.i) ≡ 16 * l.i;
 }

@@ -3,4 +3,4 @@ use Rattle.aes_gcm.specs.Aes.{expanded}
 use Rattle.aes_gcm.proofs.expansion.expand.Given as goal
 
 abbrev pub invariant-loop-i : goal.invariant-loop-i
-invariant-loop-i l = take (4 * l.i) l.w ≡ expanded l.key l.nk (l.i - l.nk)
+invariant-loop-i l = take (4 * l.i) l.words ≡ expanded l.key l.nk (l.i - l.nk)

@@ -11,10 +11,10 @@ pub loop-i-preserved : goal.loop-i-preserved
 loop-i-preserved c =
     let xs = c.args.octets.now in
     let block = block_at-padded xs c.loop-i.i c.min-end.result c.min-end.ensures (omega arith) in
-    cc (block, hashed_more c.args.h c.args.y (padded xs) c.loop-i.i, c.multiply-sum.ensures, c.load.ensures, c.loop-i.invariant)
+    cc (block, hashed_more c.args.subkey c.args.before (padded xs) c.loop-i.i, c.multiply-sum.ensures, c.load.ensures, c.loop-i.invariant)
 
 pub returns : goal.returns
 unfolding block_count
 returns c =
     let all : c.loop-i.i ≡ (length c.args.octets.now + 15) / 16 = omega arith in
-    c.loop-i.invariant ∙ ap (hashed_from c.args.h c.args.y (padded c.args.octets.now)) all
+    c.loop-i.invariant ∙ ap (hashed_from c.args.subkey c.args.before (padded c.args.octets.now)) all

@@ -3,4 +3,4 @@ use Rattle.aes_gcm.specs.Gcm.{hashed_from, padded}
 use Rattle.aes_gcm.proofs.ghash.hash_onto.Given as goal
 
 abbrev pub invariant-loop-i : goal.invariant-loop-i
-invariant-loop-i l = l.sum ≡ hashed_from l.h l.y (padded l.octets) l.i
+invariant-loop-i l = l.sum ≡ hashed_from l.subkey l.before (padded l.octets) l.i
