@@ -1,0 +1,5 @@
+pub mod Openings
+pub mod Packets
+pub mod Plaintexts
+pub mod SealedPackets
+pub mod Seals

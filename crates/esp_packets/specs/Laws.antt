@@ -1,0 +1,33 @@
+-- What holds of sealed packets and of the answers to them.
+use Rattle.std.specs.Prelude.{◌≡◌, ℕ, ◌+◌, ◌%◌, ◌^◌, ◌<◌, ◌≤◌, ◌⊎◌, List, length, Result, Ok, false}
+use Rattle.ha_base.specs.declared.esp_outcomes.EspOpened.{EspOpened}
+use Rattle.ha_base.specs.declared.esp_outcomes.EspDrop.{EspDrop}
+use Rattle.replay_set.specs.Window.{Window, IsMeant, is_noted}
+use Rattle.esp_packets.specs.Packet.{IsDatagram, IsAnswer, pad_length, payload_in}
+
+-- the padding makes a multiple of four, and no shorter one does
+abbrev pub PaddingIsShortest : Type 0
+PaddingIsShortest =
+    (payload_length : ℕ) → ((payload_length + pad_length payload_length + 2) % 4 ≡ 0)
+    × ((shorter : ℕ) → (payload_length + shorter + 2) % 4 ≡ 0 → pad_length payload_length ≤ shorter)
+
+-- a number that a receiver takes: from the base on, in the window or above it, and meant by its low half
+pub record Covers (window : Window) (number : ℕ) : Type 0 where
+  pub from_base : window.base ≤ number
+  pub meant : IsMeant window (number % 2 ^ 32) number
+  pub below_end : number < 2 ^ 63
+
+-- the answer accepts this payload with this number
+pub record Accepts (number : ℕ) (payload : List ℕ) (next_header : ℕ) (answer : Result EspOpened EspDrop) (after : List ℕ) : Type 0 where
+  pub packet : EspOpened
+  pub accepted : answer ≡ Ok packet
+  pub number_is : packet.number ≡ number
+  pub next_header_is : packet.next_header ≡ next_header
+  pub payload_is : payload_in packet after ≡ payload
+
+-- what was sealed is accepted with its number and payload, where the number is covered and was not received
+abbrev pub SealedPacketsOpen : Type 0
+SealedPacketsOpen =
+    (key : List ℕ) (spi number : ℕ) (payload : List ℕ) (next_header : ℕ) (octets : List ℕ) (window : Window) (answer : Result EspOpened EspDrop) (after : List ℕ) →
+    (length key ≡ 20) ⊎ (length key ≡ 36) → spi < 2 ^ 32 → IsDatagram key spi number payload next_header octets → Covers window number →
+    is_noted window number ≡ false → IsAnswer key spi window octets answer after → Accepts number payload next_header answer after

@@ -1,0 +1,93 @@
+ghost use Rattle.std.specs.Prelude.{◌≡◌, ◌+◌, ◌%◌, ◌^◌, ◌≤◌, List, ℕ, length, take, drop};
+ghost use Rattle.std.specs.Int.{w32, to_be_bytes};
+ghost use Rattle.std.specs.Bool.{OnTrue, OnFalse};
+ghost use Rattle.esp_packets.specs.Packet.{IsAnswer, IsPacket, Opens, opened, iv_of};
+ghost use Rattle.esp_packets.specs.Answers.{IsNumberAnswer, IsPlainAnswer};
+
+use super::packet::{CHECK_VALUE, HEADER, associated, check_value, read_u32, read_u64};
+use aes_gcm::{Key, open_in_place, sealing_laws};
+use ha_base::{EspDrop, EspOpened};
+use replay_set::{Judgement, ReplaySet};
+
+/// How many octets a packet has at least: its header, pad length, next header and integrity check value.
+const SHORTEST: usize = 34;
+
+/// Opens in place a packet that came to this SPI, and tells where its payload lies (RFC 4303, section 3.4).
+///
+/// The error is the first check that fails. The octets stay as they were but where the last check, that of the pad
+/// length, is the one that fails.
+pub fn open_packet(
+    key: &Key,
+    spi: u32,
+    set: &ReplaySet,
+    bytes: &mut [u8],
+) -> Result<EspOpened, EspDrop>
+    requires { length bytes.old ≤ 65536 }
+    ensures { IsAnswer key.now.octets spi set.now bytes.old result bytes.new }
+{
+    if bytes.len() < SHORTEST {
+        return Err(EspDrop::Short);
+    }
+    if read_u32(&bytes[..4]) != spi {
+        return Err(EspDrop::WrongSpi);
+    }
+    let number = fresh_number(set, read_u32(&bytes[4..8]))?;
+    if !open_text(key, spi, number, bytes) {
+        return Err(EspDrop::NotOpened);
+    }
+    accepted(number, &bytes[HEADER..bytes.len() - CHECK_VALUE])
+}
+
+/// The number that is meant, where it was not received.
+fn fresh_number(set: &ReplaySet, low32: u32) -> Result<u64, EspDrop>
+    ensures { IsNumberAnswer set.now low32 result }
+{
+    let number = set.meant(low32).ok_or(EspDrop::Stale)?;
+    match set.judge(number) {
+        Judgement::Stale => Err(EspDrop::Stale),
+        Judgement::Seen => Err(EspDrop::Seen),
+        Judgement::Fresh => Ok(number),
+    }
+}
+
+/// Opens the ciphertext in place, and answers whether its integrity check value holds.
+fn open_text(key: &Key, spi: u32, number: u64, bytes: &mut [u8]) -> bool
+    requires long { 34 ≤ length bytes.old }
+    requires named { to_be_bytes w32 spi ≡ take 4 bytes.old }
+    requires low_half { to_be_bytes w32 (number % 2 ^ 32) ≡ take 4 (drop 4 bytes.old) }
+    requires size { length bytes.old ≤ 65536 }
+    ensures opened { OnTrue result ((plain : List ℕ) × Opens key.now.octets spi number bytes.old plain × (length plain + 32 ≡ length bytes.old) × (bytes.new ≡ opened bytes.old plain)) }
+    ensures refused { OnFalse result ((bytes.new ≡ bytes.old) × ((plain : List ℕ) → ¬ IsPacket key.now.octets spi number (iv_of bytes.old) plain bytes.old)) }
+{
+    // A key has 20 or 36 octets, so sealing keeps lengths, and a packet has its parts in one way.
+    sealing_laws();
+    let _name = key.name();
+    let end = bytes.len() - CHECK_VALUE;
+    let tag = check_value(&bytes[end..]);
+    let iv = read_u64(&bytes[8..HEADER]);
+    open_in_place(
+        key,
+        iv,
+        &associated(spi, number),
+        &mut bytes[HEADER..end],
+        &tag,
+    )
+}
+
+/// A packet of this number by its plaintext, where the pad length fits it.
+fn accepted(number: u64, plain: &[u8]) -> Result<EspOpened, EspDrop>
+    requires { 2 ≤ length plain.now }
+    ensures { IsPlainAnswer number plain.now result }
+{
+    let pad = usize::from(plain[plain.len() - 2]);
+    let next_header = plain[plain.len() - 1];
+    if plain.len() < pad + 2 {
+        return Err(EspDrop::Padding);
+    }
+    Ok(EspOpened {
+        number,
+        next_header,
+        start: HEADER,
+        length: plain.len() - 2 - pad,
+    })
+}

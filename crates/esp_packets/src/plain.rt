@@ -1,0 +1,26 @@
+ghost use Rattle.std.specs.Prelude.{◌≡◌, ◌+◌, ◌<◌, ◌≤◌, length, take, MatchOption, IfSome, IsSome, ◌↔◌};
+ghost use Rattle.esp_packets.specs.Packet.{plain_of, pad_length, pad_length_in, next_header_in};
+
+/// How many octets a payload has at most.
+pub const MAX_PAYLOAD: usize = 1400;
+
+/// How many octets a plaintext has at most, written with the shortest padding.
+pub const MAX_PLAIN: usize = 1404;
+
+/// The longest padding.
+const PADDING: [u8; 3] = [1, 2, 3];
+
+/// Writes the plaintext of a payload to the front of a buffer, and tells its length.
+pub fn write_plain(payload: &[u8], next_header: u8, buffer: &mut [u8; MAX_PLAIN]) -> usize
+    requires { length payload.now ≤ MAX_PAYLOAD }
+    ensures fits { result ≤ 1404 }
+    ensures plain { take result buffer.new ≡ plain_of payload.now next_header }
+{
+    let end = payload.len();
+    let pad = 3 - (end + 1) % 4;
+    buffer[..end].copy_from_slice(payload);
+    buffer[end..end + pad].copy_from_slice(&PADDING[..pad]);
+    buffer[end + pad] = pad as u8;
+    buffer[end + pad + 1] = next_header;
+    end + pad + 2
+}

@@ -1,0 +1,62 @@
+ghost use Rattle.std.specs.Prelude.{◌≡◌, ◌+◌, ◌≤◌, [], ◌++◌, length};
+ghost use Rattle.esp_packets.specs.Packet.{plain_of, IsDatagram};
+
+use super::packet::{CHECK_VALUE, associated, header_octets};
+use super::plain::{MAX_PAYLOAD, MAX_PLAIN, write_plain};
+use aes_gcm::{Key, seal_in_place};
+use ha_base::Octets;
+use spend_once::Number;
+
+/// Writes to `out` the plaintext that is sealed for a payload of at most 1,400 octets: the payload, the shortest
+/// padding, the pad length and the next header (RFC 4303, section 2).
+pub fn spell_plain(payload: &[u8], next_header: u8, out: &mut Octets)
+    requires empty { out.old.octets ≡ [] }
+    requires room { 2048 ≤ out.old.spare }
+    requires size { length payload.now ≤ MAX_PAYLOAD }
+    ensures { out.new.octets ≡ plain_of payload.now next_header }
+{
+    let mut buffer = [0; MAX_PLAIN];
+    let end = write_plain(payload, next_header, &mut buffer);
+    append(out, &buffer[..end]);
+}
+
+/// Writes to `out` the ESP packet of a payload of at most 1,400 octets. Its sequence number and its IV are the number,
+/// which is spent.
+pub fn seal_packet(
+    key: &Key,
+    spi: u32,
+    n: Number,
+    payload: &[u8],
+    next_header: u8,
+    out: &mut Octets,
+)
+    requires named { n.name ≡ key.now.name }
+    requires empty { out.old.octets ≡ [] }
+    requires room { 2048 ≤ out.old.spare }
+    requires size { length payload.now ≤ MAX_PAYLOAD }
+    ensures { IsDatagram key.now.octets spi n.value payload.now next_header out.new.octets }
+{
+    let number = n.value();
+    let mut buffer = [0; MAX_PLAIN];
+    let end = write_plain(payload, next_header, &mut buffer);
+    let mut tag = [0; CHECK_VALUE];
+    seal_in_place(
+        key,
+        n,
+        &associated(spi, number),
+        &mut buffer[..end],
+        &mut tag,
+    );
+    append(out, &header_octets(spi, number, number));
+    append(out, &buffer[..end]);
+    append(out, &tag);
+}
+
+/// Appends octets for which there is room.
+fn append(out: &mut Octets, octets: &[u8])
+    requires { length octets.now ≤ out.old.spare }
+    ensures octets { out.new.octets ≡ out.old.octets ++ octets.now }
+    ensures spare { out.old.spare ≤ out.new.spare + length octets.now }
+{
+    out.extend(octets).unwrap();
+}
