@@ -59,9 +59,8 @@ fn open_text(key: &Key, spi: u32, number: u64, bytes: &mut [u8]) -> bool
     ensures opened { OnTrue result ((plain : List ℕ) × Opens key.now.octets spi number bytes.old plain × (length plain + 32 ≡ length bytes.old) × (bytes.new ≡ opened bytes.old plain)) }
     ensures refused { OnFalse result ((bytes.new ≡ bytes.old) × ((plain : List ℕ) → ¬ IsPacket key.now.octets spi number (iv_of bytes.old) plain bytes.old)) }
 {
-    // A key has 20 or 36 octets, so sealing keeps lengths, and a packet has its parts in one way.
+    // Sealing keeps lengths, so a packet has its parts in one way only.
     sealing_laws();
-    let _name = key.name();
     let end = bytes.len() - CHECK_VALUE;
     let tag = check_value(&bytes[end..]);
     let iv = read_u64(&bytes[8..HEADER]);

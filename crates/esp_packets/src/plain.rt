@@ -1,5 +1,5 @@
-ghost use Rattle.std.specs.Prelude.{◌≡◌, ◌+◌, ◌<◌, ◌≤◌, length, take, MatchOption, IfSome, IsSome, ◌↔◌};
-ghost use Rattle.esp_packets.specs.Packet.{plain_of, pad_length, pad_length_in, next_header_in};
+ghost use Rattle.std.specs.Prelude.{◌≡◌, ◌≤◌, length, take};
+ghost use Rattle.esp_packets.specs.Packet.{plain_of};
 
 /// How many octets a payload has at most.
 pub const MAX_PAYLOAD: usize = 1400;

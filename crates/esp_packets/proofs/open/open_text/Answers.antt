@@ -12,7 +12,7 @@ pub returns-clause-opened : goal.returns-clause-opened
 returns-clause-opened c =
     let size : length c.open_in_place.new.buf ≡ length c.args.bytes.now - 16 - 16 =
     c.open_in_place.auto.buf ∙ length-take-le (length c.args.bytes.now - 16 - 16) (drop 16 c.args.bytes.now) (omega (arith, length-drop 16 c.args.bytes.now)) in
-    opens c.args.key.now.octets (c.sealing_laws.ensures c.args.key.now.octets c.name-name.ensures.size) c.args.spi c.args.number c.read_u64-iv.result
+    opens c.args.key.now.octets (c.sealing_laws.ensures c.args.key.now.octets c.open_in_place.ensures.key_size) c.args.spi c.args.number c.read_u64-iv.result
     c.args.bytes.now c.open_in_place.new.buf c.associated.result c.check_value-tag.result c.requires.long (front c) c.read_u64-iv.ensures.value
     c.associated.ensures (c.check_value-tag.ensures ∙ take_rest c.args.bytes.now (length c.args.bytes.now - 16)) c.open_in_place.result
     c.open_in_place.ensures.opened
@@ -20,7 +20,7 @@ returns-clause-opened c =
 
 pub returns-clause-refused : goal.returns-clause-refused
 returns-clause-refused c =
-    refuses c.args.key.now.octets (c.sealing_laws.ensures c.args.key.now.octets c.name-name.ensures.size) c.args.spi c.args.number c.read_u64-iv.result
+    refuses c.args.key.now.octets (c.sealing_laws.ensures c.args.key.now.octets c.open_in_place.ensures.key_size) c.args.spi c.args.number c.read_u64-iv.result
     c.args.bytes.now c.open_in_place.new.buf c.associated.result c.check_value-tag.result c.requires.long (front c) c.read_u64-iv.ensures.value
     c.associated.ensures (c.check_value-tag.ensures ∙ take_rest c.args.bytes.now (length c.args.bytes.now - 16)) c.open_in_place.result
     c.open_in_place.ensures.refused
