@@ -1,4 +1,4 @@
-ghost use Rattle.std.specs.Prelude.{◌≡◌, ◌+◌, ◌%◌, ◌^◌, ◌≤◌, List, ℕ, length, take, drop};
+ghost use Rattle.std.specs.Prelude.{◌≡◌, ◌+◌, ◌%◌, ◌^◌, ◌≤◌, List, ℕ, IfOk, length, take, drop};
 ghost use Rattle.std.specs.Int.{w32, to_be_bytes};
 ghost use Rattle.std.specs.Bool.{OnTrue, OnFalse};
 ghost use Rattle.esp_packets.specs.Packet.{IsAnswer, IsPacket, Opens, opened, iv_of};
@@ -23,7 +23,8 @@ pub fn open_packet(
     bytes: &mut [u8],
 ) -> Result<EspOpened, EspDrop>
     requires { length bytes.old ≤ 65536 }
-    ensures { IsAnswer key.now.octets spi set.now bytes.old result bytes.new }
+    ensures answer { IsAnswer key.now.octets spi set.now bytes.old result bytes.new }
+    ensures within { IfOk result (λ packet. packet.start + packet.length ≤ length bytes.new) }
 {
     if bytes.len() < SHORTEST {
         return Err(EspDrop::Short);

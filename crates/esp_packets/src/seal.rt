@@ -21,7 +21,7 @@ pub fn spell_plain(payload: &[u8], next_header: u8, out: &mut Octets)
 }
 
 /// Writes to `out` the ESP packet of a payload of at most 1,400 octets. Its sequence number and its IV are the number,
-/// which is spent.
+/// which is spent. It has at most 1,436 octets.
 pub fn seal_packet(
     key: &Key,
     spi: u32,
@@ -34,7 +34,8 @@ pub fn seal_packet(
     requires empty { out.old.octets ≡ [] }
     requires room { 2048 ≤ out.old.spare }
     requires size { length payload.now ≤ MAX_PAYLOAD }
-    ensures { IsDatagram key.now.octets spi n.value payload.now next_header out.new.octets }
+    ensures datagram { IsDatagram key.now.octets spi n.value payload.now next_header out.new.octets }
+    ensures short { length out.new.octets ≤ 1436 }
 {
     let number = n.value();
     let mut buffer = [0; MAX_PLAIN];

@@ -3,8 +3,8 @@ use Rattle.esp_packets.proofs.Seals.{packet_written, sealed_front}
 use Rattle.esp_packets.specs.Packet.{header, associated_data, plain_of}
 use Rattle.esp_packets.proofs.seal.seal_packet.Goals as goal
 
-pub returns : goal.returns
-returns c =
+pub returns-clause-datagram : goal.returns-clause-datagram
+returns-clause-datagram c =
     let first : c.append.new.out.octets ≡ [] ++ c.header_octets.result = rw c.requires.empty at c.append.ensures.octets in
     let front : c.header_octets.result ≡ header c.args.spi c.args.n.value c.args.n.value = rw c.value-number.ensures at c.header_octets.ensures in
     let associated : c.associated.result ≡ associated_data c.args.spi c.args.n.value = rw c.value-number.ensures at c.associated.ensures in
