@@ -1,5 +1,5 @@
 -- What was sealed is accepted.
-use Rattle.std.proofs.Common.{◌≡◌, ℕ, ◌+◌, ◌-◌, ◌%◌, ◌^◌, ◌<◌, ◌≤◌, List, [], ◌∷◌, ◌++◌, false, length, get_or, take, drop, refl, sym, ap, subst, ◌∙◌, append_assoc, arith}
+use Rattle.std.proofs.Common.{◌≡◌, ℕ, ◌+◌, ◌-◌, ◌%◌, ◌^◌, ◌<◌, ◌≤◌, List, [], ◌∷◌, ◌++◌, length, get_or, take, drop, refl, sym, ap, subst, ◌∙◌, append_assoc, arith}
 use Rattle.std.specs.Prelude.{Result, Ok, Err}
 use Rattle.std.specs.Int.{w32, w64, to_be_bytes, from_be_bytes}
 use Rattle.std.specs.List.{range_with_len}
@@ -9,11 +9,10 @@ use Rattle.ha_base.specs.declared.esp_outcomes.EspOpened.{EspOpened}
 use Rattle.ha_base.specs.declared.esp_outcomes.EspDrop.{EspDrop}
 use Rattle.ha_base.specs.declared.esp_outcomes.EspDrop.TheVariants.{Short, WrongSpi, Stale, Seen, NotOpened, Padding}
 use Rattle.aes_gcm.specs.Sealing.{IsSealing}
-use Rattle.replay_set.specs.Window.{Window, IsMeant, is_noted, judged}
+use Rattle.replay_set.specs.Window.{Window, IsMeant, judged}
 use Rattle.replay_set.specs.Laws.{MeaningIsUnique}
 use Rattle.replay_set.specs.declared.judgement.Judgement.{Judgement}
 use Rattle.replay_set.specs.declared.judgement.Judgement.TheVariants.{Stale as JudgedStale, Seen as JudgedSeen, Fresh}
-use Rattle.replay_set.proofs.Numbers.{judged-not_noted}
 use Rattle.esp_packets.specs.Packet.{IsPacket, IsDatagram, IsAnswer, Opens, Means, pad_length, plain_of, pad_length_in, next_header_in, spi_of, low_half_of, iv_of, opened}
 use Rattle.esp_packets.specs.Laws.{Covers, Accepts}
 use Rattle.esp_packets.proofs.Packets.{low_octets, packet_length}
@@ -77,7 +76,7 @@ module _ (key : List ℕ) (spi number iv : ℕ) (plain octets : List ℕ) (packe
       ap (from_be_bytes w64) field ∙ from_be_bytes-to_be_bytes_8 iv small
 
 module _ (unique : MeaningIsUnique) (key : List ℕ) (sealing : IsSealing key) (spi number : ℕ) (payload : List ℕ) (next_header : ℕ) (octets : List ℕ) (window : Window)
-    (after : List ℕ) (small : spi < 2 ^ 32) (packet : IsDatagram key spi number payload next_header octets) (covers : Covers window number) (unseen : is_noted window number ≡ false) where
+    (after : List ℕ) (small : spi < 2 ^ 32) (packet : IsDatagram key spi number payload next_header octets) (covers : Covers window number) (fresh : judged window number ≡ Fresh) where
   plain : List ℕ
   plain = plain_of payload next_header
 
@@ -92,9 +91,6 @@ module _ (unique : MeaningIsUnique) (key : List ℕ) (sealing : IsSealing key) (
 
   means : Means window octets number
   means = record { meant = subst (λ l. IsMeant window l number) (sym low) covers.meant; below_end = covers.below_end }
-
-  fresh : judged window number ≡ Fresh
-  fresh = judged-not_noted window number covers.from_base covers.meant.reached unseen
 
   -- no other number is meant
   only : (other : ℕ) → Means window octets other → other ≡ number

@@ -1,8 +1,9 @@
 -- What holds of sealed packets and of the answers to them.
-use Rattle.std.specs.Prelude.{◌≡◌, ℕ, ◌+◌, ◌%◌, ◌^◌, ◌<◌, ◌≤◌, ◌⊎◌, List, length, Result, Ok, false}
+use Rattle.std.specs.Prelude.{◌≡◌, ℕ, ◌+◌, ◌%◌, ◌^◌, ◌<◌, ◌≤◌, ◌⊎◌, List, length, Result, Ok}
 use Rattle.ha_base.specs.declared.esp_outcomes.EspOpened.{EspOpened}
 use Rattle.ha_base.specs.declared.esp_outcomes.EspDrop.{EspDrop}
-use Rattle.replay_set.specs.Window.{Window, IsMeant, is_noted}
+use Rattle.replay_set.specs.Window.{Window, IsMeant, judged}
+use Rattle.replay_set.specs.declared.judgement.Judgement.TheVariants.{Fresh}
 use Rattle.esp_packets.specs.Packet.{IsDatagram, IsAnswer, pad_length, payload_in}
 
 -- the padding makes a multiple of four, and no shorter one does
@@ -25,9 +26,9 @@ pub record Accepts (number : ℕ) (payload : List ℕ) (next_header : ℕ) (answ
   pub next_header_is : packet.next_header ≡ next_header
   pub payload_is : payload_in packet after ≡ payload
 
--- what was sealed is accepted with its number and payload, where the number is covered and was not received
+-- what was sealed is accepted with its number and payload, where the number is covered and fresh
 abbrev pub SealedPacketsOpen : Type 0
 SealedPacketsOpen =
     (key : List ℕ) (spi number : ℕ) (payload : List ℕ) (next_header : ℕ) (octets : List ℕ) (window : Window) (answer : Result EspOpened EspDrop) (after : List ℕ) →
     (length key ≡ 20) ⊎ (length key ≡ 36) → spi < 2 ^ 32 → IsDatagram key spi number payload next_header octets → Covers window number →
-    is_noted window number ≡ false → IsAnswer key spi window octets answer after → Accepts number payload next_header answer after
+    judged window number ≡ Fresh → IsAnswer key spi window octets answer after → Accepts number payload next_header answer after

@@ -8,7 +8,7 @@ pub fn padding_is_shortest()
     ensures { PaddingIsShortest }
 {}
 
-/// What was sealed opens with its number and payload, where the number is covered and was not received before.
+/// What was sealed opens with its number and payload, where the number is covered and fresh.
 pub fn sealed_packets_open()
     ensures { SealedPacketsOpen }
 {
