@@ -26,3 +26,6 @@ pub const MAX_ASSOCIATIONS: u64 = 1024;
 
 /// The last epoch of an association.
 pub const MAX_EPOCHS: u64 = 4096;
+
+#[cfg(test)]
+mod tests;
