@@ -1,7 +1,8 @@
 -- The association of a responder's SPI, by the place where it stands.
-use Rattle.std.proofs.Common.{◌≡◌, ◌≢◌, ℕ, zero, suc, ◌<◌, ◌==◌, true, false, List, [], ◌∷◌, ◌++◌, length, take, Some, None, get_or, ap, sym, ◌∙◌, arith}
+use Rattle.std.proofs.Common.{◌≡◌, ◌≢◌, ℕ, zero, suc, ◌<◌, ◌==◌, true, false, List, [], ◌∷◌, ◌++◌, length, take, Some, None, get_or, refl, ap, sym, ◌∙◌, arith, option_map, ⊎_elim, if◌then◌else◌}
 use Rattle.std.proofs.Math.ListN.{set}
 use Rattle.std.proofs.lemmas.Bool.{eq-eqb, ne_eqb}
+use Rattle.std.proofs.lemmas.Bool.Decides.{eqb_tells}
 use Rattle.keeper_book.specs.Book.{Entry, entry_of, edit_at}
 use Rattle.keeper_book.specs.Entries.{IsPlaceOf}
 
@@ -49,3 +50,25 @@ entry_at spir place es e is at = entry_within spir place es e is.within is.none_
 -- and it is the one that is edited
 pub edited_at : (spir place : ℕ) (edit : Entry → Entry) (es : List Entry) (e : Entry) → IsPlaceOf spir place es → e ≡ get_or es place e → edit_at spir edit es ≡ set es place (edit e)
 edited_at spir place edit es e is at = edited_within spir place edit es e is.within is.none_before (is.here e at) at
+
+-- an edit that keeps the SPI is found at its SPI
+pub entry_of-edit_same : (spir : ℕ) (edit : Entry → Entry) → ((e : Entry) → (edit e).sa.spir ≡ e.sa.spir) → (es : List Entry) → entry_of spir (edit_at spir edit es) ≡ option_map edit (entry_of spir es)
+entry_of-edit_same spir edit keeps [] = refl
+entry_of-edit_same spir edit keeps (e ∷ es) = ⊎_elim here (there (entry_of-edit_same spir edit keeps es)) (eqb_tells e.sa.spir spir)
+  where
+    here : ((e.sa.spir == spir) ≡ true) × (e.sa.spir ≡ spir) → entry_of spir (edit_at spir edit (e ∷ es)) ≡ option_map edit (entry_of spir (e ∷ es))
+    here t = ap (entry_of spir) (edit_at-here spir edit e es t.1) ∙ (entry_of-here spir (edit e) es (keeps e ∙ t.1) ∙ sym (ap (option_map edit) (entry_of-here spir e es t.1)))
+
+    there : entry_of spir (edit_at spir edit es) ≡ option_map edit (entry_of spir es) → ((e.sa.spir == spir) ≡ false) × (e.sa.spir ≢ spir) → entry_of spir (edit_at spir edit (e ∷ es)) ≡ option_map edit (entry_of spir (e ∷ es))
+    there rest t = ap (entry_of spir) (edit_at-there spir edit e es t.1) ∙ (entry_of-there spir e (edit_at spir edit es) t.1 ∙ (rest ∙ sym (ap (option_map edit) (entry_of-there spir e es t.1))))
+
+-- and changes nothing that is found at another
+pub entry_of-edit_other : (spir other : ℕ) (edit : Entry → Entry) → ((e : Entry) → (edit e).sa.spir ≡ e.sa.spir) → other ≢ spir → (es : List Entry) → entry_of other (edit_at spir edit es) ≡ entry_of other es
+entry_of-edit_other spir other edit keeps d [] = refl
+entry_of-edit_other spir other edit keeps d (e ∷ es) = ⊎_elim here (there (entry_of-edit_other spir other edit keeps d es)) (eqb_tells e.sa.spir spir)
+  where
+    here : ((e.sa.spir == spir) ≡ true) × (e.sa.spir ≡ spir) → entry_of other (edit_at spir edit (e ∷ es)) ≡ entry_of other (e ∷ es)
+    here t = ap (entry_of other) (edit_at-here spir edit e es t.1) ∙ (entry_of-there other (edit e) es (λ h. d (sym h ∙ (keeps e ∙ t.1))) ∙ sym (entry_of-there other e es (λ h. d (sym h ∙ t.1))))
+
+    there : entry_of other (edit_at spir edit es) ≡ entry_of other es → ((e.sa.spir == spir) ≡ false) × (e.sa.spir ≢ spir) → entry_of other (edit_at spir edit (e ∷ es)) ≡ entry_of other (e ∷ es)
+    there rest t = ap (entry_of other) (edit_at-there spir edit e es t.1) ∙ ap (λ o. if (e.sa.spir == other) then Some e else o) rest

@@ -48,7 +48,7 @@ passed_cause before now asked answered call is cause = record {
 }
 
 -- the gate g has the keeper, the calls and the mark that the three functions give
-pub passed : {K G : Type 0} {book : K → Option Book} {told : K → Option (List Call)} {faults : K → ℕ} {gives : K → Call → K → Type 0} (keeper : G → K) (calls : G → List Call) (missed : G → Bool) (old new : G) (asked : KeeperAsk) (answered : KeeperAnswer) (made call : Call) (mid : K) → IsCallOf asked answered call → Spoken book told faults gives (keeper old) (call ∷ []) mid → keeper new ≡ mid → made ≡ recorded asked answered → calls new ≡ kept (calls old) made → missed new ≡ missed_one (calls old) (missed old) → (x : Call) × IsCallOf asked answered x × Spoken (λ g. book (keeper g)) (λ g. told_calls (missed g) (calls g)) (λ g. faults (keeper g)) (λ g called h. PassedOn gives (keeper g) (calls g) (missed g) called (keeper h) (calls h) (missed h)) old (x ∷ []) new
+pub passed : {K G : Type 0} {book : K → Option Book} {told : K → Option (List Call)} {faults : K → ℕ} {gives : K → Call → K → Type 0} (keeper : G → K) (calls : G → List Call) (missed : G → Bool) (old new : G) (asked : KeeperAsk) (answered : KeeperAnswer) (made call : Call) (mid : K) → IsCallOf asked answered call → Spoken book told faults gives (keeper old) (call ∷ []) mid → keeper new ≡ mid → made ≡ recorded asked answered → calls new ≡ kept (calls old) made → missed new ≡ missed_one (calls old) (missed old) → (x : Call) × IsCallOf asked answered x × Spoken (λ g. book (keeper g)) (λ g. told_calls (missed g) (calls g)) (λ g. faults (keeper g)) (λ g called h. PassedOn book told faults gives (keeper g) (calls g) (missed g) called (keeper h) (calls h) (missed h)) old (x ∷ []) new
 passed {K} {G} {book} {told} {faults} {gives} keeper calls missed old new asked answered made call mid is spoken same made_is k m =
     let called = subst (λ s. Spoken book told faults gives (keeper old) (call ∷ []) s) (sym same) spoken in
     let keeps = subst (λ c. calls new ≡ kept (calls old) c) made_is k in (
@@ -64,7 +64,7 @@ passed {K} {G} {book} {told} {faults} {gives} keeper calls missed old new asked 
             open_answer = refl;
             recorded = keeps;
             counted = m;
-            below = (call, is.asks, is.sees, subst (λ s. gives (keeper old) call s) (sym called.each.2) called.each.1);
+            below = (call, is, called);
           },
           refl,
         );

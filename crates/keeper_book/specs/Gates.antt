@@ -1,7 +1,9 @@
 -- What a gate records of the calls that it passes on.
-use Rattle.std.specs.Prelude.{◌≡◌, Bool, true, false, ◌||◌, not, nat_lt, if◌then◌else◌, Option, Some, None, List, [], ◌∷◌, ◌++◌, length}
+use Rattle.std.specs.Prelude.{ℕ, ◌≡◌, Bool, true, false, ◌||◌, not, nat_lt, if◌then◌else◌, Option, Some, None, List, [], ◌∷◌, ◌++◌, length}
 use Rattle.keeper_book.specs.declared.calls.Call.{Call}
-use Rattle.keeper_book.specs.Told.{seen}
+use Rattle.keeper_book.specs.Book.{Book}
+use Rattle.keeper_book.specs.Spoken.{Spoken}
+use Rattle.keeper_book.specs.Told.{IsCallOf}
 
 -- a gate tells its calls until it missed one
 abbrev pub told_calls : Bool → List Call → Option (List Call)
@@ -20,9 +22,10 @@ kept calls call = if has_room calls then calls ++ call ∷ [] else calls
 abbrev pub missed_one : List Call → Bool → Bool
 missed_one calls missed = missed || not (has_room calls)
 
--- A call that was passed on and answered as the keeper below answered it. Calls and answers are recorded as they were.
-pub record PassedOn {K : Type 0} (gives : K → Call → K → Type 0) (keeper : K) (calls : List Call) (missed : Bool) (call : Call) (keeper' : K) (calls' : List Call) (missed' : Bool) : Type 0 where
+-- A call that was passed on and answered as the keeper below answered it: what that keeper says of a call holds of the one
+-- that it was asked. Calls and answers are recorded as they were.
+pub record PassedOn {K : Type 0} (book : K → Option Book) (told : K → Option (List Call)) (faults : K → ℕ) (gives : K → Call → K → Type 0) (keeper : K) (calls : List Call) (missed : Bool) (call : Call) (keeper' : K) (calls' : List Call) (missed' : Bool) : Type 0 where
   pub open_answer : call.hidden ≡ false
   pub recorded : calls' ≡ kept calls call
   pub counted : missed' ≡ missed_one calls missed
-  pub below : (called : Call) × (called.asked ≡ call.asked) × (seen called ≡ call.answer) × gives keeper called keeper'
+  pub below : (called : Call) × IsCallOf call.asked call.answer called × Spoken book told faults gives keeper (called ∷ []) keeper'

@@ -64,7 +64,7 @@ impl<K: Keeper> Keeper for Gate<K> {
 
     ghost held = { λ g. K.held g.keeper };
 
-    ghost call_gives = { λ g call h. PassedOn K.call_gives g.keeper g.calls g.missed call h.keeper h.calls h.missed };
+    ghost call_gives = { λ g call h. PassedOn K.book K.calls K.faults K.call_gives g.keeper g.calls g.missed call h.keeper h.calls h.missed };
 
     fn enter(&mut self, sa: &Record) -> Result<(), KeeperFault> {
         let result = self.keeper.enter(sa);
