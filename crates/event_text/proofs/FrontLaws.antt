@@ -111,7 +111,7 @@ past_version n line others h far_enough long unfed_long =
 
 -- ---- a line that is read
 
-unless_ok : {A : Type 0} (o : Option LineFault) (r : Result A LineFault) (x : A) → unless o r ≡ Ok x → o ≡ None
+pub unless_ok : {A : Type 0} (o : Option LineFault) (r : Result A LineFault) (x : A) → unless o r ≡ Ok x → o ≡ None
 unless_ok (Some f) r x e = absurd cc
 unless_ok None r x e = refl
 
@@ -126,11 +126,11 @@ overlong_none before octets size e =
     passes true h = absurd cc
     passes false h = absurd cc
 
-read_within : (p : Place) (octets : ℕ) (line : List ℕ) (x : Moment × PlainEvent) → event_in p octets line ≡ Ok x → p.before + octets ≤ 67108864
+pub read_within : (p : Place) (octets : ℕ) (line : List ℕ) (x : Moment × PlainEvent) → event_in p octets line ≡ Ok x → p.before + octets ≤ 67108864
 unfolding event_in
 read_within p octets line x e = overlong_none p.before octets (length line) (unless_ok (overlong p.before octets (length line)) _ x e)
 
-version_within : (octets : ℕ) (line : List ℕ) (x : Unit {0}) → version_in octets line ≡ Ok x → octets ≤ 67108864
+pub version_within : (octets : ℕ) (line : List ℕ) (x : Unit {0}) → version_in octets line ≡ Ok x → octets ≤ 67108864
 unfolding version_in
 version_within octets line x e = let within = overlong_none 0 octets (length line) (unless_ok (overlong 0 octets (length line)) _ x e) in omega arith
 

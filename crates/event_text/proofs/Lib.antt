@@ -9,3 +9,4 @@ pub mod LineLaws
 pub mod WritingLaws
 pub mod InputLaws
 pub mod FrontLaws
+pub mod FileLaws

@@ -6,5 +6,6 @@ pub mod Events
 pub mod Reading
 pub mod Grammar
 pub mod Input
+pub mod EventFile
 pub mod Writing
 pub mod Report

@@ -1,0 +1,156 @@
+-- An input without a fault is the text of its events.
+use Rattle.std.proofs.Common.{◌≡◌, ◌≢◌, ℕ, zero, suc, ◌+◌, ◌-◌, ◌<◌, ◌≤◌, Bool, true, false, ◌&&◌, not, cond, eqb, ltb, leb, List, [], ◌∷◌, ◌++◌, length, Option, Some, None, Result, Ok, Err, refl, sym, ap, ◌∙◌, subst, append_assoc, append-nil, arith, inl, inr, ◌⊎◌, codes}
+use Rattle.std.specs.Prelude.{map}
+use Rattle.std.proofs.lemmas.Bool.{cases_lt, eqb-true, eqb-false, le-leb, lt-leb, lt-ltb}
+use Rattle.std.proofs.lemmas.Bool.Decides.{eqb_tells}
+use Rattle.std.proofs.lemmas.List.{length-append}
+use Rattle.std.proofs.lemmas.Slice.Eq.{bytes_eq-Decides}
+use Rattle.std.specs.Str.{bytes_eq}
+use Rattle.ha_base.specs.declared.outside.Moment.{Moment}
+use Rattle.event_text.specs.declared.fault.LineFault.{LineFault}
+use Rattle.event_text.specs.declared.fault.LineReason.TheVariants as reasons
+use Rattle.event_text.specs.declared.place.InputFault.{InputFault}
+use Rattle.event_text.specs.declared.place.Place.{Place}
+use Rattle.event_text.specs.Words.{onto}
+use Rattle.event_text.specs.Events.{PlainEvent}
+use Rattle.event_text.specs.Reading.{fault_at, line_at}
+use Rattle.event_text.specs.Grammar.{EventLine}
+use Rattle.event_text.specs.Input.{Contents, behind_line, contents_at, contents_in, contents_of, event_in, faulty, lines_of, on_event, on_version, overlong, second_line, unfed, unless, version_in, with_event}
+use Rattle.event_text.specs.EventFile.{EventText, IsFile, SayEvents, fed}
+use Rattle.event_text.proofs.EventLaws.{line_takes}
+use Rattle.event_text.proofs.FieldLaws.{ok_is, pick}
+use Rattle.event_text.proofs.FrontLaws.{read_within, unless_ok, version_within}
+
+-- lines one after another
+joined : List (List ℕ) → List ℕ
+joined [] = []
+joined (line ∷ lines) = line ++ joined lines
+
+joined_onto : (c : ℕ) (ls : List (List ℕ)) → joined (onto c ls) ≡ c ∷ joined ls
+unfolding joined
+joined_onto c [] = refl
+joined_onto c (l ∷ ls) = refl
+
+-- the lines of an input are all of it
+lines_joined : (octets : List ℕ) → joined (lines_of octets) ≡ octets
+unfolding lines_of joined
+lines_joined [] = refl
+lines_joined (c ∷ cs) =
+    elim (eqb_tells c 10) [
+      | inl feed ↦ rw (feed.0, lines_joined cs) refl
+      | inr other ↦ rw (other.0, joined_onto c (lines_of cs), lines_joined cs) refl
+    ]
+
+-- each line has its line feed, but maybe the last
+AreFed : List (List ℕ) → Type 0
+AreFed [] = Unit {0}
+AreFed (line ∷ []) = (line ≡ unfed line ++ 10 ∷ []) ⊎ (line ≡ unfed line)
+AreFed (line ∷ next ∷ lines) = (line ≡ unfed line ++ 10 ∷ []) × AreFed (next ∷ lines)
+
+fed_onto : (c : ℕ) (ls : List (List ℕ)) → eqb c 10 ≡ false → AreFed ls → AreFed (onto c ls)
+unfolding AreFed
+fed_onto c [] other h = inr (rw other refl)
+fed_onto c (l ∷ []) other (inl h) = inl (rw other (ap (λ (t : List ℕ). c ∷ t) h))
+fed_onto c (l ∷ []) other (inr h) = inr (rw other (ap (λ (t : List ℕ). c ∷ t) h))
+fed_onto c (l ∷ m ∷ ls) other h = (rw other (ap (λ (t : List ℕ). c ∷ t) h.0), h.1)
+
+fed_before : (line : List ℕ) (ls : List (List ℕ)) → line ≡ unfed line ++ 10 ∷ [] → AreFed ls → AreFed (line ∷ ls)
+unfolding AreFed
+fed_before line [] e h = inl e
+fed_before line (l ∷ ls) e h = (e, h)
+
+lines_fed : (octets : List ℕ) → AreFed (lines_of octets)
+unfolding lines_of AreFed
+lines_fed [] = tt
+lines_fed (c ∷ cs) =
+    elim (eqb_tells c 10) [
+      | inl feed ↦ rw feed.0 (fed_before (c ∷ []) (lines_of cs) (rw (feed.0, feed.1) refl) (lines_fed cs))
+      | inr other ↦ rw other.0 (fed_onto c (lines_of cs) other.0 (lines_fed cs))
+    ]
+
+abbrev bare : List (List ℕ) → List (List ℕ)
+bare [] = []
+bare (l ∷ ls) = unfed l ∷ bare ls
+
+-- lines with their line feeds are a file of the lines without
+file_of : (ls : List (List ℕ)) → AreFed ls → IsFile (bare ls) (joined ls)
+unfolding joined AreFed
+file_of [] h = inl refl
+file_of (l ∷ []) (inl h) = inl (append-nil l ∙ h)
+file_of (l ∷ []) (inr h) = inr (ap (λ (t : List ℕ). t ++ 10 ∷ []) (append-nil l ∙ h))
+file_of (l ∷ m ∷ ls) h =
+    elim (file_of (m ∷ ls) h.1) [
+      | inl e ↦ inl (ap (λ (t : List ℕ). t ++ joined (m ∷ ls)) h.0 ∙ append_assoc (unfed l) (10 ∷ []) (joined (m ∷ ls)) ∙ ap (λ (t : List ℕ). unfed l ++ (10 ∷ t)) e)
+      | inr e ↦
+          inr (append_assoc l (joined (m ∷ ls)) (10 ∷ []) ∙ ap (λ (t : List ℕ). t ++ (joined (m ∷ ls) ++ 10 ∷ [])) h.0
+          ∙ append_assoc (unfed l) (10 ∷ []) (joined (m ∷ ls) ++ 10 ∷ []) ∙ ap (λ (t : List ℕ). unfed l ++ (10 ∷ t)) e)
+    ]
+
+-- ---- what was read
+
+record ReadsAt (ls : List (List ℕ)) (p : Place) (events : List (Moment × PlainEvent)) : Type 0 where
+  say : SayEvents p.last.0 (bare ls) events
+  few : p.count + length events ≤ 100000
+  short : p.before + length (joined ls) ≤ 67108864
+
+unless_is : {A : Type 0} (o : Option LineFault) (r : Result A LineFault) (x : A) → unless o r ≡ Ok x → r ≡ Ok x
+unless_is (Some f) r x e = absurd cc
+unless_is None r x e = e
+
+-- a line that was read is an event's, and not one too many
+event_read : (p : Place) (octets : ℕ) (line : List ℕ) (x : Moment × PlainEvent) → event_in p octets line ≡ Ok x → (p.count ≢ 100000) × EventLine p.last.0 line x.0 x.1
+unfolding event_in
+event_read p octets line x e =
+    pick (eqb p.count 100000) (Err (fault_at 1 reasons.TooMany)) (line_at p.last.0 line) (Ok x) (unless_is (overlong p.before octets (length line)) _ x e)
+      (λ hit same. absurd cc)
+      (λ miss same. (eqb-false p.count 100000 miss, line_takes p.last.0 line x same))
+
+-- a line and what follows it were read
+on_read : (l : List ℕ) (ls : List (List ℕ)) (p : Place) → p.count ≤ 100000 → ((q : Place) → q.count ≤ 100000 → q.before ≤ 67108864 → (contents_at ls q).fault ≡ None → ReadsAt ls q (contents_at ls q).events) → (r : Result (Moment × PlainEvent) LineFault) → event_in p (length l) (unfed l) ≡ r → (on_event p.line r (λ moment. contents_at ls (behind_line p (length l) moment))).fault ≡ None → ReadsAt (l ∷ ls) p (on_event p.line r (λ moment. contents_at ls (behind_line p (length l) moment))).events
+unfolding joined
+on_read l ls p few follow (Err f) e clean = absurd cc
+on_read l ls p few follow (Ok x) e clean =
+    let within = read_within p (length l) (unfed l) x e in
+    let read = event_read p (length l) (unfed l) x e in
+    let other : p.count ≢ 100000 = read.0 in
+    let rest = follow (behind_line p (length l) x.0) (omega arith) within clean in
+    let rest_few = rest.few in
+    let rest_short = rest.short in
+    record { say = (read.1, rest.say); few = omega arith; short = omega (arith, length-append l (joined ls)) }
+
+reads_at : (ls : List (List ℕ)) (p : Place) → p.count ≤ 100000 → p.before ≤ 67108864 → (contents_at ls p).fault ≡ None → ReadsAt ls p (contents_at ls p).events
+unfolding contents_at joined
+reads_at [] p few short none = record { say = tt; few = omega arith; short = omega arith }
+reads_at (l ∷ ls) p few short none =
+    on_read l ls p few (λ q q_few q_short clean. reads_at ls q q_few q_short clean) (event_in p (length l) (unfed l)) refl none
+
+version_read : (octets : ℕ) (line : List ℕ) (x : Unit {0}) → version_in octets line ≡ Ok x → line ≡ codes "ha 1"
+unfolding version_in
+version_read octets line x e =
+    pick (bytes_eq line (codes "ha 1")) (Ok tt) (Err (fault_at 1 reasons.Word)) (Ok x) (unless_is (overlong 0 octets (length line)) _ x e)
+      (λ hit same. (bytes_eq-Decides line (codes "ha 1")).0 hit)
+      (λ miss same. absurd cc)
+
+text_in : (ls : List (List ℕ)) → AreFed ls → (contents_in ls).fault ≡ None → EventText (contents_in ls).events (joined ls)
+unfolding joined
+text_in [] h none = absurd cc
+text_in (l ∷ ls) h none = on_first (version_in (length l) (unfed l)) refl none
+  where
+    on_first : (r : Result Unit LineFault) → version_in (length l) (unfed l) ≡ r → (on_version r (contents_at ls (second_line (length l)))).fault ≡ None → EventText (on_version r (contents_at ls (second_line (length l)))).events (joined (l ∷ ls))
+    on_first (Err f) e clean = absurd cc
+    on_first (Ok u) e clean =
+        let within = version_within (length l) (unfed l) u e in
+        let reads = reads_at ls (second_line (length l)) (omega arith) within clean in
+        let few = reads.few in
+        let short = reads.short in
+        record {
+          lines = bare ls;
+          file = subst (λ (t : List ℕ). IsFile (t ∷ bare ls) (l ++ joined ls)) (version_read (length l) (unfed l) u e) (file_of (l ∷ ls) h);
+          say = reads.say;
+          few = omega arith;
+          short = omega (arith, length-append l (joined ls));
+        }
+
+-- an input without a fault is the text of its events
+pub text_found : (octets : List ℕ) → (contents_of octets).fault ≡ None → EventText (contents_of octets).events octets
+text_found octets none = subst (EventText (contents_of octets).events) (lines_joined octets) (text_in (lines_of octets) (lines_fed octets) none)
