@@ -1,7 +1,10 @@
 -- An input without a fault is the text of its events.
 use Rattle.std.proofs.Common.{◌≡◌, ◌≢◌, ℕ, zero, suc, ◌+◌, ◌-◌, ◌<◌, ◌≤◌, Bool, true, false, ◌&&◌, not, cond, eqb, ltb, leb, List, [], ◌∷◌, ◌++◌, length, Option, Some, None, Result, Ok, Err, refl, sym, ap, ◌∙◌, subst, append_assoc, append-nil, arith, inl, inr, ◌⊎◌, codes}
 use Rattle.std.specs.Prelude.{map}
-use Rattle.std.proofs.lemmas.Bool.{cases_lt, eqb-true, eqb-false, le-leb, lt-leb, lt-ltb}
+use Rattle.std.proofs.lemmas.Bool.{and_parts, eqb-false, le-ltb, ne_eqb}
+use Rattle.std.proofs.lemmas.Fmt.{decimal_nonempty}
+use Rattle.std.specs.Fmt.{decimal}
+use Rattle.std.specs.List.{list_all}
 use Rattle.std.proofs.lemmas.Bool.Decides.{eqb_tells}
 use Rattle.std.proofs.lemmas.List.{length-append}
 use Rattle.std.proofs.lemmas.Slice.Eq.{bytes_eq-Decides}
@@ -11,14 +14,15 @@ use Rattle.event_text.specs.declared.fault.LineFault.{LineFault}
 use Rattle.event_text.specs.declared.fault.LineReason.TheVariants as reasons
 use Rattle.event_text.specs.declared.place.InputFault.{InputFault}
 use Rattle.event_text.specs.declared.place.Place.{Place}
-use Rattle.event_text.specs.Words.{onto}
+use Rattle.event_text.specs.Words.{line_of, onto, spaced}
 use Rattle.event_text.specs.Events.{PlainEvent}
 use Rattle.event_text.specs.Reading.{fault_at, line_at}
-use Rattle.event_text.specs.Grammar.{EventLine}
+use Rattle.event_text.specs.Grammar.{EventLine, event_words, line_words}
 use Rattle.event_text.specs.Input.{Contents, behind_line, contents_at, contents_in, contents_of, event_in, faulty, lines_of, on_event, on_version, overlong, second_line, unfed, unless, version_in, with_event}
 use Rattle.event_text.specs.EventFile.{EventText, IsFile, SayEvents, fed}
-use Rattle.event_text.proofs.EventLaws.{line_takes}
+use Rattle.event_text.proofs.EventLaws.{line_again, line_takes}
 use Rattle.event_text.proofs.FieldLaws.{ok_is, pick}
+use Rattle.event_text.proofs.SpacelessLaws.{line_unfed, no_feed}
 use Rattle.event_text.proofs.FrontLaws.{read_within, unless_ok, version_within}
 
 -- lines one after another
@@ -154,3 +158,149 @@ text_in (l ∷ ls) h none = on_first (version_in (length l) (unfed l)) refl none
 -- an input without a fault is the text of its events
 pub text_found : (octets : List ℕ) → (contents_of octets).fault ≡ None → EventText (contents_of octets).events octets
 text_found octets none = subst (EventText (contents_of octets).events) (lines_joined octets) (text_in (lines_of octets) (lines_fed octets) none)
+
+-- ---- a text of events is read
+
+other_feed : (c : ℕ) → no_feed c ≡ true → eqb c 10 ≡ false
+other_feed c h =
+    elim (eqb_tells c 10) [
+      | inl feed ↦ absurd (let k : not true ≡ true = rw feed.0 at h in cc)
+      | inr other ↦ other.0
+    ]
+
+lines_nil : lines_of [] ≡ []
+unfolding lines_of
+lines_nil = refl
+
+lines_before : (l rest : List ℕ) → list_all no_feed l ≡ true → lines_of (l ++ (10 ∷ rest)) ≡ (l ++ 10 ∷ []) ∷ lines_of rest
+unfolding lines_of
+lines_before [] rest h = refl
+lines_before (c ∷ cs) rest h =
+    let parts = and_parts (no_feed c) (list_all no_feed cs) h in
+    rw (other_feed c parts.0, lines_before cs rest parts.1) refl
+
+lines_alone : (l : List ℕ) → 0 < length l → list_all no_feed l ≡ true → lines_of l ≡ l ∷ []
+unfolding lines_of
+lines_alone [] some h = absurd (omega arith)
+lines_alone (c ∷ []) some h = rw (other_feed c (and_parts (no_feed c) true h).0) refl
+lines_alone (c ∷ d ∷ cs) some h =
+    let parts = and_parts (no_feed c) (list_all no_feed (d ∷ cs)) h in
+    rw (other_feed c parts.0, lines_alone (d ∷ cs) (omega arith) parts.1) refl
+
+unfed_fed : (l : List ℕ) → list_all no_feed l ≡ true → unfed (l ++ 10 ∷ []) ≡ l
+unfed_fed [] h = refl
+unfed_fed (c ∷ cs) h =
+    let parts = and_parts (no_feed c) (list_all no_feed cs) h in
+    rw (other_feed c parts.0, unfed_fed cs parts.1) refl
+
+unfed_alone : (l : List ℕ) → list_all no_feed l ≡ true → unfed l ≡ l
+unfed_alone [] h = refl
+unfed_alone (c ∷ cs) h =
+    let parts = and_parts (no_feed c) (list_all no_feed cs) h in
+    rw (other_feed c parts.0, unfed_alone cs parts.1) refl
+
+-- lines end with a line feed
+record EndsFed (octets : List ℕ) : Type 0 where
+  front : List ℕ
+  parts : octets ≡ front ++ 10 ∷ []
+
+fed_ends : (l : List ℕ) (ls : List (List ℕ)) → EndsFed (fed (l ∷ ls))
+fed_ends l [] = record { front = l; parts = refl }
+fed_ends l (m ∷ ms) =
+    let rest = fed_ends m ms in
+    record { front = l ++ (10 ∷ rest.front); parts = ap (λ (t : List ℕ). l ++ (10 ∷ t)) rest.parts ∙ sym (append_assoc l (10 ∷ rest.front) (10 ∷ [])) }
+
+-- the same behind two lists
+cancelled : (a b : List ℕ) → a ++ 10 ∷ [] ≡ b ++ 10 ∷ [] → a ≡ b
+cancelled [] [] e = refl
+cancelled [] (c ∷ []) e = absurd cc
+cancelled [] (c ∷ d ∷ ds) e = absurd cc
+cancelled (c ∷ []) [] e = absurd cc
+cancelled (c ∷ d ∷ ds) [] e = absurd cc
+cancelled (a ∷ rest) (b ∷ others) e = let tail = cancelled rest others cc in cc
+
+-- what a first line and the others make of a file
+record Parts (l : List ℕ) (ls : List (List ℕ)) (octets : List ℕ) : Type 0 where
+  line : List ℕ
+  rest : List ℕ
+  parts : lines_of octets ≡ line ∷ lines_of rest
+  bare_line : unfed line ≡ l
+  file : IsFile ls rest
+  size : length octets ≡ length line + length rest
+
+file_parts : (l : List ℕ) (ls : List (List ℕ)) (octets : List ℕ) → 0 < length l → list_all no_feed l ≡ true → IsFile (l ∷ ls) octets → Parts l ls octets
+file_parts l ls octets some h (inl e) =
+    record {
+      line = l ++ 10 ∷ [];
+      rest = fed ls;
+      parts = ap lines_of e ∙ lines_before l (fed ls) h;
+      bare_line = unfed_fed l h;
+      file = inl refl;
+      size = ap length e ∙ ap length (sym (append_assoc l (10 ∷ []) (fed ls))) ∙ length-append (l ++ 10 ∷ []) (fed ls);
+    }
+file_parts l [] octets some h (inr e) =
+    let same = cancelled octets l e in
+    record {
+      line = l;
+      rest = [];
+      parts = ap lines_of same ∙ lines_alone l some h ∙ ap (λ (t : List (List ℕ)). l ∷ t) (sym lines_nil);
+      bare_line = unfed_alone l h;
+      file = inl refl;
+      size = ap length same ∙ omega arith;
+    }
+file_parts l (m ∷ ms) octets some h (inr e) =
+    let ends = fed_ends m ms in
+    let whole : octets ≡ l ++ (10 ∷ ends.front) = cancelled octets (l ++ (10 ∷ ends.front)) (e ∙ ap (λ (t : List ℕ). l ++ (10 ∷ t)) ends.parts ∙ sym (append_assoc l (10 ∷ ends.front) (10 ∷ []))) in
+    record {
+      line = l ++ 10 ∷ [];
+      rest = ends.front;
+      parts = ap lines_of whole ∙ lines_before l ends.front h;
+      bare_line = unfed_fed l h;
+      file = inr (sym ends.parts);
+      size = ap length whole ∙ ap length (sym (append_assoc l (10 ∷ []) ends.front)) ∙ length-append (l ++ 10 ∷ []) ends.front;
+    }
+
+short_line : (before octets size : ℕ) → size ≤ 16384 → before + octets ≤ 67108864 → overlong before octets size ≡ None
+short_line before octets size short within = rw (le-ltb 16384 size short, le-ltb 67108864 (before + octets) within) refl
+
+event_again : (p : Place) (octets : ℕ) (line : List ℕ) (x : Moment × PlainEvent) → p.count < 100000 → p.before + octets ≤ 67108864 → EventLine p.last.0 line x.0 x.1 → event_in p octets line ≡ Ok x
+unfolding event_in
+event_again p octets line x few within says =
+    rw (short_line p.before octets (length line) says.short within, ne_eqb p.count 100000 (λ e. omega arith), line_again p.last.0 line x.0 x.1 says) refl
+
+line_some : (last : ℕ) (line : List ℕ) (m : Moment) (e : PlainEvent) → EventLine last line m e → 0 < length line
+line_some last line m e says =
+    let lt = says.seconds in
+    let digits = decimal_nonempty m.0 (omega arith) in
+    let size = ap length says.text ∙ length-append (decimal m.0) (spaced (event_words e)) in
+    omega arith
+
+again_at : (lines : List (List ℕ)) (events : List (Moment × PlainEvent)) (p : Place) (octets : List ℕ) → IsFile lines octets → SayEvents p.last.0 lines events → p.count + length events ≤ 100000 → p.before + length octets ≤ 67108864 → contents_at (lines_of octets) p ≡ record { events = events; fault = None }
+unfolding contents_at
+again_at [] [] p octets (inl e) say few short = rw (e, lines_nil) refl
+again_at [] [] p [] (inr e) say few short = absurd cc
+again_at [] [] p (c ∷ cs) (inr e) say few short = absurd cc
+again_at [] (x ∷ xs) p octets file say few short = absurd say
+again_at (l ∷ ls) [] p octets file say few short = absurd say
+again_at (l ∷ ls) (x ∷ xs) p octets file say few short =
+    let says = say.0 in
+    let free : list_all no_feed l ≡ true = rw says.text (line_unfed x.0 x.1 says.seconds says.fits) in
+    let parts = file_parts l ls octets (line_some p.last.0 l x.0 x.1 says) free file in
+    let size = parts.size in
+    let read : event_in p (length parts.line) (unfed parts.line) ≡ Ok x = rw parts.bare_line (event_again p (length parts.line) l x (omega arith) (omega arith) says) in
+    let rest = again_at ls xs (behind_line p (length parts.line) x.0) parts.rest parts.file say.1 (omega arith) (omega arith) in
+    rw (parts.parts, read, rest) refl
+
+version_again : (octets : ℕ) (line : List ℕ) → octets ≤ 67108864 → line ≡ codes "ha 1" → version_in octets line ≡ Ok tt
+unfolding version_in
+version_again octets line within e = rw (e, short_line 0 octets 4 (omega arith) (omega arith)) refl
+
+-- a text of events is read as these events
+pub text_again : (events : List (Moment × PlainEvent)) (octets : List ℕ) → EventText events octets → contents_of octets ≡ record { events = events; fault = None }
+text_again events octets text =
+    let parts = file_parts (codes "ha 1") text.lines octets (omega arith) refl text.file in
+    let size = parts.size in
+    let short = text.short in
+    let few = text.few in
+    rw (parts.parts, version_again (length parts.line) (unfed parts.line) (omega arith) parts.bare_line)
+      (again_at text.lines events (second_line (length parts.line)) parts.rest parts.file text.say (omega arith) (omega arith))

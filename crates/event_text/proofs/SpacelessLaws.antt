@@ -1,6 +1,6 @@
 -- No word of a field has a space.
-use Rattle.std.proofs.Common.{◌≡◌, ◌≢◌, ℕ, zero, suc, ◌+◌, ◌-◌, ◌^◌, ◌<◌, ◌≤◌, Bool, true, false, not, cond, eqb, List, [], ◌∷◌, ◌++◌, length, refl, sym, ap, ◌∙◌, arith, inl, inr, codes, lit≤, lit<}
-use Rattle.std.proofs.lemmas.Bool.{and_parts}
+use Rattle.std.proofs.Common.{◌≡◌, ◌≢◌, ℕ, zero, suc, ◌+◌, ◌-◌, ◌^◌, ◌<◌, ◌≤◌, Bool, true, false, ◌&&◌, not, cond, eqb, List, [], ◌∷◌, ◌++◌, length, refl, sym, ap, ◌∙◌, arith, inl, inr, codes, lit≤, lit<}
+use Rattle.std.proofs.lemmas.Bool.{and_parts, false≢true}
 use Rattle.std.proofs.lemmas.Bool.Decides.{eqb_tells}
 use Rattle.std.proofs.lemmas.Fmt.{digits_decimal}
 use Rattle.std.specs.Fmt.{decimal}
@@ -17,65 +17,70 @@ use Rattle.event_text.specs.Octets.{IsOctets, esp_spi_text, is_lower, octets_tex
 use Rattle.event_text.specs.Identities.{IsIdentity, IsOfForm, identity_text}
 use Rattle.event_text.specs.Events.{Association, PlainEvent, Import, Join, Own, Draw}
 use Rattle.event_text.specs.Grammar.{AreStarts, Fits, IsAssociation, event_words, five_words, line_words, size_text}
-use Rattle.event_text.proofs.WordLaws.{are_words, is_word, is_word-append, no_space}
+use Rattle.event_text.specs.Words.{line_of, spaced}
+use Rattle.event_text.proofs.WordLaws.{are_words, is_word, no_space}
 use Rattle.event_text.proofs.NumberLaws.{own}
 use Rattle.event_text.proofs.OctetLaws.{lower-encode}
 use Rattle.event_text.proofs.FieldLaws.{bytes_high}
 
-digit_no_space : (c : ℕ) → is_digit c ≡ true → no_space c ≡ true
-digit_no_space c h =
+-- neither a space nor a line feed
+abbrev pub plain_octet : ℕ → Bool
+plain_octet c = not (eqb c 32) && not (eqb c 10)
+
+abbrev pub is_plain : List ℕ → Bool
+is_plain w = list_all plain_octet w
+
+plain_from : (p : ℕ → Bool) → p 32 ≡ false → p 10 ≡ false → (c : ℕ) → p c ≡ true → plain_octet c ≡ true
+plain_from p no_spaces no_feeds c h =
     elim (eqb_tells c 32) [
-      | inl space ↦ absurd (let k : is_digit 32 ≡ true = rw space.1 at h in cc)
-      | inr other ↦ rw other.0 refl
+      | inl space ↦ absurd (false≢true (sym no_spaces ∙ (rw space.1 at h)))
+      | inr other ↦
+          elim (eqb_tells c 10) [
+            | inl feed ↦ absurd (false≢true (sym no_feeds ∙ (rw feed.1 at h)))
+            | inr neither ↦ rw (other.0, neither.0) refl
+          ]
     ]
 
-lower_no_space : (c : ℕ) → is_lower c ≡ true → no_space c ≡ true
-lower_no_space c h =
-    elim (eqb_tells c 32) [
-      | inl space ↦ absurd (let k : is_lower 32 ≡ true = rw space.1 at h in cc)
-      | inr other ↦ rw other.0 refl
-    ]
-
--- where each octet passes one test, each passes the other
-all_also : (p q : ℕ → Bool) → ((c : ℕ) → p c ≡ true → q c ≡ true) → (w : List ℕ) → list_all p w ≡ true → list_all q w ≡ true
+-- where each passes one test, each passes the other
+pub all_also : {A : Type 0} (p q : A → Bool) → ((x : A) → p x ≡ true → q x ≡ true) → (xs : List A) → list_all p xs ≡ true → list_all q xs ≡ true
 all_also p q f [] h = refl
-all_also p q f (c ∷ cs) h =
-    let parts = and_parts (p c) (list_all p cs) h in
-    rw (f c parts.0, all_also p q f cs parts.1) refl
+all_also p q f (x ∷ xs) h =
+    let parts = and_parts (p x) (list_all p xs) h in
+    rw (f x parts.0, all_also p q f xs parts.1) refl
 
-pub word_decimal : (n : ℕ) → n < 2 ^ 64 → is_word (decimal n) ≡ true
-word_decimal n lt = all_also is_digit no_space digit_no_space (decimal n) (digits_decimal own n lt)
+pub word_decimal : (n : ℕ) → n < 2 ^ 64 → is_plain (decimal n) ≡ true
+word_decimal n lt = all_also is_digit plain_octet (plain_from is_digit refl refl) (decimal n) (digits_decimal own n lt)
 
-word_encode : (bs : List ℕ) → IsBytes bs → is_word (encode_lower bs) ≡ true
-word_encode bs h = all_also is_lower no_space lower_no_space (encode_lower bs) (lower-encode bs h)
+word_encode : (bs : List ℕ) → IsBytes bs → is_plain (encode_lower bs) ≡ true
+word_encode bs h = all_also is_lower plain_octet (plain_from is_lower refl refl) (encode_lower bs) (lower-encode bs h)
 
-pub word_octets : (least most : ℕ) (xs : List ℕ) → IsOctets least most xs → is_word (octets_text xs) ≡ true
+pub word_octets : (least most : ℕ) (xs : List ℕ) → IsOctets least most xs → is_plain (octets_text xs) ≡ true
 word_octets least most [] h = refl
 word_octets least most (b ∷ bs) h = word_encode (b ∷ bs) h.bytes
 
-pub word_spi : (n : ℕ) → is_word (spi_text n) ≡ true
+pub word_spi : (n : ℕ) → is_plain (spi_text n) ≡ true
 word_spi n = word_encode (to_be_bytes w64 n) (bytes_high 8 n)
 
-pub word_esp_spi : (n : ℕ) → is_word (esp_spi_text n) ≡ true
+pub word_esp_spi : (n : ℕ) → is_plain (esp_spi_text n) ≡ true
 word_esp_spi n = word_encode (to_be_bytes w32 n) (bytes_high 4 n)
 
-pub word_size : (size : KeySize) → is_word (size_text size) ≡ true
+pub word_size : (size : KeySize) → is_plain (size_text size) ≡ true
 word_size Bits128 = refl
 word_size Bits256 = refl
 
-pub word_identity : (i : Identity) → IsIdentity i → is_word (identity_text i) ≡ true
+pub word_identity : (i : Identity) → IsIdentity i → is_plain (identity_text i) ≡ true
 word_identity i (inl h) = rw h.kind (word_octets 4 4 i.octets h.octets)
 word_identity i (inr (inl h)) = rw h.kind (word_octets 16 16 i.octets h.octets)
 word_identity i (inr (inr (inl h))) = rw h.kind (word_octets 1 64 i.octets h.octets)
 word_identity i (inr (inr (inr (inl h)))) = rw h.kind (word_octets 1 64 i.octets h.octets)
 word_identity i (inr (inr (inr (inr h)))) = rw h.kind (word_octets 1 64 i.octets h.octets)
 
-number_word : (n limit : ℕ) → n < limit → limit ≤ 2 ^ 64 → is_word (decimal n) ≡ true
+number_word : (n limit : ℕ) → n < limit → limit ≤ 2 ^ 64 → is_plain (decimal n) ≡ true
 number_word n limit lt small = word_decimal n (omega arith)
 
 -- the words of an event
-pub event_spaceless : (e : PlainEvent) → Fits e → are_words (event_words e) ≡ true
-event_spaceless (Import a) h =
+pub event_plain : (e : PlainEvent) → Fits e → list_all is_plain (event_words e) ≡ true
+event_plain (Import a) h =
     rw (
       word_spi a.spii,
       word_spi a.spir,
@@ -96,9 +101,38 @@ event_spaceless (Import a) h =
       number_word a.starts.ask (2 ^ 32 - 1) h.starts.ask (lit≤ tt),
       number_word a.starts.answer (2 ^ 32 - 1) h.starts.answer (lit≤ tt),
     ) refl
-event_spaceless (Join fresh) h = rw (word_octets 24 24 fresh h) refl
-event_spaceless (Own member spir) h = rw (number_word member (2 ^ 63) h.0 (lit≤ tt), word_spi spir) refl
-event_spaceless (Draw member spir) h = rw (number_word member (2 ^ 63) h.0 (lit≤ tt), word_spi spir) refl
+event_plain (Join fresh) h = rw (word_octets 24 24 fresh h) refl
+event_plain (Own member spir) h = rw (number_word member (2 ^ 63) h.0 (lit≤ tt), word_spi spir) refl
+event_plain (Draw member spir) h = rw (number_word member (2 ^ 63) h.0 (lit≤ tt), word_spi spir) refl
+
+line_plain : (m : Moment) (e : PlainEvent) → m.0 < 2 ^ 63 → Fits e → list_all is_plain (line_words m e) ≡ true
+line_plain m e lt h = rw (number_word m.0 (2 ^ 63) lt (lit≤ tt)) (event_plain e h)
 
 pub line_spaceless : (m : Moment) (e : PlainEvent) → m.0 < 2 ^ 63 → Fits e → are_words (line_words m e) ≡ true
-line_spaceless m e lt h = rw (number_word m.0 (2 ^ 63) lt (lit≤ tt)) (event_spaceless e h)
+line_spaceless m e lt h =
+    all_also is_plain is_word (λ w plain. all_also plain_octet no_space (λ c both. (and_parts (not (eqb c 32)) (not (eqb c 10)) both).0) w plain) (line_words m e) (line_plain m e lt h)
+
+-- no octet is a line feed
+abbrev pub no_feed : ℕ → Bool
+no_feed c = not (eqb c 10)
+
+feeds-append : (v w : List ℕ) → list_all no_feed v ≡ true → list_all no_feed w ≡ true → list_all no_feed (v ++ w) ≡ true
+feeds-append [] w hv hw = hw
+feeds-append (c ∷ cs) w hv hw =
+    let parts = and_parts (no_feed c) (list_all no_feed cs) hv in
+    rw (parts.0, feeds-append cs w parts.1 hw) refl
+
+feeds_of : (w : List ℕ) → is_plain w ≡ true → list_all no_feed w ≡ true
+feeds_of w h = all_also plain_octet no_feed (λ c both. (and_parts (not (eqb c 32)) (not (eqb c 10)) both).1) w h
+
+spaced_unfed : (ws : List (List ℕ)) → list_all is_plain ws ≡ true → list_all no_feed (spaced ws) ≡ true
+spaced_unfed [] h = refl
+spaced_unfed (w ∷ ws) h =
+    let parts = and_parts (is_plain w) (list_all is_plain ws) h in
+    feeds-append (32 ∷ w) (spaced ws) (feeds_of w parts.0) (spaced_unfed ws parts.1)
+
+-- no line of an event has a line feed
+pub line_unfed : (m : Moment) (e : PlainEvent) → m.0 < 2 ^ 63 → Fits e → list_all no_feed (line_of (line_words m e)) ≡ true
+line_unfed m e lt h =
+    let parts = and_parts (is_plain (decimal m.0)) (list_all is_plain (event_words e)) (line_plain m e lt h) in
+    feeds-append (decimal m.0) (spaced (event_words e)) (feeds_of (decimal m.0) parts.0) (spaced_unfed (event_words e) parts.1)

@@ -1,5 +1,5 @@
 -- Words put one after another make a line.
-use Rattle.std.proofs.Common.{◌≡◌, ℕ, ◌+◌, ◌<◌, List, [], ◌∷◌, ◌++◌, length, take, Option, Some, None, refl, sym, ap, ◌∙◌, append_assoc, append-nil, arith}
+use Rattle.std.proofs.Common.{◌≡◌, ℕ, ◌+◌, ◌<◌, codes, List, [], ◌∷◌, ◌++◌, length, take, Option, Some, None, refl, sym, ap, ◌∙◌, append_assoc, append-nil, arith}
 use Rattle.std.specs.Prelude.{slice_get}
 use Rattle.std.specs.List.{flat_map}
 use Rattle.std.proofs.lemmas.Grind.{flat_map-append}
@@ -7,7 +7,11 @@ use Rattle.std.proofs.lemmas.List.{take_more}
 use Rattle.std.proofs.lemmas.List.Concat.{flat_map-cons}
 use Rattle.std.proofs.lemmas.Option.{get_or_from_slice_get, slice_get-get_or, slice_get_within}
 use Rattle.event_text.specs.Words.{spaced, line_of}
-use Rattle.event_text.specs.Report.{line_text}
+use Rattle.std.specs.Fmt.{decimal}
+use Rattle.event_text.specs.declared.turn.Turn.{Turn}
+use Rattle.event_text.specs.Events.{plain}
+use Rattle.event_text.specs.Grammar.{EventLine}
+use Rattle.event_text.specs.Report.{line_text, title_words}
 use Rattle.event_text.specs.Writing.{with_words}
 
 with_words_spaced : (text : List ℕ) (ws : List (List ℕ)) → with_words text ws ≡ text ++ spaced ws
@@ -33,3 +37,8 @@ one_more f xs i x e =
 pub item_there : {X : Type 0} (xs : List X) (i : ℕ) → slice_get xs i ≡ None → i < length xs → ⊥
 item_there [] i e lt = absurd (omega arith)
 item_there (x ∷ xs) i e lt = let some = slice_get-get_or (x ∷ xs) i x lt in absurd cc
+
+-- the line of an event stands in its turn's line
+pub turn_line : (last number : ℕ) (line : List ℕ) (turn : Turn) → EventLine last line turn.moment (plain turn.event) → line_text (codes "turn" ∷ title_words number turn) ≡ (codes "turn" ++ ((32 ∷ decimal number) ++ (32 ∷ line))) ++ 10 ∷ []
+unfolding title_words
+turn_line last number line turn says = rw says.text refl

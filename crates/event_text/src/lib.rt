@@ -22,7 +22,7 @@ mod writing;
 pub use event::Event;
 pub use fault::{LineFault, LineReason};
 pub use input::EventReader;
-pub use laws::{front_tells_contents, inputs_are_texts};
+pub use laws::{front_tells_contents, inputs_are_texts, turns_repeat_their_lines};
 pub use place::{InputFault, Place};
 pub use reading::read_line;
 pub use seals::{Seal, Seals};
