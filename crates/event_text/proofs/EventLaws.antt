@@ -1,5 +1,5 @@
 -- What is read of a line is spelled so, and what is spelled so is read.
-use Rattle.std.proofs.Common.{◌≡◌, ◌≢◌, ℕ, zero, suc, ◌+◌, ◌-◌, ◌^◌, ◌<◌, ◌≤◌, Bool, true, false, cond, eqb, ltb, List, [], ◌∷◌, ◌++◌, length, Option, Some, None, Result, Ok, Err, refl, sym, ap, ◌∙◌, subst, append-nil, arith, inl, inr, codes, lit≤}
+use Rattle.std.proofs.Common.{◌≡◌, ℕ, ◌+◌, ◌-◌, ◌^◌, ◌<◌, ◌≤◌, true, ltb, List, [], ◌∷◌, ◌++◌, length, Result, Ok, Err, refl, sym, ap, ◌∙◌, subst, append-nil, codes, lit≤}
 use Rattle.std.proofs.lemmas.Bool.{ltb-false, le-ltb}
 use Rattle.std.proofs.lemmas.Slice.Eq.{bytes_eq-Decides}
 use Rattle.std.specs.Fmt.{decimal}
@@ -14,12 +14,12 @@ use Rattle.event_text.specs.declared.fault.LineFault.{LineFault}
 use Rattle.event_text.specs.declared.fault.LineReason.TheVariants as reasons
 use Rattle.event_text.specs.Words.{Spot, line_of, words_of}
 use Rattle.event_text.specs.Numbers.{number_of}
-use Rattle.event_text.specs.Events.{Association, PlainEvent, Import, Join, Own, Draw}
-use Rattle.event_text.specs.Reading.{◌>>=◌, behind, child_keys_at, draw_at, ended_at, end_in, event_at, fault_at, field, fields_at, import_at, join_at, line_at, moment_at, not_before, own_at, sa_keys_at, starts_at, told_at, word_at, word_in}
-use Rattle.event_text.specs.Grammar.{AreChildKeys, AreSaKeys, AreStarts, EventLine, Fits, IsAssociation, association_words, child_key_words, event_words, five_words, line_words, sa_key_words}
+use Rattle.event_text.specs.Events.{PlainEvent, Import, Join, Own, Draw}
+use Rattle.event_text.specs.Reading.{◌>>=◌, behind, child_keys_at, draw_at, ended_at, end_in, event_at, fault_at, fields_at, import_at, join_at, line_at, moment_at, own_at, sa_keys_at, starts_at, told_at, word_at, word_in}
+use Rattle.event_text.specs.Grammar.{AreChildKeys, AreSaKeys, AreStarts, EventLine, Fits, child_key_words, event_words, five_words, line_words, sa_key_words}
 use Rattle.event_text.proofs.WordLaws.{line-words, words-line}
 use Rattle.event_text.proofs.SpacelessLaws.{line_spaceless}
-use Rattle.event_text.proofs.FieldLaws.{IsField, IsReader, column_behind, done, esp_spi_field, field_again, identity_field, key_size_field, number_field, ok_is, pick, reader, sized_field, spi_field, then_word, then_words, walk}
+use Rattle.event_text.proofs.FieldLaws.{IsField, IsReader, column_behind, esp_spi_field, field_again, identity_field, key_size_field, number_field, ok_is, pick, reader, sized_field, spi_field, then_word, then_words, walk}
 
 member_field : IsField (number_of 0 (2 ^ 63)) decimal (λ n. n < 2 ^ 63)
 member_field = number_field (2 ^ 63) (lit≤ tt)

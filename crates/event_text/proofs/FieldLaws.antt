@@ -1,12 +1,11 @@
 -- A field that is read is spelled by the word that stood there, and a field's word is read as the field.
-use Rattle.std.proofs.Common.{◌≡◌, ◌≢◌, ℕ, zero, suc, ◌+◌, ◌-◌, ◌*◌, ◌/◌, ◌%◌, ◌^◌, ◌<◌, ◌≤◌, Bool, true, false, ◌&&◌, ◌||◌, not, cond, eqb, ltb, leb, List, [], ◌∷◌, ◌++◌, length, get_or, take, drop, Option, Some, None, Result, Ok, Err, refl, sym, ap, ◌∙◌, subst, append_assoc, arith, inl, inr, rules, codes, lit≤, ◌⊎◌}
-use Rattle.std.proofs.lemmas.Bool.{and_parts, cases_Bool, eqb-true, le-leb, leb-true, lt-ltb, ltb-true, cases_lt, ne_eqb}
+use Rattle.std.proofs.Common.{◌≡◌, ℕ, zero, suc, ◌+◌, ◌/◌, ◌^◌, ◌<◌, ◌≤◌, Bool, true, false, ◌&&◌, ◌||◌, cond, eqb, ltb, leb, List, [], ◌∷◌, ◌++◌, length, get_or, Option, Some, None, Result, Ok, Err, refl, sym, ap, ◌∙◌, subst, arith, inl, inr, codes}
+use Rattle.std.proofs.lemmas.Bool.{and_parts, cases_Bool, eqb-true, le-leb, leb-true, lt-ltb, ltb-true, ne_eqb}
 use Rattle.std.proofs.lemmas.Fmt.{decimal-digits_value, digits_decimal, digits_value-decimal, decimal_nonempty, first_decimal, decimal_digit}
 use Rattle.std.proofs.lemmas.Nat.{be_bytes_4, be_bytes_8, from_be_bytes-to_be_bytes_4, from_be_bytes-to_be_bytes_8}
 use Rattle.std.proofs.lemmas.Slice.Eq.{bytes_eq-Decides}
 use Rattle.std.specs.Fmt.{decimal}
 use Rattle.std.specs.Int.{w32, w64, byte_at, bytes_high_first, from_be_bytes, to_be_bytes}
-use Rattle.std.specs.List.{list_all}
 use Rattle.std.specs.Str.{bytes_eq}
 use Rattle.std.specs.Str.Parse.{digits_value}
 use Rattle.hex.specs.Hex.{IsBytes, encode_lower, lower_digits}
@@ -18,12 +17,12 @@ use Rattle.event_text.specs.declared.fault.LineFault.{LineFault}
 use Rattle.event_text.specs.declared.fault.LineReason.{LineReason}
 use Rattle.event_text.specs.declared.fault.LineReason.TheVariants as reasons
 use Rattle.event_text.specs.Words.{Spot}
-use Rattle.event_text.specs.Numbers.{is_digit, begins_well, is_numeral, numeral_of, in_range, number_of}
-use Rattle.event_text.specs.Octets.{IsOctets, dash, decoded, esp_spi_of, esp_spi_text, is_hex, is_lower, octets_in, octets_text, size_of, sized, spells_octets, spi_of, spi_text}
+use Rattle.event_text.specs.Numbers.{begins_well, is_numeral, numeral_of, in_range, number_of}
+use Rattle.event_text.specs.Octets.{IsOctets, dash, decoded, esp_spi_of, esp_spi_text, is_hex, octets_in, octets_text, size_of, sized, spells_octets, spi_of, spi_text}
 use Rattle.event_text.specs.Identities.{Form, IsIdentity, IsOfForm, behind_prefix, fqdn, identity_in, identity_of, identity_text, ipv4, ipv6, key, mail, of_form, prefix_of}
-use Rattle.event_text.specs.Reading.{◌>>=◌, behind, fault_at, field, key_size_of, located, word_at, word_in}
+use Rattle.event_text.specs.Reading.{◌>>=◌, behind, field, key_size_of, located, word_at, word_in}
 use Rattle.event_text.specs.Grammar.{size_text}
-use Rattle.event_text.proofs.NumberLaws.{IsNumeralWord, numeral_parts, own}
+use Rattle.event_text.proofs.NumberLaws.{numeral_parts, own}
 use Rattle.event_text.proofs.OctetLaws.{bytes-decoded, decoded-encode, encode-decoded, hex-encode, hex_parts, length-decoded}
 use Rattle.event_text.proofs.IdentityLaws.{prefix_takes}
 

@@ -1,6 +1,5 @@
 -- An input without a fault is the text of its events.
-use Rattle.std.proofs.Common.{◌≡◌, ◌≢◌, ℕ, zero, suc, ◌+◌, ◌-◌, ◌<◌, ◌≤◌, Bool, true, false, ◌&&◌, not, cond, eqb, ltb, leb, List, [], ◌∷◌, ◌++◌, length, Option, Some, None, Result, Ok, Err, refl, sym, ap, ◌∙◌, subst, append_assoc, append-nil, arith, inl, inr, ◌⊎◌, codes}
-use Rattle.std.specs.Prelude.{map}
+use Rattle.std.proofs.Common.{◌≡◌, ◌≢◌, ℕ, ◌+◌, ◌<◌, ◌≤◌, true, false, not, eqb, List, [], ◌∷◌, ◌++◌, length, Option, Some, None, Result, Ok, Err, refl, sym, ap, ◌∙◌, subst, append_assoc, append-nil, arith, inl, inr, ◌⊎◌, codes}
 use Rattle.std.proofs.lemmas.Bool.{and_parts, eqb-false, le-ltb, ne_eqb}
 use Rattle.std.proofs.lemmas.Fmt.{decimal_nonempty}
 use Rattle.std.specs.Fmt.{decimal}
@@ -12,18 +11,17 @@ use Rattle.std.specs.Str.{bytes_eq}
 use Rattle.ha_base.specs.declared.outside.Moment.{Moment}
 use Rattle.event_text.specs.declared.fault.LineFault.{LineFault}
 use Rattle.event_text.specs.declared.fault.LineReason.TheVariants as reasons
-use Rattle.event_text.specs.declared.place.InputFault.{InputFault}
 use Rattle.event_text.specs.declared.place.Place.{Place}
-use Rattle.event_text.specs.Words.{line_of, onto, spaced}
+use Rattle.event_text.specs.Words.{onto, spaced}
 use Rattle.event_text.specs.Events.{PlainEvent}
 use Rattle.event_text.specs.Reading.{fault_at, line_at}
-use Rattle.event_text.specs.Grammar.{EventLine, event_words, line_words}
-use Rattle.event_text.specs.Input.{Contents, behind_line, contents_at, contents_in, contents_of, event_in, faulty, lines_of, on_event, on_version, overlong, second_line, unfed, unless, version_in, with_event}
+use Rattle.event_text.specs.Grammar.{EventLine, event_words}
+use Rattle.event_text.specs.Input.{behind_line, contents_at, contents_in, contents_of, event_in, lines_of, on_event, on_version, overlong, second_line, unfed, unless, version_in}
 use Rattle.event_text.specs.EventFile.{EventText, IsFile, SayEvents, fed}
 use Rattle.event_text.proofs.EventLaws.{line_again, line_takes}
-use Rattle.event_text.proofs.FieldLaws.{ok_is, pick}
+use Rattle.event_text.proofs.FieldLaws.{pick}
 use Rattle.event_text.proofs.SpacelessLaws.{line_unfed, no_feed}
-use Rattle.event_text.proofs.FrontLaws.{read_within, unless_ok, version_within}
+use Rattle.event_text.proofs.FrontLaws.{read_within, version_within}
 
 -- lines one after another
 joined : List (List ℕ) → List ℕ
@@ -106,8 +104,8 @@ event_read : (p : Place) (octets : ℕ) (line : List ℕ) (x : Moment × PlainEv
 unfolding event_in
 event_read p octets line x e =
     pick (eqb p.count 100000) (Err (fault_at 1 reasons.TooMany)) (line_at p.last.0 line) (Ok x) (unless_is (overlong p.before octets (length line)) _ x e)
-      (λ hit same. absurd cc)
-      (λ miss same. (eqb-false p.count 100000 miss, line_takes p.last.0 line x same))
+    (λ hit same. absurd cc)
+    (λ miss same. (eqb-false p.count 100000 miss, line_takes p.last.0 line x same))
 
 -- a line and what follows it were read
 on_read : (l : List ℕ) (ls : List (List ℕ)) (p : Place) → p.count ≤ 100000 → ((q : Place) → q.count ≤ 100000 → q.before ≤ 67108864 → (contents_at ls q).fault ≡ None → ReadsAt ls q (contents_at ls q).events) → (r : Result (Moment × PlainEvent) LineFault) → event_in p (length l) (unfed l) ≡ r → (on_event p.line r (λ moment. contents_at ls (behind_line p (length l) moment))).fault ≡ None → ReadsAt (l ∷ ls) p (on_event p.line r (λ moment. contents_at ls (behind_line p (length l) moment))).events
@@ -132,8 +130,8 @@ version_read : (octets : ℕ) (line : List ℕ) (x : Unit {0}) → version_in oc
 unfolding version_in
 version_read octets line x e =
     pick (bytes_eq line (codes "ha 1")) (Ok tt) (Err (fault_at 1 reasons.Word)) (Ok x) (unless_is (overlong 0 octets (length line)) _ x e)
-      (λ hit same. (bytes_eq-Decides line (codes "ha 1")).0 hit)
-      (λ miss same. absurd cc)
+    (λ hit same. (bytes_eq-Decides line (codes "ha 1")).0 hit)
+    (λ miss same. absurd cc)
 
 text_in : (ls : List (List ℕ)) → AreFed ls → (contents_in ls).fault ≡ None → EventText (contents_in ls).events (joined ls)
 unfolding joined
@@ -303,4 +301,4 @@ text_again events octets text =
     let short = text.short in
     let few = text.few in
     rw (parts.parts, version_again (length parts.line) (unfed parts.line) (omega arith) parts.bare_line)
-      (again_at text.lines events (second_line (length parts.line)) parts.rest parts.file text.say (omega arith) (omega arith))
+    (again_at text.lines events (second_line (length parts.line)) parts.rest parts.file text.say (omega arith) (omega arith))

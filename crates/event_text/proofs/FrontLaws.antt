@@ -1,16 +1,14 @@
 -- What an input says is told by as many of its octets as a file may have, and one more.
-use Rattle.std.proofs.Common.{◌≡◌, ◌≢◌, ℕ, zero, suc, ◌+◌, ◌-◌, ◌<◌, ◌≤◌, Bool, true, false, ◌&&◌, not, cond, eqb, ltb, leb, List, [], ◌∷◌, ◌++◌, length, Option, Some, None, Result, Ok, Err, refl, sym, ap, ◌∙◌, subst, append_assoc, append-nil, arith, inl, inr, ◌⊎◌, codes}
+use Rattle.std.proofs.Common.{◌≡◌, ℕ, zero, suc, ◌+◌, ◌-◌, ◌<◌, ◌≤◌, Bool, true, false, ◌&&◌, cond, eqb, ltb, leb, List, [], ◌∷◌, ◌++◌, length, Option, Some, None, Result, Ok, Err, refl, sym, ap, ◌∙◌, append_assoc, append-nil, arith, inl, inr, ◌⊎◌}
 use Rattle.std.proofs.lemmas.Bool.{cases_lt, le-leb, lt-leb, lt-ltb}
 use Rattle.std.proofs.lemmas.Bool.Decides.{eqb_tells}
 use Rattle.std.proofs.lemmas.List.{length-append}
-use Rattle.std.specs.Str.{bytes_eq}
 use Rattle.ha_base.specs.declared.outside.Moment.{Moment}
 use Rattle.event_text.specs.declared.fault.LineFault.{LineFault}
 use Rattle.event_text.specs.declared.fault.LineReason.TheVariants as reasons
 use Rattle.event_text.specs.declared.place.Place.{Place}
-use Rattle.event_text.specs.Words.{onto}
 use Rattle.event_text.specs.Events.{PlainEvent}
-use Rattle.event_text.specs.Reading.{fault_at, line_at}
+use Rattle.event_text.specs.Reading.{fault_at}
 use Rattle.event_text.specs.Input.{Contents, behind_line, contents_at, contents_in, contents_of, event_in, faulty, lines_of, on_event, on_version, overlong, second_line, unfed, unless, version_in, with_event}
 
 -- ---- the first line of an input

@@ -1,5 +1,5 @@
 -- No word of a field has a space.
-use Rattle.std.proofs.Common.{◌≡◌, ◌≢◌, ℕ, zero, suc, ◌+◌, ◌-◌, ◌^◌, ◌<◌, ◌≤◌, Bool, true, false, ◌&&◌, not, cond, eqb, List, [], ◌∷◌, ◌++◌, length, refl, sym, ap, ◌∙◌, arith, inl, inr, codes, lit≤, lit<}
+use Rattle.std.proofs.Common.{◌≡◌, ℕ, ◌-◌, ◌^◌, ◌<◌, ◌≤◌, Bool, true, false, ◌&&◌, not, eqb, List, [], ◌∷◌, ◌++◌, refl, sym, ◌∙◌, arith, inl, inr, lit≤}
 use Rattle.std.proofs.lemmas.Bool.{and_parts, false≢true}
 use Rattle.std.proofs.lemmas.Bool.Decides.{eqb_tells}
 use Rattle.std.proofs.lemmas.Fmt.{digits_decimal}
@@ -11,12 +11,11 @@ use Rattle.ha_base.specs.declared.identities.Identity.{Identity}
 use Rattle.ha_base.specs.declared.key_material.KeySize.{KeySize}
 use Rattle.ha_base.specs.declared.key_material.KeySize.TheVariants.{Bits128, Bits256}
 use Rattle.ha_base.specs.declared.outside.Moment.{Moment}
-use Rattle.keeper_book.specs.declared.counters.Five.{Five}
 use Rattle.event_text.specs.Numbers.{is_digit}
 use Rattle.event_text.specs.Octets.{IsOctets, esp_spi_text, is_lower, octets_text, spi_text}
-use Rattle.event_text.specs.Identities.{IsIdentity, IsOfForm, identity_text}
-use Rattle.event_text.specs.Events.{Association, PlainEvent, Import, Join, Own, Draw}
-use Rattle.event_text.specs.Grammar.{AreStarts, Fits, IsAssociation, event_words, five_words, line_words, size_text}
+use Rattle.event_text.specs.Identities.{IsIdentity, identity_text}
+use Rattle.event_text.specs.Events.{PlainEvent, Import, Join, Own, Draw}
+use Rattle.event_text.specs.Grammar.{Fits, event_words, line_words, size_text}
 use Rattle.event_text.specs.Words.{line_of, spaced}
 use Rattle.event_text.proofs.WordLaws.{are_words, is_word, no_space}
 use Rattle.event_text.proofs.NumberLaws.{own}

@@ -1,5 +1,5 @@
 -- Identities as words: the type's prefix, and octets (RFC 7296, section 3.5).
-use Rattle.std.specs.Prelude.{◌≡◌, ℕ, ◌≤◌, ◌==◌, List, [], ◌∷◌, ◌++◌, length, codes, Option, Some, None, Result, Ok, Err, if◌then◌else◌, ◌⊎◌}
+use Rattle.std.specs.Prelude.{◌≡◌, ℕ, ◌==◌, List, [], ◌∷◌, ◌++◌, codes, Option, Some, None, Result, Ok, Err, if◌then◌else◌, ◌⊎◌}
 use Rattle.ha_base.specs.declared.identities.Identity.{Identity}
 use Rattle.event_text.specs.declared.fault.LineReason.{LineReason}
 use Rattle.event_text.specs.declared.fault.LineReason.TheVariants.{Hex}

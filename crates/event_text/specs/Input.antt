@@ -1,9 +1,8 @@
 -- The events that an input spells, up to its first fault.
-use Rattle.std.specs.Prelude.{◌≡◌, ℕ, ◌+◌, ◌-◌, ◌<◌, ◌≤◌, ◌==◌, ◌&&◌, nat_lt, nat_le, List, [], ◌∷◌, length, codes, Option, Some, None, Result, Ok, Err, if◌then◌else◌}
+use Rattle.std.specs.Prelude.{ℕ, ◌+◌, ◌-◌, ◌==◌, ◌&&◌, nat_lt, nat_le, List, [], ◌∷◌, length, codes, Option, Some, None, Result, Ok, Err, if◌then◌else◌}
 use Rattle.std.specs.Str.{bytes_eq}
 use Rattle.ha_base.specs.declared.outside.Moment.{Moment}
 use Rattle.event_text.specs.declared.fault.LineFault.{LineFault}
-use Rattle.event_text.specs.declared.fault.LineReason.{LineReason}
 use Rattle.event_text.specs.declared.fault.LineReason.TheVariants as reasons
 use Rattle.event_text.specs.declared.place.InputFault.{InputFault}
 use Rattle.event_text.specs.declared.place.Place.{Place}

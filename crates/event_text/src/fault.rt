@@ -5,6 +5,7 @@ ghost use Rattle.event_text.specs.Reading.{fault_at};
 ghost use Rattle.event_text.specs.declared.fault.Failure.TheVariants.{OutOfMemory};
 
 use std::alloc::{AllocError, AllocFailed};
+use thiserror::Error;
 
 /// Why a line of an event file is refused. `Memory` is no fault of the line.
 #[derive(Clone, Copy, Debug, PartialEq, Eq)]
@@ -34,7 +35,8 @@ pub enum LineReason {
 }
 
 /// The first fault of a line, from left to right.
-#[derive(Clone, Copy, Debug, PartialEq, Eq)]
+#[derive(Clone, Copy, Debug, PartialEq, Eq, Error)]
+#[error("column {column}: {reason:?}")]
 pub struct LineFault {
     /// The place of the faulty word's first octet, counted from 1.
     pub column: u32,

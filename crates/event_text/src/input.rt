@@ -8,14 +8,11 @@ ghost use Rattle.event_text.specs.Reading.{fault_at};
 use crate::event::Event;
 use crate::fault::{LineFault, LineReason};
 use crate::place::{InputFault, Place};
-use crate::reading::read_line;
+use crate::reading::{LINE_OCTETS, read_line};
 use crate::split::octets_before;
 use ha_base::Moment;
 use std::alloc::Global;
 use std::marker::Model;
-
-/// How many octets a line may have.
-const LINE_OCTETS: usize = 16_384;
 
 /// How many octets an input may have.
 const INPUT_OCTETS: usize = 67_108_864;

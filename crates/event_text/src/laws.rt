@@ -14,20 +14,17 @@ ghost use Rattle.std.specs.Fmt.{decimal};
 #[tactic(auto, using(crate::proofs::FrontLaws::contents_front))]
 pub fn front_tells_contents()
     ensures { (front more : List ℕ) → 67108865 ≤ length front → contents_of (front ++ more) ≡ contents_of front }
-{
-}
+{}
 
 /// An input without a fault is the text of the events that are read of it, and a text of events is read as these events.
 pub fn inputs_are_texts()
     ensures found { (octets : List ℕ) → (contents_of octets).fault ≡ None → EventText (contents_of octets).events octets }
     ensures only { (events : List (Moment × PlainEvent)) (octets : List ℕ) → EventText events octets
         → contents_of octets ≡ record { events = events; fault = None } }
-{
-}
+{}
 
 /// The event's line stands in the first line of its turn as it stands in the file.
 pub fn turns_repeat_their_lines()
     ensures { (last number : ℕ) (line : List ℕ) (turn : Turn) → EventLine last line turn.moment (plain turn.event)
         → line_text (codes "turn" ∷ title_words number turn) ≡ (codes "turn" ++ ((32 ∷ decimal number) ++ (32 ∷ line))) ++ 10 ∷ [] }
-{
-}
+{}

@@ -17,7 +17,7 @@ use keeper_book::{Five, Record};
 use std::alloc::Global;
 
 /// How many octets a line may have.
-const LINE_OCTETS: usize = 16_384;
+pub(crate) const LINE_OCTETS: usize = 16_384;
 
 /// Where moments, members' numbers, ESP numbers and IVs end.
 const NUMBERS: u64 = 1 << 63;

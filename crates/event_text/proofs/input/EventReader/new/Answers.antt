@@ -1,4 +1,4 @@
-use Rattle.std.proofs.Common.{◌≡◌, ◌∙◌, sym}
+use Rattle.std.proofs.Common.{◌∙◌, sym}
 use Rattle.std.proofs.lemmas.Bool.{eqb-true}
 use Rattle.event_text.proofs.InputLaws.{contents_none}
 use Rattle.event_text.proofs.input.EventReader.new.Goals as goal

@@ -1,4 +1,4 @@
-use Rattle.std.proofs.Common.{◌≡◌, ◌∙◌, sym}
+use Rattle.std.proofs.Common.{◌∙◌, sym}
 use Rattle.std.proofs.lemmas.Bool.{eqb-true}
 use Rattle.event_text.proofs.InputLaws.{contents_end}
 use Rattle.event_text.proofs.input.EventReader.next_event.Goals as goal
