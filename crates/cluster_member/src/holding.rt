@@ -63,11 +63,35 @@ impl Holding {
         let spir = sa.spir;
         Holding {
             epoch,
-            esp_out: Horizon::begin(name_of(&sa, Kind::EspOut, 1), spir, epoch, bases.esp_out, bases.esp_out),
-            esp_in: Horizon::begin(name_of(&sa, Kind::EspIn, 1), spir, epoch, bases.esp_in, bases.esp_in),
+            esp_out: Horizon::begin(
+                name_of(&sa, Kind::EspOut, 1),
+                spir,
+                epoch,
+                bases.esp_out,
+                bases.esp_out,
+            ),
+            esp_in: Horizon::begin(
+                name_of(&sa, Kind::EspIn, 1),
+                spir,
+                epoch,
+                bases.esp_in,
+                bases.esp_in,
+            ),
             iv: Horizon::begin(name_of(&sa, Kind::Iv, 0), spir, epoch, bases.iv, bases.iv),
-            ask: Horizon::begin(name_of(&sa, Kind::Ask, 0), spir, epoch, bases.ask, bases.ask),
-            answer: Horizon::begin(name_of(&sa, Kind::Answer, 0), spir, epoch, bases.answer, bases.answer),
+            ask: Horizon::begin(
+                name_of(&sa, Kind::Ask, 0),
+                spir,
+                epoch,
+                bases.ask,
+                bases.ask,
+            ),
+            answer: Horizon::begin(
+                name_of(&sa, Kind::Answer, 0),
+                spir,
+                epoch,
+                bases.answer,
+                bases.answer,
+            ),
             sa,
         }
     }

@@ -76,8 +76,8 @@ impl Holdings {
     /// Draws the next ESP number of an association that is held.
     pub fn draw<K: Keeper>(&mut self, keeper: &mut K, spir: u64) -> Verdict
         ensures draws { (calls : List Call) × MatchOption (held_at self.old.held spir)
-                (Concludes calls result (Verdict.Refused refusal.NotOwner) × (self.new ≡ self.old))
-                (λ held. (now : Held) × DrawsTo held calls result now × (held_at self.new.held spir ≡ Some now))
+            (Concludes calls result (Verdict.Refused refusal.NotOwner) × (self.new ≡ self.old))
+            (λ held. (now : Held) × DrawsTo held calls result now × (held_at self.new.held spir ≡ Some now))
             × Asks K.Keeper keeper.old calls keeper.new }
         ensures others { KeepsOthers spir self.old.held self.new.held }
         ensures held { K.held keeper.new ≡ K.held keeper.old }

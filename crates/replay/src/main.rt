@@ -52,7 +52,16 @@ fn run(rt: &HostRuntime) -> Result<Status, AllocError> {
     let mut out = StdSink::new(rt.stdout());
     let mut diag = StdSink::new(rt.stderr());
     let mut keeper = MemoryKeeper::new(alloc);
-    Ok(replay(alloc, &words, &mut source, &mut out, &mut diag, &mut keeper, peer_service, services))
+    Ok(replay(
+        alloc,
+        &words,
+        &mut source,
+        &mut out,
+        &mut diag,
+        &mut keeper,
+        peer_service,
+        services,
+    ))
 }
 
 fn main(rt: HostRuntime) -> ExitCode {

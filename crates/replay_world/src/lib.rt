@@ -7,4 +7,3 @@ pub mod top;
 mod world;
 
 pub use world::World;
-

@@ -37,7 +37,12 @@ fn play_events<K: Keeper>(
 }
 
 /// Plays the events of an input up to its end, or up to its first fault.
-pub(crate) fn play<K: Keeper>(alloc: Global, input: &[u8], world: &mut World, keeper: &mut Gate<K>) -> Result<Played, Memory>
+pub(crate) fn play<K: Keeper>(
+    alloc: Global,
+    input: &[u8],
+    world: &mut World,
+    keeper: &mut Gate<K>,
+) -> Result<Played, Memory>
     ensures held { K.held keeper.new.keeper ≡ K.held keeper.old.keeper }
 {
     let mut report = Octets::new(alloc);

@@ -65,7 +65,11 @@ fn of_enter(fault: KeeperFault) -> Option<Refusal> {
 impl World {
     /// A run in which nothing has happened. The peer and each member that joins has a service of its own, the members in
     /// the order of `services`.
-    pub fn new(alloc: Global, peer_service: Box<dyn Service>, services: Vec<Box<dyn Service>>) -> World {
+    pub fn new(
+        alloc: Global,
+        peer_service: Box<dyn Service>,
+        services: Vec<Box<dyn Service>>,
+    ) -> World {
         World {
             alloc,
             peer: Peer::new(alloc),
@@ -80,7 +84,12 @@ impl World {
 
     /// Plays an event at a moment: the ends act, and one turn is appended to the trace. An error is want of memory; the
     /// trace has no new turn then.
-    pub fn turn<K: Keeper>(&mut self, keeper: &mut Gate<K>, now: Moment, event: Event) -> Result<(), Memory>
+    pub fn turn<K: Keeper>(
+        &mut self,
+        keeper: &mut Gate<K>,
+        now: Moment,
+        event: Event,
+    ) -> Result<(), Memory>
         ensures held { K.held keeper.new.keeper ≡ K.held keeper.old.keeper }
     {
         if self.trace.reserve(1).is_err() {
@@ -174,7 +183,12 @@ impl World {
         Some((member - 1) as usize)
     }
 
-    fn own<K: Keeper>(&mut self, keeper: &mut Gate<K>, member: u64, spir: u64) -> Result<Step, Memory>
+    fn own<K: Keeper>(
+        &mut self,
+        keeper: &mut Gate<K>,
+        member: u64,
+        spir: u64,
+    ) -> Result<Step, Memory>
         ensures trace { self.new.trace ≡ self.old.trace }
         ensures held { K.held keeper.new.keeper ≡ K.held keeper.old.keeper }
     {

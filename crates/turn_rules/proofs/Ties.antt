@@ -39,18 +39,18 @@ module _ (spir : ℕ) (turn : Turn) (past : List Turn) where
     epoch = taken.epoch;
     bases = taken.bases;
     nexts = five_of (λ c. greatest (five_at taken.bases c) (map (λ n. n + 1) (filter_map (number_of spir c) (turns_since grant))));
-    highs = five_of (λ c. greatest (five_at taken.bases c) (flat_map (covers_of spir c) (turns_since grant)))
+    highs = five_of (λ c. greatest (five_at taken.bases c) (flat_map (covers_of spir c) (turns_since grant)));
   }
 
   next_later : (taken : Taken) (c : Counter) → greatest (five_at taken.bases c) (map (λ n. n + 1) (filter_map (number_of spir c) (turn ∷ since spir past))) ≡ after_number (number_of spir c turn) (five_at (holding spir past taken).nexts c)
   next_later taken c =
-    greatest-cons_option (number_of spir c turn) (five_at taken.bases c) (filter_map (number_of spir c) (since spir past))
-    ∙ ap (after_number (number_of spir c turn)) (sym (five_at-five_of (λ d. next_of spir d taken.bases past) c))
+      greatest-cons_option (number_of spir c turn) (five_at taken.bases c) (filter_map (number_of spir c) (since spir past))
+      ∙ ap (after_number (number_of spir c turn)) (sym (five_at-five_of (λ d. next_of spir d taken.bases past) c))
 
   high_later : (taken : Taken) (c : Counter) → greatest (five_at taken.bases c) (flat_map (covers_of spir c) (turn ∷ since spir past)) ≡ greatest (five_at (holding spir past taken).highs c) (covers_of spir c turn)
   high_later taken c =
-    greatest-append (five_at taken.bases c) (covers_of spir c turn) (flat_map (covers_of spir c) (since spir past))
-    ∙ ap (λ least. greatest least (covers_of spir c turn)) (sym (five_at-five_of (λ d. high_of spir d taken.bases past) c))
+      greatest-append (five_at taken.bases c) (covers_of spir c turn) (flat_map (covers_of spir c) (since spir past))
+      ∙ ap (λ least. greatest least (covers_of spir c turn)) (sym (five_at-five_of (λ d. high_of spir d taken.bases past) c))
 
   later : (taken : Taken) → held_as None taken ≡ advanced spir turn.event turn.calls turn.step.verdict (holding spir past taken)
   later taken i = record {
@@ -58,7 +58,7 @@ module _ (spir : ℕ) (turn : Turn) (past : List Turn) where
     epoch = taken.epoch;
     bases = taken.bases;
     nexts = five_of-same _ _ (next_later taken) i;
-    highs = five_of-same _ _ (high_later taken) i
+    highs = five_of-same _ _ (high_later taken) i;
   }
 
   later_found : (taken : Option Taken) → option_map (held_as None) taken ≡ option_map (advanced spir turn.event turn.calls turn.step.verdict) (option_map (holding spir past) taken)

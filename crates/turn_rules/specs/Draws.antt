@@ -50,7 +50,7 @@ reach_of held c = record {
   epoch = held.epoch;
   base = five_at held.bases c;
   next = five_at held.nexts c;
-  high = five_at held.highs c
+  high = five_at held.highs c;
 }
 
 -- the refusal that a stop is
@@ -84,17 +84,17 @@ pub record ConcludesWith (calls : List Call) (verdict is : Verdict) (held now : 
 -- the next ESP number is drawn, once it is ready
 abbrev pub Draws : Held → List Call → Verdict → Type 0
 Draws held calls verdict = Ready (reach_of held counter.EspOut) (five_at held.nexts counter.EspOut) calls
-  (λ why rest. Concludes rest verdict (out.Refused (refusal_of_stop why)))
-  (λ high rest. Concludes rest verdict (out.Number (five_at held.nexts counter.EspOut)))
+    (λ why rest. Concludes rest verdict (out.Refused (refusal_of_stop why)))
+    (λ high rest. Concludes rest verdict (out.Number (five_at held.nexts counter.EspOut)))
 
 -- the same, and what is held then
 abbrev pub DrawsTo : Held → List Call → Verdict → Held → Type 0
 DrawsTo held calls verdict now = Ready (reach_of held counter.EspOut) (five_at held.nexts counter.EspOut) calls
-  (λ why rest. ConcludesWith rest verdict (out.Refused (refusal_of_stop why)) now held)
-  (λ high rest. ConcludesWith rest verdict (out.Number (five_at held.nexts counter.EspOut)) now (record held {
-    nexts = with_five counter.EspOut (five_at held.nexts counter.EspOut + 1) held.nexts;
-    highs = with_five counter.EspOut high held.highs
-  }))
+    (λ why rest. ConcludesWith rest verdict (out.Refused (refusal_of_stop why)) now held)
+    (λ high rest. ConcludesWith rest verdict (out.Number (five_at held.nexts counter.EspOut)) now (record held {
+      nexts = with_five counter.EspOut (five_at held.nexts counter.EspOut + 1) held.nexts;
+      highs = with_five counter.EspOut high held.highs;
+    }))
 
 -- what a takeover comes out as
 abbrev pub Grants : KeeperAnswer → Verdict → Type 0

@@ -46,9 +46,9 @@ has_takeover past = list_any (λ turn. is_takeover turn.step.verdict) past
 -- the SPIs that a run may import: the greater ones are for imports, and the others for what the cluster draws itself
 abbrev pub is_importable : Record → Bool
 is_importable sa =
-  nat_le (2 ^ 48) sa.spii && nat_le (2 ^ 48) sa.spir
-  && nat_le 65536 sa.spi_in && nat_le 65536 sa.spi_out
-  && nat_lt 0 sa.starts.esp_out && nat_lt 0 sa.starts.esp_in && nat_lt 0 sa.starts.iv
+    nat_le (2 ^ 48) sa.spii && nat_le (2 ^ 48) sa.spir
+    && nat_le 65536 sa.spi_in && nat_le 65536 sa.spi_out
+    && nat_lt 0 sa.starts.esp_out && nat_lt 0 sa.starts.esp_in && nat_lt 0 sa.starts.iv
 
 -- the event is refused, and no call was made, where the test holds
 abbrev pub Refusing : Bool → Refusal → List Call → Verdict → Type 0 → Type 0
@@ -57,28 +57,28 @@ Refusing false why calls verdict otherwise = otherwise
 
 abbrev pub ImportFits : List Turn → Record → List Call → Verdict → Type 0
 ImportFits past sa calls verdict =
-  Refusing (has_import past) refusal.NotBuilt calls verdict
-  (Refusing (not (is_importable sa)) refusal.SpiRange calls verdict
-  (Refusing (not (admits (slots_by (own Peer past)) sa)) refusal.SpiInUse calls verdict
-  (Enters sa calls verdict)))
+    Refusing (has_import past) refusal.NotBuilt calls verdict
+    (Refusing (not (is_importable sa)) refusal.SpiRange calls verdict
+    (Refusing (not (admits (slots_by (own Peer past)) sa)) refusal.SpiInUse calls verdict
+    (Enters sa calls verdict)))
 
 -- boxes: how many services were handed in for members
 abbrev pub JoinFits : ℕ → List Turn → List Call → Verdict → Type 0
 JoinFits boxes past calls verdict =
-  Refusing (nat_lt 0 (joins past)) refusal.NotBuilt calls verdict
-  (Refusing (nat_le MAX_MEMBERS (joins past) || nat_le boxes (joins past)) (refusal.NoRoom (joins past)) calls verdict
-  (Concludes calls verdict (out.Member (joins past + 1))))
+    Refusing (nat_lt 0 (joins past)) refusal.NotBuilt calls verdict
+    (Refusing (nat_le MAX_MEMBERS (joins past) || nat_le boxes (joins past)) (refusal.NoRoom (joins past)) calls verdict
+    (Concludes calls verdict (out.Member (joins past + 1))))
 
 abbrev pub OwnFits : List Turn → ℕ → ℕ → List Call → Verdict → Type 0
 OwnFits past member spir calls verdict =
-  Refusing (not (has_joined member past)) refusal.NoMember calls verdict
-  (Refusing (has_takeover past) refusal.NotBuilt calls verdict
-  (TakesOver spir member calls verdict))
+    Refusing (not (has_joined member past)) refusal.NoMember calls verdict
+    (Refusing (has_takeover past) refusal.NotBuilt calls verdict
+    (TakesOver spir member calls verdict))
 
 abbrev pub DrawFits : List Turn → ℕ → ℕ → List Call → Verdict → Type 0
 DrawFits past member spir calls verdict =
-  Refusing (not (has_joined member past)) refusal.NoMember calls verdict
-  (MatchOption (held_by (own (Member member) past) spir)
+    Refusing (not (has_joined member past)) refusal.NoMember calls verdict
+    (MatchOption (held_by (own (Member member) past) spir)
     (Concludes calls verdict (out.Refused refusal.NotOwner))
     (λ held. Draws held calls verdict))
 

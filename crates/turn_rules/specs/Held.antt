@@ -107,7 +107,7 @@ holding spir past taken = record {
   epoch = taken.epoch;
   bases = taken.bases;
   nexts = five_of (λ c. next_of spir c taken.bases past);
-  highs = five_of (λ c. high_of spir c taken.bases past)
+  highs = five_of (λ c. high_of spir c taken.bases past);
 }
 
 -- what an end with these turns of its own holds of the association
@@ -126,7 +126,7 @@ after_number (Some n) next = max (n + 1) next
 abbrev pub advanced : ℕ → Event → List Call → Verdict → Held → Held
 advanced spir event calls verdict held = record held {
   nexts = five_of (λ c. after_number (used spir c event verdict) (five_at held.nexts c));
-  highs = five_of (λ c. greatest (five_at held.highs c) (covers_in spir c calls))
+  highs = five_of (λ c. greatest (five_at held.highs c) (covers_in spir c calls));
 }
 
 -- what is held of the association after one more turn

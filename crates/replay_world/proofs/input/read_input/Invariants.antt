@@ -5,7 +5,7 @@ use Rattle.replay_world.proofs.input.read_input.Given as goal
 abbrev pub invariant-loop-piece : goal.invariant-loop-piece
 invariant-loop-piece g l = record {
   read : Consumes (g.S.Source.left l.fn.source) (g.S.Source.left l.source) l.input.octets;
-  faults : g.S.Source.faults l.source ≡ g.S.Source.faults l.fn.source
+  faults : g.S.Source.faults l.source ≡ g.S.Source.faults l.fn.source;
 }
 
 abbrev pub decreases-loop-piece : goal.decreases-loop-piece

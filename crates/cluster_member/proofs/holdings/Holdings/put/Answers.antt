@@ -28,4 +28,4 @@ pub returns-in-None-clause-others : goal.returns-in-None-clause-others
 returns-in-None-clause-others c = λ other differs.
     let items = c.self.inside.items.items in
     rw c.push_reserved.ensures.items
-      (others_more items c.args.holding other differs ∙ ap (λ (v : AllHeld). held_at v.held other) c.self.view_is)
+    (others_more items c.args.holding other differs ∙ ap (λ (v : AllHeld). held_at v.held other) c.self.view_is)
