@@ -1,9 +1,8 @@
 ghost use Rattle.std.specs.Prelude.{◌≡◌, ◌<◌, Some, None, [], List, MatchOption, OnOk};
 ghost use Rattle.keeper_book.specs.Asks.{Asks};
 ghost use Rattle.keeper_book.specs.declared.calls.Call.{Call};
-ghost use Rattle.turn_rules.specs.Draws.{Concludes, DrawsTo};
-ghost use Rattle.turn_rules.specs.Held.{Held, held_at};
-ghost use Rattle.event_text.specs.declared.verdict.Refusal.TheVariants as refusal;
+ghost use Rattle.turn_rules.specs.Held.{held_at};
+ghost use Rattle.cluster_member.specs.Members.{DrawsFrom};
 ghost use Rattle.cluster_member.specs.Places.{IsPlaceOf, KeepsOthers};
 
 use crate::holding::Holding;
@@ -75,11 +74,8 @@ impl Holdings {
 
     /// Draws the next ESP number of an association that is held.
     pub fn draw<K: Keeper>(&mut self, keeper: &mut K, spir: u64) -> Verdict
-        ensures draws { (calls : List Call) × MatchOption (held_at self.old.held spir)
-            (Concludes calls result (Verdict.Refused refusal.NotOwner) × (self.new ≡ self.old))
-            (λ held. (now : Held) × DrawsTo held calls result now × (held_at self.new.held spir ≡ Some now))
+        ensures draws { (calls : List Call) × DrawsFrom spir self.old.held calls result self.new.held
             × Asks K.Keeper keeper.old calls keeper.new }
-        ensures others { KeepsOthers spir self.old.held self.new.held }
         ensures held { K.held keeper.new ≡ K.held keeper.old }
     {
         match place_of(&self.items, spir) {

@@ -2,6 +2,8 @@
 use Rattle.std.proofs.Common.{◌≡◌, Some, ap, sym, ◌∙◌}
 use Rattle.keeper_book.specs.declared.records.Record.{Record}
 use Rattle.turn_rules.specs.Held.{held_at}
+use Rattle.std.proofs.Math.ListN.{set}
+use Rattle.cluster_member.specs.Members.{Becomes}
 use Rattle.cluster_member.specs.Places.{AllHeld, IsPlaceOf}
 use Rattle.cluster_member.proofs.PlaceLemmas.{found_at, others_at, put_at}
 use Rattle.cluster_member.proofs.holdings.Holdings.draw.Goals as goal
@@ -15,14 +17,10 @@ returns-in-Some-clause-draws g c =
     let place : IsPlaceOf c.args.spir c.in-Some.place items = rw c.deref.ensures.value at c.in-Some.ensures in
     let same : new.sa.spir ≡ c.args.spir = ap (λ (sa : Record). sa.spir) c.draw.ensures.sa ∙ place.here held c.index_mut-holding.ensures.value in
     let found : held_at c.args.self.now.held c.args.spir ≡ Some held = ap (λ (v : AllHeld). held_at v.held c.args.spir) (sym c.self.view_is) ∙ found_at c.args.spir c.in-Some.place items held place c.index_mut-holding.ensures.value in
-    rw found (drawn.0, (new, drawn.1, put_at c.args.spir c.in-Some.place items new same place), drawn.2)
-
-pub returns-in-Some-clause-others : goal.returns-in-Some-clause-others
-returns-in-Some-clause-others g c = λ other differs.
-    let items = c.self.inside.items.items in
-    let held = c.index_mut-holding.result.now in
-    let new = c.draw.new.self in
-    let place : IsPlaceOf c.args.spir c.in-Some.place items = rw c.deref.ensures.value at c.in-Some.ensures in
-    let same : new.sa.spir ≡ c.args.spir = ap (λ (sa : Record). sa.spir) c.draw.ensures.sa ∙ place.here held c.index_mut-holding.ensures.value in
-    others_at c.args.spir c.in-Some.place other items new same differs place
-    ∙ ap (λ (v : AllHeld). held_at v.held other) c.self.view_is
+    let becomes : Becomes c.args.spir new c.args.self.now.held (set items c.in-Some.place new) = record {
+      held = put_at c.args.spir c.in-Some.place items new same place;
+      others = λ other differs.
+          others_at c.args.spir c.in-Some.place other items new same differs place
+          ∙ ap (λ (v : AllHeld). held_at v.held other) c.self.view_is;
+    } in
+    rw found (drawn.0, (new, drawn.1, becomes), drawn.2)
