@@ -7,3 +7,4 @@ mod member;
 mod refusals;
 
 pub use member::Member;
+pub use refusals::of_fault;

@@ -18,8 +18,8 @@ pub(crate) fn of_stop(stop: Stop) -> Refusal
     }
 }
 
-/// The refusal that a keeper's answer to a takeover is, but for want of memory.
-pub(crate) fn of_fault(fault: KeeperFault) -> Option<Refusal>
+/// The refusal that a keeper's answer to a call is that is not a cover, but for want of memory.
+pub fn of_fault(fault: KeeperFault) -> Option<Refusal>
     ensures { result ≡ refusal_of_fault fault }
 {
     match fault {

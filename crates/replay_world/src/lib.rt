@@ -1,6 +1,7 @@
 //! A run: the members of a cluster, the peer, and the trace of what they did; and the top call that plays an event file.
 #![tactic(auto)]
 
+mod cast;
 mod ends;
 mod input;
 mod play;
