@@ -5,6 +5,7 @@ use Rattle.std.proofs.lemmas.Bool.{and_parts, cases_lt, cases_order, eq-eqb, eqb
 use Rattle.std.proofs.lemmas.List.{append-nil, get_or_append_left, get_or_at, get_or_past, get_or-set_same, get_or-set_other, length-append, length-set}
 use Rattle.std.specs.Prelude.{◌||◌, ◌&&◌, not, is_some, nat_le, nat_lt, option_to_list, MatchOption}
 use Rattle.cluster_member.specs.Members.{DrawsFrom, Holder, TakesTo}
+use Rattle.cluster_member.proofs.VerdictLaws.{IsOfMember, option_drawn, takes_member}
 use Rattle.cluster_member.proofs.StepLaws.{draws-from-fit, draws-held, takes-fit, takes-held}
 use Rattle.event_text.specs.declared.event.Event.{Event}
 use Rattle.event_text.specs.declared.event.Event.TheVariants as event
@@ -24,11 +25,17 @@ use Rattle.keeper_book.specs.declared.faults.KeeperFault.TheVariants as fault
 use Rattle.keeper_book.specs.declared.records.Record.{Record}
 use Rattle.turn_rules.specs.Draws.{Admits, Concludes, Draws, Enters, Grants, TakesOver, refusal_of_fault}
 use Rattle.turn_rules.specs.Ends.{Member, Peer, Performer, is_by, is_end, is_of_run, is_refused_by_run, performer_of, own}
+use Rattle.keeper_book.specs.declared.counters.Counter.TheVariants as counter
+use Rattle.turn_rules.specs.Draws.{reach_of, refusal_of_stop}
+use Rattle.turn_rules.specs.Held.{Held}
+use Rattle.turn_rules.specs.Local.{AreShown, IsExplained, Local}
+use Rattle.turn_rules.specs.Steps.{IsQuiet}
+use Rattle.turn_rules.specs.Fits.{DrawFits, ImportFits, JoinFits, OwnFits}
 use Rattle.turn_rules.specs.Fits.{Fits, Refusing, has_import, has_joined, has_takeover, is_importable, is_join, is_takeover, joins}
 use Rattle.turn_rules.specs.Held.{held_after, held_at, held_by}
 use Rattle.turn_rules.specs.Peers.{admits, entered, entered_in, slots_by}
-use Rattle.replay_world.specs.Casts.{Imports, Joins, Mirrors, Standing, imported_as, joined_as, nobody}
-use Rattle.replay_world.proofs.MirrorLaws.{Continues}
+use Rattle.replay_world.specs.Casts.{AreKept, DrawsAs, DrawsAt, Owns, Plays, Rejecting, TakesOverAs, has_member, Imports, Joins, Mirrors, Standing, imported_as, joined_as, nobody}
+use Rattle.replay_world.proofs.MirrorLaws.{Continues, continued}
 
 never : false ≡ true → ⊥
 never e = cc
@@ -63,11 +70,6 @@ enters_elim : {C : Type 0} (sa : Record) (calls : List Call) (v : Verdict) → (
 enters_elim sa [] v f g a = absurd a
 enters_elim sa (call ∷ []) v f g a = admits_elim (seen call) v f g a.1
 enters_elim sa (call ∷ other ∷ more) v f g a = absurd a
-
--- a verdict that a member itself comes to
-record IsOfMember (v : Verdict) : Type 0 where
-  no_join : is_join v ≡ false
-  heard : is_refused_by_run v ≡ false
 
 module _ (now : Moment) (step : Step) where
   abbrev pub turn_of : Event → List Call → Verdict → Turn
@@ -207,19 +209,71 @@ module _ (now : Moment) (step : Step) where
         owned = taken;
       }
 
-grants_member : (answered : KeeperAnswer) (v : Verdict) → Grants answered v → IsOfMember v
-grants_member answer.Done v g = absurd g
-grants_member (answer.Taken taken) v g = record { no_join = rw g; heard = rw g }
-grants_member (answer.Refused fault.Failed) v g = record { no_join = rw g; heard = rw g }
-grants_member (answer.Refused fault.Unknown) v g = record { no_join = rw g; heard = rw g }
-grants_member (answer.Refused fault.Closed) v g = record { no_join = rw g; heard = rw g }
-grants_member (answer.Refused (fault.Full limit)) v g = record { no_join = rw g; heard = rw g }
-grants_member (answer.Refused fault.SpiInUse) v g = record { no_join = rw g; heard = rw g }
-grants_member (answer.Refused (fault.Replaced epoch)) v g = absurd g
-grants_member (answer.Refused fault.Spent) v g = absurd g
-grants_member (answer.Refused fault.Memory) v g = absurd g
+not_false : (b : Bool) → not b ≡ false → b ≡ true
+not_false true e = refl
+not_false false e = cc
 
-takes_member : (spir member : ℕ) (calls : List Call) (v : Verdict) → TakesOver spir member calls v → IsOfMember v
-takes_member spir member [] v t = absurd t
-takes_member spir member (call ∷ []) v t = grants_member (seen call) v t.1
-takes_member spir member (call ∷ other ∷ more) v t = absurd t
+or_false : (b : Bool) → b ≡ (b || false)
+or_false true = refl
+or_false false = refl
+
+rejecting_elim : {P C : Type 0} (b : Bool) (s : Standing) (why : Refusal) (calls : List Call) (v : Verdict) (new : Standing) → (calls ≡ [] → v ≡ out.Refused why → new ≡ s → C) → (b ≡ false → P → C) → Rejecting b s why calls v new P → C
+rejecting_elim true s why calls v new f g r = f r.concludes.no_more r.concludes.said r.leaves
+rejecting_elim false s why calls v new f g r = g refl r
+
+rejecting_as : {P Q : Type 0} (b : Bool) (s : Standing) (why : Refusal) (calls : List Call) (v : Verdict) (new : Standing) → (b ≡ false → P → Q) → Rejecting b s why calls v new P → Refusing b why calls v Q
+rejecting_as true s why calls v new f r = r.concludes
+rejecting_as false s why calls v new f r = f refl r
+
+record HasJoined (member : ℕ) (members : List Holder) : Type 0 where
+  first : 0 < member
+  last : member ≤ length members
+
+has_joined_by : (member : ℕ) (members : List Holder) → not (has_member member members) ≡ false → HasJoined member members
+has_joined_by member members e =
+    let parts = and_parts _ _ (not_false (has_member member members) e) in
+    record { first = ltb-true _ _ parts.0; last = leb-true _ _ parts.1 }
+
+module _ (s : Standing) (numbered : Numbered s.members) (member spir : ℕ) (calls : List Call) (v : Verdict) (new : Standing) where
+  own_taken : HasJoined member s.members → TakesOverAs s member spir calls v new → (t : TakesOverAs s member spir calls v new) → TakesTo spir member (get_or s.members (member - 1) nobody).held calls v t.now.held
+  own_taken j u t =
+      let place : member - 1 < length s.members = omega (arith, j.first, j.last) in
+      let back : member - 1 + 1 ≡ member = omega (arith, j.first) in
+      subst (λ n. TakesTo spir n (get_or s.members (member - 1) nobody).held calls v t.now.held) (t.number ∙ numbered (member - 1) place ∙ back) t.takes
+
+  module _ (now : Moment) (step : Step) where
+    rejected_by : (e : Event) (why : Refusal) → entered e (out.Refused why) ≡ None → is_of_run why ≡ true → v ≡ out.Refused why → new ≡ s → Continues s (turn_of now step e calls v) new
+    rejected_by e why none run said leaves =
+        subst (λ u. Continues s (turn_of now step e calls u) new) (sym said)
+        (subst (λ n. Continues s (turn_of now step e calls (out.Refused why)) n) (sym leaves) (rejected now step s numbered e calls why none run))
+
+    owned_by : HasJoined member s.members → s.owned ≡ false → TakesOverAs s member spir calls v new → Continues s (turn_of now step (event.Own member spir) calls v) new
+    owned_by j first t =
+        let takes = own_taken j t t in
+        subst (λ n. Continues s (turn_of now step (event.Own member spir) calls v) n) (sym t.leaves)
+        (member_done now step s numbered (event.Own member spir) calls v member t.now (is_takeover v) refl refl
+          (takes_member spir member calls v (takes-fit spir member _ _ calls v takes)) j.first j.last t.number
+          (or_false (is_takeover v) ∙ ap (λ b. is_takeover v || b) (sym first))
+          (λ other. takes-held other spir member _ _ calls v takes))
+
+    pub continues-own : Owns s member spir calls v new → Continues s (turn_of now step (event.Own member spir) calls v) new
+    continues-own p =
+        rejecting_elim (not (has_member member s.members)) s refusal.NoMember calls v new (λ n. rejected_by (event.Own member spir) refusal.NoMember refl refl)
+        (λ j. rejecting_elim s.owned s refusal.NotBuilt calls v new (λ n. rejected_by (event.Own member spir) refusal.NotBuilt refl refl)
+        (owned_by (has_joined_by member s.members j)))
+        p
+
+    drawn_by : HasJoined member s.members → DrawsAs s member spir calls v new → Continues s (turn_of now step (event.Draw member spir) calls v) new
+    drawn_by j d =
+        let drawn = option_drawn _ calls v (draws-from-fit spir _ _ calls v d.draws) in
+        subst (λ n. Continues s (turn_of now step (event.Draw member spir) calls v) n) (sym d.leaves)
+        (member_done now step s numbered (event.Draw member spir) calls v member d.now s.owned refl refl
+          drawn.said j.first j.last d.number
+          (ap (λ b. b || s.owned) (sym drawn.no_takeover))
+          (λ other. draws-held other spir member _ _ calls v d.draws))
+
+    pub continues-draw : DrawsAt s member spir calls v new → Continues s (turn_of now step (event.Draw member spir) calls v) new
+    continues-draw p =
+        rejecting_elim (not (has_member member s.members)) s refusal.NoMember calls v new (λ n. rejected_by (event.Draw member spir) refusal.NoMember refl refl)
+        (λ j. drawn_by (has_joined_by member s.members j))
+        p
