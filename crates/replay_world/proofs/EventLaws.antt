@@ -277,3 +277,115 @@ module _ (s : Standing) (numbered : Numbered s.members) (member spir : ℕ) (cal
         rejecting_elim (not (has_member member s.members)) s refusal.NoMember calls v new (λ n. rejected_by (event.Draw member spir) refusal.NoMember refl refl)
         (λ j. drawn_by (has_joined_by member s.members j))
         p
+
+module _ (past : List Turn) (s : Standing) (m : Mirrors past s) (calls : List Call) (v : Verdict) (new : Standing) where
+  fits_import : (sa : Record) → Imports s sa calls v new → ImportFits past sa calls v
+  fits_import sa p =
+      subst (λ slots. Refusing (has_import past) refusal.NotBuilt calls v (Refusing (not (is_importable sa)) refusal.SpiRange calls v (Refusing (not (admits slots sa)) refusal.SpiInUse calls v (Enters sa calls v)))) m.slots
+      (subst (λ b. Refusing b refusal.NotBuilt calls v (Refusing (not (is_importable sa)) refusal.SpiRange calls v (Refusing (not (admits s.slots sa)) refusal.SpiInUse calls v (Enters sa calls v)))) m.imported p.fits)
+
+  fits_join : Joins s calls v new → JoinFits s.boxes past calls v
+  fits_join p = subst (λ n. Refusing (nat_lt 0 n) refusal.NotBuilt calls v (Refusing (nat_le 64 n || nat_le s.boxes n) (refusal.NoRoom n) calls v (Concludes calls v (out.Member (n + 1))))) m.count p.fits
+
+  fits_own : (member spir : ℕ) → Owns s member spir calls v new → OwnFits past member spir calls v
+  fits_own member spir p =
+      subst (λ n. Refusing (not (nat_lt 0 member && nat_le member n)) refusal.NoMember calls v (Refusing (has_takeover past) refusal.NotBuilt calls v (TakesOver spir member calls v))) m.count
+      (subst (λ b. Refusing (not (has_member member s.members)) refusal.NoMember calls v (Refusing b refusal.NotBuilt calls v (TakesOver spir member calls v))) m.owned
+      (rejecting_as (not (has_member member s.members)) s refusal.NoMember calls v new
+        (λ j. rejecting_as s.owned s refusal.NotBuilt calls v new
+        (λ b t. takes-fit spir member _ _ calls v (own_taken s m.numbers member spir calls v new (has_joined_by member s.members j) t t)))
+        p))
+
+  fits_draw : (member spir : ℕ) → DrawsAt s member spir calls v new → DrawFits past member spir calls v
+  fits_draw member spir p =
+      subst (λ n. Refusing (not (nat_lt 0 member && nat_le member n)) refusal.NoMember calls v (MatchOption (held_by (own (Member member) past) spir) (Concludes calls v (out.Refused refusal.NotOwner)) (λ held. Draws held calls v))) m.count
+      (rejecting_as (not (has_member member s.members)) s refusal.NoMember calls v new
+        (λ j d.
+          let joined = has_joined_by member s.members j in
+          let back : member - 1 + 1 ≡ member = omega (arith, joined.first) in
+          let said : held_at (get_or s.members (member - 1) nobody).held spir ≡ held_by (own (Member member) past) spir = m.held (member - 1) spir ∙ ap (λ n. held_by (own (Member n) past) spir) back in
+          subst (λ x. MatchOption x (Concludes calls v (out.Refused refusal.NotOwner)) (λ held. Draws held calls v)) said (draws-from-fit spir _ _ calls v d.draws))
+        p)
+
+  -- an event does what the turns before it say
+  pub fits : (e : Event) → Plays s e calls v new → Fits s.boxes past e calls v
+  fits (event.Import sa) p = fits_import sa p
+  fits (event.Join fresh) p = fits_join p
+  fits (event.Own member spir) p = fits_own member spir p
+  fits (event.Draw member spir) p = fits_draw member spir p
+
+  continues : (now : Moment) (step : Step) (e : Event) → Plays s e calls v new → Continues s (turn_of now step e calls v) new
+  continues now step (event.Import sa) p = continues-import now step s m.numbers sa calls v new p
+  continues now step (event.Join fresh) p = continues-join now step s m.numbers fresh calls v new p
+  continues now step (event.Own member spir) p = continues-own s m.numbers member spir calls v new now step p
+  continues now step (event.Draw member spir) p = continues-draw s m.numbers member spir calls v new now step p
+
+module _ (s : Standing) where
+  imported_boxes : (sa : Record) (v : Verdict) → (imported_as sa v s).boxes ≡ s.boxes
+  imported_boxes sa out.Entered = refl
+  imported_boxes sa (out.Member number) = refl
+  imported_boxes sa (out.Owned epoch bases) = refl
+  imported_boxes sa (out.Number n) = refl
+  imported_boxes sa (out.Refused why) = refl
+
+  joined_boxes : (v : Verdict) → (joined_as v s).boxes ≡ s.boxes
+  joined_boxes out.Entered = refl
+  joined_boxes (out.Member number) = refl
+  joined_boxes (out.Owned epoch bases) = refl
+  joined_boxes (out.Number n) = refl
+  joined_boxes (out.Refused why) = refl
+
+  module _ (calls : List Call) (v : Verdict) (new : Standing) where
+    pub boxes-stay : (e : Event) → Plays s e calls v new → new.boxes ≡ s.boxes
+    boxes-stay (event.Import sa) p = ap (λ (n : Standing). n.boxes) p.leaves ∙ imported_boxes sa v
+    boxes-stay (event.Join fresh) p = ap (λ (n : Standing). n.boxes) p.leaves ∙ joined_boxes v
+    boxes-stay (event.Own member spir) p =
+        rejecting_elim (not (has_member member s.members)) s refusal.NoMember calls v new (λ n w l. ap (λ (x : Standing). x.boxes) l)
+        (λ j. rejecting_elim s.owned s refusal.NotBuilt calls v new (λ n w l. ap (λ (x : Standing). x.boxes) l)
+        (λ f t. ap (λ (x : Standing). x.boxes) t.leaves))
+        p
+    boxes-stay (event.Draw member spir) p =
+        rejecting_elim (not (has_member member s.members)) s refusal.NoMember calls v new (λ n w l. ap (λ (x : Standing). x.boxes) l)
+        (λ j d. ap (λ (x : Standing). x.boxes) d.leaves)
+        p
+
+entered_few : (v : Verdict) (sa : Record) (cs : List Call) → Enters sa cs v → length cs ≤ 1
+entered_few v sa [] e = absurd e
+entered_few v sa (call ∷ []) e = omega arith
+entered_few v sa (call ∷ other ∷ more) e = absurd e
+
+taken_few : (v : Verdict) (spir member : ℕ) (cs : List Call) → TakesOver spir member cs v → length cs ≤ 1
+taken_few v spir member [] e = absurd e
+taken_few v spir member (call ∷ []) e = omega arith
+taken_few v spir member (call ∷ other ∷ more) e = absurd e
+
+-- no event makes more than one call
+pub few : (boxes : ℕ) (past : List Turn) (e : Event) (calls : List Call) (v : Verdict) → Fits boxes past e calls v → length calls ≤ 1
+few boxes past (event.Import sa) calls v p =
+    refusing_elim (has_import past) refusal.NotBuilt calls v (λ n e. omega (arith, ap length n))
+    (λ a. refusing_elim (not (is_importable sa)) refusal.SpiRange calls v (λ n e. omega (arith, ap length n))
+    (λ b. refusing_elim (not (admits (slots_by (own Peer past)) sa)) refusal.SpiInUse calls v (λ n e. omega (arith, ap length n))
+    (λ c. entered_few v sa calls)))
+    p
+few boxes past (event.Join fresh) calls v p =
+    refusing_elim (nat_lt 0 (joins past)) refusal.NotBuilt calls v (λ n e. omega (arith, ap length n))
+    (λ a. refusing_elim (nat_le 64 (joins past) || nat_le boxes (joins past)) (refusal.NoRoom (joins past)) calls v (λ n e. omega (arith, ap length n))
+    (λ b c. omega (arith, ap length c.no_more)))
+    p
+few boxes past (event.Own member spir) calls v p =
+    refusing_elim (not (has_joined member past)) refusal.NoMember calls v (λ n e. omega (arith, ap length n))
+    (λ a. refusing_elim (has_takeover past) refusal.NotBuilt calls v (λ n e. omega (arith, ap length n))
+    (λ b. taken_few v spir member calls))
+    p
+few boxes past (event.Draw member spir) calls v p =
+    refusing_elim (not (has_joined member past)) refusal.NoMember calls v (λ n e. omega (arith, ap length n))
+    (λ a d. (option_drawn (held_by (own (Member member) past) spir) calls v d).few)
+    p
+
+-- after an event the ends hold what the turns say, and each turn is explained
+pub kept : (past : List Turn) (s : Standing) (now : Moment) (e : Event) (calls : List Call) (step : Step) (new : Standing) → AreKept past s → Plays s e calls step.verdict new → AreShown calls → IsQuiet step → AreKept (record { moment = now; event = e; calls = calls; step = step } ∷ past) new
+kept past s now e calls step new k p shown quiet = record {
+  mirrors = continued past (turn_of now step e calls step.verdict) s new k.mirrors (continues past s k.mirrors calls step.verdict new now step e p);
+  local = subst (λ boxes. Local boxes (record { moment = now; event = e; calls = calls; step = step } ∷ past)) (sym (boxes-stay s calls step.verdict new e p))
+    (record { fits = fits past s k.mirrors calls step.verdict new e p; shown = shown; quiet = quiet }, k.local);
+}
