@@ -1,10 +1,14 @@
-ghost use Rattle.std.specs.Prelude.{◌≡◌, ◌<◌, length, IfSome, [], ◌∷◌, OnOk, OnErr};
+ghost use Rattle.std.specs.Prelude.{◌≡◌, ℕ, [], OnOk, OnErr, false, length, slice_get};
+ghost use Rattle.std.specs.Option.{option_copied};
+ghost use Rattle.turn_rules.specs.Local.{Local};
+ghost use Rattle.replay_world.specs.Runs.{CausedSince, Grows, StandsTold};
 
 use crate::cast::Cast;
 use event_text::{Event, Turn};
 use ha_base::{Memory, Moment};
 use keeper_book::{Gate, Keeper};
 use std::alloc::Global;
+use std::marker::Model;
 
 /// The members of a cluster, the peer, and what they did.
 #[derive(Drop)]
@@ -13,9 +17,23 @@ pub struct Ends {
     trace: Vec<Turn>,
 }
 
+impl Model for Ends {
+    ghost use Rattle.std.specs.Prelude.{reverse};
+    ghost use Rattle.replay_world.specs.Casts.{AreKept};
+    ghost use Rattle.replay_world.specs.Runs.{Run};
+
+    ghost Value = { Run };
+
+    ghost view = { λ e. record { boxes = e.cast.boxes; past = reverse e.trace.items } };
+
+    ghost invariant = { λ e. AreKept (reverse e.trace.items) e.cast };
+}
+
 impl Ends {
     /// Ends that have done nothing, and services for as many members as `boxes` says.
-    pub fn new(alloc: Global, boxes: usize) -> Ends {
+    pub fn new(alloc: Global, boxes: usize) -> Ends
+        ensures { result ≡ record { boxes = boxes; past = [] } }
+    {
         Ends {
             cast: Cast::new(alloc, boxes),
             trace: Vec::new(alloc),
@@ -30,6 +48,17 @@ impl Ends {
         now: Moment,
         event: Event,
     ) -> Result<(), Memory>
+        requires empty { keeper.old.calls ≡ [] }
+        requires told { keeper.old.missed ≡ false }
+        ensures grows { OnOk result (Grows self.old now event self.new) }
+        ensures local { Local self.new.boxes self.new.past }
+        ensures stands { StandsTold self.old.past (K.book keeper.old.keeper)
+            → OnOk result (StandsTold self.new.past (K.book keeper.new.keeper)) }
+        ensures caused { (start : ℕ) → CausedSince start (K.faults keeper.old.keeper) self.old.past
+            → OnOk result (CausedSince start (K.faults keeper.new.keeper) self.new.past) }
+        ensures empty { OnOk result (keeper.new.calls ≡ []) }
+        ensures told { OnOk result (keeper.new.missed ≡ false) }
+        ensures err { OnErr result (self.new ≡ self.old) }
         ensures held { K.held keeper.new.keeper ≡ K.held keeper.old.keeper }
     {
         if self.trace.reserve(1).is_err() {
@@ -46,13 +75,17 @@ impl Ends {
         Ok(())
     }
 
-    /// The newest turn.
-    pub fn last(&self) -> Option<&Turn> {
+    /// The newest turn, where there is one.
+    pub fn last(&self) -> Option<&Turn>
+        ensures { option_copied result ≡ slice_get self.now.past 0 }
+    {
         self.trace.last()
     }
 
     /// How many turns there are.
-    pub fn turns(&self) -> u64 {
+    pub fn turns(&self) -> u64
+        ensures { result ≡ length self.now.past }
+    {
         self.trace.len() as u64
     }
 }

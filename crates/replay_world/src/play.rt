@@ -1,4 +1,4 @@
-ghost use Rattle.std.specs.Prelude.{◌≡◌};
+ghost use Rattle.std.specs.Prelude.{◌≡◌, [], false};
 
 use crate::world::World;
 use event_text::{EventReader, InputFault, LineReason, write_end, write_head, write_turn};
@@ -21,6 +21,8 @@ fn play_events<K: Keeper>(
     keeper: &mut Gate<K>,
     report: &mut Octets,
 ) -> Result<Option<InputFault>, Memory>
+    requires empty { keeper.old.calls ≡ [] }
+    requires told { keeper.old.missed ≡ false }
     ensures held { K.held keeper.new.keeper ≡ K.held keeper.old.keeper }
 {
     loop {
@@ -43,6 +45,8 @@ pub(crate) fn play<K: Keeper>(
     world: &mut World,
     keeper: &mut Gate<K>,
 ) -> Result<Played, Memory>
+    requires empty { keeper.old.calls ≡ [] }
+    requires told { keeper.old.missed ≡ false }
     ensures held { K.held keeper.new.keeper ≡ K.held keeper.old.keeper }
 {
     let mut report = Octets::new(alloc);

@@ -1,4 +1,7 @@
-ghost use Rattle.std.specs.Prelude.{◌≡◌};
+ghost use Rattle.std.specs.Prelude.{◌≡◌, ℕ, [], OnOk, OnErr, false, length, slice_get, vec_len};
+ghost use Rattle.std.specs.Option.{option_copied};
+ghost use Rattle.turn_rules.specs.Local.{Local};
+ghost use Rattle.replay_world.specs.Runs.{CausedSince, Grows, StandsTold};
 
 use crate::ends::Ends;
 use event_text::{Event, Turn};
@@ -22,7 +25,11 @@ impl World {
         alloc: Global,
         peer_service: Box<dyn Service>,
         services: Vec<Box<dyn Service>>,
-    ) -> World {
+    ) -> World
+        ensures ends { result.ends ≡ record { boxes = vec_len services; past = [] } }
+        ensures peer_service { result.peer_service ≡ peer_service }
+        ensures services { result.services ≡ services }
+    {
         World {
             ends: Ends::new(alloc, services.len()),
             peer_service,
@@ -38,18 +45,35 @@ impl World {
         now: Moment,
         event: Event,
     ) -> Result<(), Memory>
+        requires empty { keeper.old.calls ≡ [] }
+        requires told { keeper.old.missed ≡ false }
+        ensures grows { OnOk result (Grows self.old.ends now event self.new.ends) }
+        ensures local { Local self.new.ends.boxes self.new.ends.past }
+        ensures stands { StandsTold self.old.ends.past (K.book keeper.old.keeper)
+            → OnOk result (StandsTold self.new.ends.past (K.book keeper.new.keeper)) }
+        ensures caused { (start : ℕ) → CausedSince start (K.faults keeper.old.keeper) self.old.ends.past
+            → OnOk result (CausedSince start (K.faults keeper.new.keeper) self.new.ends.past) }
+        ensures empty { OnOk result (keeper.new.calls ≡ []) }
+        ensures told { OnOk result (keeper.new.missed ≡ false) }
+        ensures err { OnErr result (self.new ≡ self.old) }
+        ensures peer_service { self.new.peer_service ≡ self.old.peer_service }
+        ensures services { self.new.services ≡ self.old.services }
         ensures held { K.held keeper.new.keeper ≡ K.held keeper.old.keeper }
     {
         self.ends.turn(keeper, now, event)
     }
 
-    /// The newest turn.
-    pub fn last(&self) -> Option<&Turn> {
+    /// The newest turn, where there is one.
+    pub fn last(&self) -> Option<&Turn>
+        ensures { option_copied result ≡ slice_get self.now.ends.past 0 }
+    {
         self.ends.last()
     }
 
     /// How many turns there are.
-    pub fn turns(&self) -> u64 {
+    pub fn turns(&self) -> u64
+        ensures { result ≡ length self.now.ends.past }
+    {
         self.ends.turns()
     }
 }
