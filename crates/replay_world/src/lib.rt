@@ -8,3 +8,6 @@ pub mod top;
 mod world;
 
 pub use world::World;
+
+#[cfg(test)]
+mod tests;
