@@ -1,0 +1,6 @@
+pub mod Values
+pub mod AttributeView
+pub mod TransformView
+pub mod ProposalView
+pub mod SelectorView
+pub mod PayloadView
