@@ -4,3 +4,5 @@ pub mod TransformView
 pub mod ProposalView
 pub mod SelectorView
 pub mod PayloadView
+pub mod Spelling
+pub mod Writing

@@ -7,6 +7,7 @@ mod payload;
 mod proposal;
 mod selector;
 mod transform;
+mod validity;
 
 pub use attribute::{Attribute, Attributes};
 pub use header::{Header, Message};

@@ -2,6 +2,7 @@ ghost use Rattle.std.specs.Prelude.{◌≡◌, [], ◌∷◌, ◌++◌, map, OnO
 
 use crate::proposal::Proposals;
 use crate::selector::Selectors;
+use crate::validity::fits_chain;
 use ha_base::{Memory, Octets};
 use std::alloc::Global;
 use std::marker::Model;
@@ -113,7 +114,9 @@ impl Model for Payloads {
 }
 
 impl Payloads {
+    ghost use Rattle.std.specs.Prelude.{◌↔◌, IsTrue};
     ghost use Rattle.ike_values.specs.PayloadView.{payload_value};
+    ghost use Rattle.ike_values.specs.Spelling.{HasSpelling};
 
     /// No payloads.
     pub fn new(alloc: Global) -> Payloads
@@ -140,5 +143,14 @@ impl Payloads {
         ensures { map payload_value result.now ≡ self.now }
     {
         self.items.as_slice()
+    }
+
+    /// Whether the payloads have a spelling. Every size fits its field, SPIs to delete are as many octets as their size
+    /// and number say, a nonce has 16 to 256 octets, lists of proposals and of selectors are not empty, a selector's
+    /// addresses have the length of its type, the type of an unknown payload is unknown, and SK is the last payload.
+    pub fn is_valid(&self) -> bool
+        ensures { IsTrue result ↔ HasSpelling self.now }
+    {
+        fits_chain(self.as_slice())
     }
 }
