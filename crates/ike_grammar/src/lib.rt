@@ -1,13 +1,9 @@
-// A library with one function.
+//! Reading IKEv2 messages (RFC 7296, section 3): octets are one value, or one fault at one place.
 #![tactic(auto)]
 
-ghost use Rattle.std.specs.Prelude.{◌≡◌};
-ghost use Rattle.ike_grammar.specs.Echo.{echo_of};
+mod bodies;
+mod fault;
+mod kind;
+mod octets;
 
-// The `ensures` clause is the contract: what `echo` returns is `echo_of` of its argument, a definition
-// in `specs/Echo.antt`, which a caller's clause can cite too.
-pub fn echo(x: usize) -> usize
-    ensures { result ≡ echo_of x }
-{
-    x
-}
+pub use fault::{Bad, Reason, Unread};
