@@ -2,8 +2,12 @@
 #![tactic(auto)]
 
 mod bodies;
+mod chain;
 mod fault;
 mod kind;
+mod messages;
 mod octets;
+mod proposals;
+mod selectors;
 
 pub use fault::{Bad, Reason, Unread};

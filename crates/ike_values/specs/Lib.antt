@@ -6,3 +6,4 @@ pub mod SelectorView
 pub mod PayloadView
 pub mod Spelling
 pub mod Writing
+pub mod Headers
