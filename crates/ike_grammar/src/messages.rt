@@ -1,6 +1,6 @@
 //! Headers and whole messages.
 
-ghost use Rattle.std.specs.Prelude.{◌≡◌, ◌+◌, ◌<◌, length};
+ghost use Rattle.std.specs.Prelude.{◌≡◌, ◌+◌, ◌<◌, ◌≤◌, length, IsOk};
 ghost use Rattle.ike_values.specs.Headers.{has_flag};
 ghost use Rattle.ike_grammar.specs.Faults.{Gives};
 ghost use Rattle.ike_grammar.specs.Messages.{four_at, eight_at, header_at, message_at};
@@ -17,7 +17,8 @@ const RESPONSE: u8 = 32;
 
 #[tactic(auto, unfolding(crate::specs::Messages::header_at))]
 pub(crate) fn header_of(bytes: &[u8]) -> Result<Header, Bad>
-    ensures { result ≡ header_at bytes.now }
+    ensures read { result ≡ header_at bytes.now }
+    ensures long { IsOk result → HEADER ≤ length bytes.now }
 {
     if bytes.len() < HEADER {
         return Err(Bad {

@@ -1,0 +1,5 @@
+pub mod Binds
+pub mod Many
+pub mod Counted
+pub mod Shorter
+pub mod Chains
