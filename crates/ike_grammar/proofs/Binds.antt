@@ -16,7 +16,7 @@ pub bind_same : {A B : Type 0} (r : Result A Bad) (f g : A → Result B Bad) →
 bind_same (Ok x) f g same = same x refl
 bind_same (Err d) f g same = refl
 
-abbrev done : {A : Type 0} → A → Result A Bad
+abbrev pub done : {A : Type 0} → A → Result A Bad
 done x = Ok x
 
 pub ok_is : {A : Type 0} (x y : A) → done x ≡ done y → x ≡ y

@@ -3,3 +3,5 @@ pub mod Many
 pub mod Counted
 pub mod Shorter
 pub mod Chains
+pub mod Cells
+pub mod BodyLaws

@@ -5,9 +5,11 @@ mod bodies;
 mod chain;
 mod fault;
 mod kind;
+mod laws;
 mod messages;
 mod octets;
 mod proposals;
 mod selectors;
 
 pub use fault::{Bad, Reason, Unread};
+pub use laws::one_reading;
