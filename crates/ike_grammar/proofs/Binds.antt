@@ -84,3 +84,10 @@ one_left left k e =
     bool_same (eqb left 1) (eqb k 0)
     (λ t. eq-eqb k 0 (omega (arith, eqb-true left 1 t, e)))
     (λ t. eq-eqb left 1 (omega (arith, eqb-true k 0 t, e)))
+
+pub not_none : (n : ℕ) → 0 < n → eqb n 0 ≡ false
+not_none n l = bool_same (eqb n 0) false (λ t. absurd (omega (arith, eqb-true n 0 t))) (λ f. absurd cc)
+
+pub some_octets : (n : ℕ) → eqb n 0 ≡ false → 0 < n
+some_octets zero e = absurd cc
+some_octets (suc n) e = omega arith

@@ -5,3 +5,9 @@ pub mod Shorter
 pub mod Chains
 pub mod Cells
 pub mod BodyLaws
+pub mod ManyLaws
+pub mod AttributeLaws
+pub mod ItemLaws
+pub mod TransformLaws
+pub mod ProposalLaws
+pub mod SelectorLaws
