@@ -73,7 +73,7 @@ some_left left b e f = grind (arith, nat_tests, e, f)
 pub none_left : (left : List ℕ) (b : Bool) → b ≡ eqb (length left) 0 → b ≡ true → length left ≡ 0
 none_left left b e t = eqb-true _ _ (sym e ∙ t)
 
-bool_same : (a b : Bool) → (a ≡ true → b ≡ true) → (b ≡ true → a ≡ true) → a ≡ b
+pub bool_same : (a b : Bool) → (a ≡ true → b ≡ true) → (b ≡ true → a ≡ true) → a ≡ b
 bool_same true b f g = sym (f refl)
 bool_same false true f g = g refl
 bool_same false false f g = refl

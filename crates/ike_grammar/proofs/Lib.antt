@@ -11,3 +11,6 @@ pub mod ItemLaws
 pub mod TransformLaws
 pub mod ProposalLaws
 pub mod SelectorLaws
+pub mod KindLaws
+pub mod PayloadLaws
+pub mod ChainLaws
