@@ -14,3 +14,5 @@ pub mod SelectorLaws
 pub mod KindLaws
 pub mod PayloadLaws
 pub mod ChainLaws
+pub mod MessageLaws
+pub mod Decoded

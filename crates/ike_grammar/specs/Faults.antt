@@ -57,3 +57,8 @@ counted one (suc n) bytes = do
   first ← one bytes
   others ← counted one n first.1
   Ok (first.0 ∷ others.0, others.1)
+
+-- memory ran out, or the fault is one of these places and reasons
+abbrev pub IsFaultAt : (ℕ → Reason → Type 0) → Unread → Type 0
+IsFaultAt P (unread.Memory m) = Unit {0}
+IsFaultAt P (unread.Bad b) = P b.place b.reason

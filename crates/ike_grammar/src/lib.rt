@@ -3,6 +3,7 @@
 
 mod bodies;
 mod chain;
+mod decode;
 mod fault;
 mod kind;
 mod laws;
@@ -11,5 +12,6 @@ mod octets;
 mod proposals;
 mod selectors;
 
+pub use decode::{decode_chain, decode_header, decode_message};
 pub use fault::{Bad, Reason, Unread};
-pub use laws::one_reading;
+pub use laws::{one_message, one_reading};
