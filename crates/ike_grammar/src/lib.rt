@@ -15,3 +15,6 @@ mod selectors;
 pub use decode::{decode_chain, decode_header, decode_message};
 pub use fault::{Bad, Reason, Unread};
 pub use laws::{one_message, one_reading};
+
+#[cfg(test)]
+mod tests;
