@@ -1,12 +1,11 @@
 -- Attributes that are read are spelled so, and what is spelled so is read.
-use Rattle.std.proofs.Common.{◌≡◌, ℕ, ◌+◌, ◌-◌, ◌*◌, ◌/◌, ◌%◌, ◌≤◌, ◌<◌, Bool, true, false, cond, ltb, List, [], ◌∷◌, ◌++◌, length, take, drop, Result, Ok, refl, sym, ap, subst, ◌∙◌, append_assoc, arith, inl, inr, length-append}
+use Rattle.std.proofs.Common.{◌≡◌, ℕ, ◌+◌, ◌-◌, ◌*◌, ◌/◌, ◌%◌, ◌≤◌, ◌<◌, Bool, true, false, cond, List, ◌++◌, length, take, drop, Ok, refl, sym, ap, subst, ◌∙◌, arith, inl, inr, length-append}
 use Rattle.std.specs.Prelude.{slice_index, nat_lt}
 use Rattle.std.specs.List.{AllByRecursion}
 use Rattle.std.proofs.lemmas.Bool.{ltb-true, ltb-false, le-ltb, lt-ltb}
-use Rattle.std.proofs.lemmas.List.{take-append-drop, take_at, drop_at, length-take, length-drop}
+use Rattle.std.proofs.lemmas.List.{take-append-drop, take_at, drop_at, length-take}
 use Rattle.ike_values.specs.Values.{AttributeValue, fixed, free}
 use Rattle.ike_values.specs.Spelling.{two, attribute_spelling, FitsAttribute, attributes_spelling}
-use Rattle.ike_grammar.specs.declared.fault.Bad.{Bad}
 use Rattle.ike_grammar.specs.OctetRange.{IsOctets}
 use Rattle.ike_grammar.specs.Faults.{unless, Passes, two_at, many}
 use Rattle.ike_grammar.specs.Proposals.{fixed_read, free_tests, free_read, attribute_tests, formed_at, attribute_at}
@@ -51,8 +50,8 @@ attribute_takes end bytes x fits e =
     let long : 4 ≤ length bytes = ltb-false _ _ u.0.0 in
     elim (chosen (nat_lt (two_at bytes 0) 32768) (unless (free_tests end bytes) (Ok (free_read bytes))) (Ok (fixed_read bytes)) (Ok x) u.1) [
       | inl h ↦
-        let v = unless_ok (free_tests end bytes) (Ok (free_read bytes)) x h.1 in
-        subst (TakesAttribute bytes) (ok_is (free_read bytes) x v.1) (free_takes end bytes fits long (ltb-true _ _ h.0) v.0)
+          let v = unless_ok (free_tests end bytes) (Ok (free_read bytes)) x h.1 in
+          subst (TakesAttribute bytes) (ok_is (free_read bytes) x v.1) (free_takes end bytes fits long (ltb-true _ _ h.0) v.0)
       | inr h ↦ subst (TakesAttribute bytes) (ok_is (fixed_read bytes) x h.1) (fixed_takes bytes fits long (ltb-false _ _ h.0))
     ]
 
@@ -98,11 +97,11 @@ attributes_items end =
       rest_fits = λ bytes x fits e. (attribute_takes end bytes x fits e).rest_fits;
       none = record { bytes_are = refl; fit = tt };
       found = λ bytes x xs fits e s.
-        let t = attribute_takes end bytes x fits e in
-        record { bytes_are = t.parts ∙ ap (λ (r : List ℕ). attribute_spelling x.0 ++ r) s.bytes_are; fit = (t.fits, s.fit) };
+          let t = attribute_takes end bytes x fits e in
+          record { bytes_are = t.parts ∙ ap (λ (r : List ℕ). attribute_spelling x.0 ++ r) s.bytes_are; fit = (t.fits, s.fit) };
       empty = λ bytes s. s.bytes_are;
       again = λ bytes x xs s.
-        (attributes_spelling xs, ap (attribute_at end) s.bytes_are ∙ attribute_again end x (attributes_spelling xs) s.fit.0, record { bytes_are = refl; fit = s.fit.1 });
+          (attributes_spelling xs, ap (attribute_at end) s.bytes_are ∙ attribute_again end x (attributes_spelling xs) s.fit.0, record { bytes_are = refl; fit = s.fit.1 });
     }
 
 pub attributes_found : (end : ℕ) (bytes : List ℕ) (xs : List AttributeValue) → IsOctets bytes → many (attribute_at end) bytes ≡ Ok xs → SpellsAttributes xs bytes

@@ -1,15 +1,14 @@
 -- A body without an inner list that is read is spelled so, and what is spelled so is read.
-use Rattle.std.proofs.Common.{◌≡◌, ℕ, ◌+◌, ◌-◌, ◌*◌, ◌/◌, ◌%◌, ◌^◌, ◌≤◌, ◌<◌, Bool, true, false, eqb, eq-eqb, List, [], ◌∷◌, ◌++◌, length, take, drop, Result, Ok, refl, sym, ap, subst, ◌∙◌, append_assoc, arith, length-append}
-use Rattle.std.specs.Prelude.{slice_index, nat_lt, ◌||◌, not, ◌==◌}
+use Rattle.std.proofs.Common.{◌≡◌, ℕ, ◌+◌, ◌-◌, ◌*◌, ◌/◌, ◌%◌, ◌^◌, ◌≤◌, ◌<◌, eq-eqb, List, ◌∷◌, ◌++◌, length, take, drop, Ok, refl, sym, ap, subst, ◌∙◌, append_assoc, arith, length-append}
+use Rattle.std.specs.Prelude.{slice_index}
 use Rattle.std.specs.Int.{w64, to_be_bytes, from_be_bytes}
 use Rattle.std.proofs.lemmas.Bool.{ltb-false, le-ltb, eqb-true}
 use Rattle.std.proofs.lemmas.List.{take-append-drop, take_at, drop_at, length-take, length-drop}
 use Rattle.std.proofs.lemmas.Nat.{be_bytes_8, from_be_bytes-to_be_bytes_8}
 use Rattle.ike_values.specs.Values.{IdValue, AuthValue, NotifyValue, DeleteValue, SkValue}
 use Rattle.ike_values.specs.Spelling.{two, SpellsNumbered, SpellsNonce, SpellsNotify, SpellsDelete, SpellsSk}
-use Rattle.ike_grammar.specs.declared.fault.Bad.{Bad}
 use Rattle.ike_grammar.specs.OctetRange.{IsOctets}
-use Rattle.ike_grammar.specs.Faults.{unless, Passes, two_at}
+use Rattle.ike_grammar.specs.Faults.{Passes}
 use Rattle.ike_grammar.specs.Bodies.{numbered_tests, id_at, auth_at, nonce_tests, nonce_at, notify_tests, notify_read, notify_at, delete_tests, delete_read, delete_at, sk_tests, sk_read, sk_at}
 use Rattle.ike_grammar.proofs.Binds.{done, ok_is, unless_ok, unless_passes, not_false, not_true, or_false, or_falses}
 use Rattle.ike_grammar.proofs.Cells.{IsOctets-take, heads4, same4, high, low, two_again}
@@ -137,14 +136,15 @@ sk_found end first body x fits e =
     let front : length (take 8 body) ≡ 8 = omega (arith, length-take 8 body) in
     let iv : to_be_bytes w64 (from_be_bytes w64 (take 8 body)) ≡ take 8 body = be_bytes_8 (take 8 body) _ front (IsOctets-take 8 body fits) refl in
     let parts : body ≡ take 8 body ++ (take size sealed ++ drop size sealed) = sym (take-append-drop 8 body) ∙ ap (λ (t : List ℕ). take 8 body ++ t) (sym (take-append-drop size sealed)) in
-    subst (λ (y : SkValue). SpellsSk y body × (y.first ≡ first)) (ok_is (sk_read first body) x u.1)
-    (record {
-      bytes_are = parts ∙ ap (λ (t : List ℕ). t ++ (take size sealed ++ drop size sealed)) (sym iv) ∙ sym (append_assoc (to_be_bytes w64 (from_be_bytes w64 (take 8 body))) (take size sealed) (drop size sealed));
-      iv_fits = eight_below (take 8 body) (IsOctets-take 8 body fits);
-      some = omega (arith, length-take size sealed);
-      icv_len = omega (arith, length-drop size sealed);
-    },
-    refl)
+    subst (λ (y : SkValue). SpellsSk y body × (y.first ≡ first)) (ok_is (sk_read first body) x u.1) (
+      record {
+        bytes_are = parts ∙ ap (λ (t : List ℕ). t ++ (take size sealed ++ drop size sealed)) (sym iv) ∙ sym (append_assoc (to_be_bytes w64 (from_be_bytes w64 (take 8 body))) (take size sealed) (drop size sealed));
+        iv_fits = eight_below (take 8 body) (IsOctets-take 8 body fits);
+        some = omega (arith, length-take size sealed);
+        icv_len = omega (arith, length-drop size sealed);
+      },
+      refl,
+    )
 
 sk_same : (f f' v v' : ℕ) (c c' i i' : List ℕ) → f ≡ f' → v ≡ v' → c ≡ c' → i ≡ i' → (let made : SkValue = record { first = f; iv = v; ciphertext = c; icv = i } in done made) ≡ (let made : SkValue = record { first = f'; iv = v'; ciphertext = c'; icv = i' } in done made)
 sk_same f f' v v' c c' i i' d e g h = rw (d, e, g, h) refl

@@ -1,20 +1,20 @@
 -- Chains that are read are spelled so, and what is spelled so is read.
-use Rattle.std.proofs.Common.{◌≡◌, ℕ, zero, suc, ◌+◌, ◌-◌, ◌≤◌, ◌<◌, ◌⊎◌, Bool, true, false, List, [], ◌∷◌, ◌++◌, length, Result, Ok, Err, refl, sym, ap, subst, ◌∙◌, arith, inl, inr}
-use Rattle.std.specs.Prelude.{◌&&◌, nat_lt}
+use Rattle.std.proofs.Common.{◌≡◌, ℕ, zero, suc, ◌+◌, ◌<◌, ◌⊎◌, Bool, false, List, [], ◌∷◌, length, Result, Ok, Err, refl, sym, ap, subst, ◌∙◌, arith, inl, inr}
+use Rattle.std.specs.Prelude.{◌&&◌}
 use Rattle.std.proofs.lemmas.Bool.{ltb-false, le-ltb}
 use Rattle.std.proofs.lemmas.List.{nil_from_length}
 use Rattle.ike_values.specs.Values.{PayloadValue, sk, other}
-use Rattle.ike_values.specs.Spelling.{type_of, SpellsBody, Front, SpellsFront, GoesOn, Spells}
+use Rattle.ike_values.specs.Spelling.{type_of, SpellsBody, Front, GoesOn, Spells}
 use Rattle.ike_grammar.specs.declared.fault.Bad.{Bad}
 use Rattle.ike_grammar.specs.declared.fault.Reason.{Reason}
 use Rattle.ike_grammar.specs.OctetRange.{IsOctets}
 use Rattle.ike_grammar.specs.Kinds.{kind_of, is_sk}
-use Rattle.ike_grammar.specs.Faults.{◌>>=◌, unless, Passes}
+use Rattle.ike_grammar.specs.Faults.{◌>>=◌}
 use Rattle.ike_grammar.specs.Chain.{payload_at, end_tests, chain_by, chain_at, Refused}
-use Rattle.ike_grammar.proofs.Binds.{done, bind_ok, ok_is, unless_ok, unless_passes}
+use Rattle.ike_grammar.proofs.Binds.{bind_ok, ok_is, unless_ok, unless_passes}
 use Rattle.ike_grammar.proofs.Chains.{payload_shortens, chain-end, chain-step}
 use Rattle.ike_grammar.proofs.KindLaws.{some_type}
-use Rattle.ike_grammar.proofs.PayloadLaws.{NextIs, Leads, FoundPayload, payload_found, Stands, goes_to, payload_again}
+use Rattle.ike_grammar.proofs.PayloadLaws.{NextIs, Leads, payload_found, Stands, goes_to, payload_again}
 
 spells_none : (items : List PayloadValue) (first : ℕ) (inner : Bool) (bytes : List ℕ) → bytes ≡ [] → Spells items first inner bytes → items ≡ []
 spells_none [] first inner bytes none s = refl

@@ -1,5 +1,5 @@
 -- A chain of payloads, as a loop reads it.
-use Rattle.std.proofs.Common.{◌≡◌, ℕ, zero, suc, ◌+◌, ◌-◌, ◌≤◌, ◌<◌, Bool, true, false, cond, ltb, List, [], ◌∷◌, ◌++◌, length, take, drop, Result, Ok, Err, refl, sym, ap, subst, ◌∙◌, append_assoc, arith}
+use Rattle.std.proofs.Common.{◌≡◌, ℕ, zero, suc, ◌+◌, ◌-◌, ◌≤◌, ◌<◌, Bool, true, false, List, [], ◌∷◌, ◌++◌, length, Result, Ok, Err, refl, sym, ap, subst, ◌∙◌, append_assoc, arith}
 use Rattle.std.specs.Prelude.{slice_index, nat_lt}
 use Rattle.std.proofs.lemmas.Bool.{ltb-false, lt-ltb, le-ltb}
 use Rattle.std.proofs.lemmas.List.{length-drop, append-nil}
@@ -11,7 +11,7 @@ use Rattle.ike_grammar.specs.declared.fault.Unread.TheVariants as unread
 use Rattle.ike_grammar.specs.declared.kind.Kind.{Kind}
 use Rattle.ike_grammar.specs.declared.kind.Kind.TheVariants.{Sk}
 use Rattle.ike_grammar.specs.Kinds.{kind_of}
-use Rattle.ike_grammar.specs.Faults.{◌>>=◌, Fails, unless, Passes, two_at}
+use Rattle.ike_grammar.specs.Faults.{◌>>=◌, Fails, unless, two_at}
 use Rattle.ike_grammar.specs.Chain.{body_at, payload_tests, body_of, after, last_tests, leads_to, payload_at, end_tests, chain_by, chain_at}
 use Rattle.ike_grammar.proofs.Binds.{bind_ok, bind_same, ok_is, unless_ok, or_false}
 use Rattle.ike_grammar.proofs.Many.{with_items}

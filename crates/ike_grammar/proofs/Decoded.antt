@@ -1,5 +1,5 @@
 -- What the decoders promise, from what they give.
-use Rattle.std.proofs.Common.{◌≡◌, ℕ, Bool, List, length, Result, Ok, Err, refl, sym, subst}
+use Rattle.std.proofs.Common.{◌≡◌, ℕ, Bool, List, length, Result, Ok, Err, sym, subst}
 use Rattle.std.specs.Prelude.{IfOk, IfErr}
 use Rattle.ike_values.specs.Values.{PayloadValue}
 use Rattle.ike_values.specs.Spelling.{Spells}
@@ -7,7 +7,6 @@ use Rattle.ike_values.specs.Headers.{IsHeader, IsMessage}
 use Rattle.ike_values.specs.declared.header.Header.{Header}
 use Rattle.ike_values.specs.declared.header.Message.{Message}
 use Rattle.ike_grammar.specs.declared.fault.Bad.{Bad}
-use Rattle.ike_grammar.specs.declared.fault.Reason.{Reason}
 use Rattle.ike_grammar.specs.declared.fault.Unread.{Unread}
 use Rattle.ike_grammar.specs.declared.fault.Unread.TheVariants as unread
 use Rattle.ike_grammar.specs.OctetRange.{IsOctets}
@@ -15,7 +14,7 @@ use Rattle.ike_grammar.specs.Faults.{Gives, IsFaultAt}
 use Rattle.ike_grammar.specs.Chain.{chain_at, Refused}
 use Rattle.ike_grammar.specs.Messages.{header_at, message_at, MessageRefused}
 use Rattle.ike_grammar.proofs.ChainLaws.{chain_found, chain_again}
-use Rattle.ike_grammar.proofs.MessageLaws.{header_found, header_again, message_found, message_again}
+use Rattle.ike_grammar.proofs.MessageLaws.{header_found, message_found, message_again}
 
 refused_at : {A : Type 0} (r : Result A Unread) (read : Result A Bad) → Gives (λ x. x) r read → IfErr r (IsFaultAt (λ place reason. read ≡ Err (record { place = place; reason = reason })))
 refused_at (Ok x) read g = tt

@@ -1,5 +1,5 @@
 -- Which kind a payload type is of.
-use Rattle.std.proofs.Common.{◌≡◌, ℕ, ◌+◌, ◌≤◌, ◌<◌, ◌⊎◌, Bool, true, false, cond, eqb, ltb, refl, sym, ap, ◌∙◌, arith, inl, inr}
+use Rattle.std.proofs.Common.{◌≡◌, ℕ, ◌+◌, ◌≤◌, ◌<◌, ◌⊎◌, Bool, true, false, cond, eqb, refl, arith, inl, inr}
 use Rattle.std.specs.Prelude.{◌==◌, ◌&&◌, ◌||◌, nat_lt, IsTrue}
 use Rattle.std.proofs.lemmas.Bool.{eqb-true, eqb-false, ltb-true, lt-ltb, cases_lt}
 use Rattle.ike_values.specs.Spelling.{is_unknown}
@@ -55,23 +55,23 @@ outside number some f33 f34 f35 f36 f37 f38 f39 f40 f41 f42 f43 f44 f45 f46 f47 
     (elim (cases_lt number 33) [
       | inl lt ↦ below (nat_lt number 33) (nat_lt 48 number) (lt-ltb number 33 lt)
       | inr n33 ↦
-        let n34 : 34 ≤ number = step 33 number n33 f33 in
-        let n35 : 35 ≤ number = step 34 number n34 f34 in
-        let n36 : 36 ≤ number = step 35 number n35 f35 in
-        let n37 : 37 ≤ number = step 36 number n36 f36 in
-        let n38 : 38 ≤ number = step 37 number n37 f37 in
-        let n39 : 39 ≤ number = step 38 number n38 f38 in
-        let n40 : 40 ≤ number = step 39 number n39 f39 in
-        let n41 : 41 ≤ number = step 40 number n40 f40 in
-        let n42 : 42 ≤ number = step 41 number n41 f41 in
-        let n43 : 43 ≤ number = step 42 number n42 f42 in
-        let n44 : 44 ≤ number = step 43 number n43 f43 in
-        let n45 : 45 ≤ number = step 44 number n44 f44 in
-        let n46 : 46 ≤ number = step 45 number n45 f45 in
-        let n47 : 47 ≤ number = step 46 number n46 f46 in
-        let n48 : 48 ≤ number = step 47 number n47 f47 in
-        let n49 : 49 ≤ number = step 48 number n48 f48 in
-        above (nat_lt number 33) (nat_lt 48 number) (lt-ltb 48 number (omega (arith, n49)))
+          let n34 : 34 ≤ number = step 33 number n33 f33 in
+          let n35 : 35 ≤ number = step 34 number n34 f34 in
+          let n36 : 36 ≤ number = step 35 number n35 f35 in
+          let n37 : 37 ≤ number = step 36 number n36 f36 in
+          let n38 : 38 ≤ number = step 37 number n37 f37 in
+          let n39 : 39 ≤ number = step 38 number n38 f38 in
+          let n40 : 40 ≤ number = step 39 number n39 f39 in
+          let n41 : 41 ≤ number = step 40 number n40 f40 in
+          let n42 : 42 ≤ number = step 41 number n41 f41 in
+          let n43 : 43 ≤ number = step 42 number n42 f42 in
+          let n44 : 44 ≤ number = step 43 number n43 f43 in
+          let n45 : 45 ≤ number = step 44 number n44 f44 in
+          let n46 : 46 ≤ number = step 45 number n45 f45 in
+          let n47 : 47 ≤ number = step 46 number n46 f46 in
+          let n48 : 48 ≤ number = step 47 number n47 f47 in
+          let n49 : 49 ≤ number = step 48 number n48 f48 in
+          above (nat_lt number 33) (nat_lt 48 number) (lt-ltb 48 number (omega (arith, n49)))
     ])
 
 pub kind_is : (number : ℕ) → 0 < number → KindIs (kind_of number) number

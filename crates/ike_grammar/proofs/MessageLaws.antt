@@ -1,19 +1,18 @@
 -- Messages that are read are spelled so, and what is spelled so is read.
-use Rattle.std.proofs.Common.{◌≡◌, ℕ, zero, suc, ◌+◌, ◌-◌, ◌*◌, ◌/◌, ◌^◌, ◌≤◌, ◌<◌, ◌⊎◌, Bool, true, false, eqb, eq-eqb, List, [], ◌∷◌, ◌++◌, length, get_or, drop, Result, Ok, Err, refl, sym, ap, subst, ◌∙◌, arith, inl, inr}
-use Rattle.std.specs.Prelude.{slice_index, nat_lt, not, ◌==◌}
+use Rattle.std.proofs.Common.{◌≡◌, ℕ, zero, suc, ◌+◌, ◌/◌, ◌^◌, ◌≤◌, ◌<◌, ◌⊎◌, Bool, false, eq-eqb, List, [], ◌∷◌, ◌++◌, length, drop, Result, Ok, Err, refl, sym, ap, subst, ◌∙◌, arith, inl, inr}
+use Rattle.std.specs.Prelude.{slice_index}
 use Rattle.std.specs.Int.{w32, w64, to_be_bytes, from_be_bytes}
 use Rattle.std.proofs.lemmas.Bool.{ltb-false, le-ltb, eqb-true}
 use Rattle.std.proofs.lemmas.List.{length-drop, get_or-drop, drop-drop}
 use Rattle.std.proofs.lemmas.Nat.{be_bytes_4, be_bytes_8, from_be_bytes-to_be_bytes_4, from_be_bytes-to_be_bytes_8}
 use Rattle.ike_values.specs.Values.{PayloadValue}
-use Rattle.ike_values.specs.Spelling.{Spells}
-use Rattle.ike_values.specs.Headers.{has_flag, HeaderParts, SpellsHeader, IsHeader, IsMessage}
+use Rattle.ike_values.specs.Headers.{HeaderParts, SpellsHeader, IsMessage}
 use Rattle.ike_values.specs.declared.header.Header.{Header}
 use Rattle.ike_values.specs.declared.header.Message.{Message}
 use Rattle.ike_grammar.specs.declared.fault.Bad.{Bad}
 use Rattle.ike_grammar.specs.declared.fault.Reason.{Reason}
 use Rattle.ike_grammar.specs.OctetRange.{IsOctets}
-use Rattle.ike_grammar.specs.Faults.{◌>>=◌, unless, Passes}
+use Rattle.ike_grammar.specs.Faults.{◌>>=◌}
 use Rattle.ike_grammar.specs.Chain.{chain_at}
 use Rattle.ike_grammar.specs.Messages.{four_at, eight_at, header_tests, header_read, header_at, message_at, MessageRefused}
 use Rattle.ike_grammar.proofs.Binds.{done, bind_ok, ok_is, unless_ok, unless_passes, not_false, not_true}
@@ -103,10 +102,10 @@ header_found bytes h fits e =
     subst (λ (y : Header). SpellsHeader y bytes (parts_of bytes)) (ok_is (header_read bytes) h u.1)
     (record {
       bytes_are = header_cells bytes long ∙
-      ap (λ (t : List ℕ). header_octets t (cells8 bytes 8) marks (cells4 bytes 20) (cells4 bytes 24) rest) (sym (eight_back bytes 0 fits)) ∙
-      ap (λ (t : List ℕ). header_octets (to_be_bytes w64 (eight_at bytes 0)) t marks (cells4 bytes 20) (cells4 bytes 24) rest) (sym (eight_back bytes 8 fits)) ∙
-      ap (λ (t : List ℕ). header_octets (to_be_bytes w64 (eight_at bytes 0)) (to_be_bytes w64 (eight_at bytes 8)) marks t (cells4 bytes 24) rest) (sym (four_back bytes 20 (four_at bytes 20) fits refl)) ∙
-      ap (λ (t : List ℕ). header_octets (to_be_bytes w64 (eight_at bytes 0)) (to_be_bytes w64 (eight_at bytes 8)) marks (to_be_bytes w32 (four_at bytes 20)) t rest) (sym (four_back bytes 24 (28 + length rest) fits whole));
+          ap (λ (t : List ℕ). header_octets t (cells8 bytes 8) marks (cells4 bytes 20) (cells4 bytes 24) rest) (sym (eight_back bytes 0 fits)) ∙
+          ap (λ (t : List ℕ). header_octets (to_be_bytes w64 (eight_at bytes 0)) t marks (cells4 bytes 20) (cells4 bytes 24) rest) (sym (eight_back bytes 8 fits)) ∙
+          ap (λ (t : List ℕ). header_octets (to_be_bytes w64 (eight_at bytes 0)) (to_be_bytes w64 (eight_at bytes 8)) marks t (cells4 bytes 24) rest) (sym (four_back bytes 20 (four_at bytes 20) fits refl)) ∙
+          ap (λ (t : List ℕ). header_octets (to_be_bytes w64 (eight_at bytes 0)) (to_be_bytes w64 (eight_at bytes 8)) marks (to_be_bytes w32 (four_at bytes 20)) t rest) (sym (four_back bytes 24 (28 + length rest) fits whole));
       spii_fits = eight_below bytes 0 fits;
       spir_fits = eight_below bytes 8 fits;
       id_fits = four_below bytes 20 fits;

@@ -1,13 +1,13 @@
 -- Proposals that are read are spelled so, and what is spelled so is read.
-use Rattle.std.proofs.Common.{◌≡◌, ℕ, zero, suc, ◌+◌, ◌-◌, ◌*◌, ◌/◌, ◌%◌, ◌≤◌, ◌<◌, Bool, true, false, eqb, eq-eqb, List, [], ◌∷◌, ◌++◌, length, take, drop, Result, Ok, refl, sym, ap, subst, ◌∙◌, arith, length-append}
-use Rattle.std.specs.Prelude.{slice_index, nat_lt, ◌==◌}
-use Rattle.std.proofs.lemmas.Bool.{ltb-false, le-ltb, eqb-true}
-use Rattle.std.proofs.lemmas.List.{take-append-drop, take_at, drop_at, length-take, length-drop}
+use Rattle.std.proofs.Common.{◌≡◌, ℕ, ◌+◌, ◌-◌, ◌<◌, Bool, eqb, List, [], ◌∷◌, ◌++◌, length, take, drop, Result, Ok, refl, sym, ap, subst, ◌∙◌, arith, length-append}
+use Rattle.std.specs.Prelude.{slice_index, ◌==◌}
+use Rattle.std.proofs.lemmas.Bool.{ltb-false}
+use Rattle.std.proofs.lemmas.List.{take-append-drop, take_at, drop_at, length-take}
 use Rattle.ike_values.specs.Values.{TransformValue, ProposalValue}
-use Rattle.ike_values.specs.Spelling.{two, is_last, mark, ProposalParts, SpellsProposal, SpellsProposals}
+use Rattle.ike_values.specs.Spelling.{is_last, ProposalParts, SpellsProposal, SpellsProposals}
 use Rattle.ike_grammar.specs.declared.fault.Bad.{Bad}
 use Rattle.ike_grammar.specs.OctetRange.{IsOctets}
-use Rattle.ike_grammar.specs.Faults.{◌>>=◌, unless, Passes, two_at, many}
+use Rattle.ike_grammar.specs.Faults.{◌>>=◌, Passes, two_at, many}
 use Rattle.ike_grammar.specs.Proposals.{item_tests, within, behind, transforms_at, proposal_tests, left_tests, proposal_read, inside_at, proposal_made, proposal_at, proposals_tests, proposals_at}
 use Rattle.ike_grammar.proofs.Binds.{done, bind_ok, ok_is, unless_ok, unless_passes, not_none, some_octets}
 use Rattle.ike_grammar.proofs.Cells.{IsOctets-drop, IsOctets-take}
@@ -35,20 +35,21 @@ proposal_found end bytes x fits e =
     let spi = take size (within bytes) in
     let spi_len : length spi ≡ size = omega (arith, length-take size (within bytes), item.least_fits) in
     let joined : within bytes ≡ spi ++ drop size (within bytes) = sym (take-append-drop size (within bytes)) in
-    subst (FoundProposal bytes) (ok_is (proposal_read bytes b.0.0) x v.1)
-    (record { reserved = slice_index bytes 1; inside = drop size (within bytes); rest = behind bytes },
-    record {
-      bytes_are = item.bytes_are ∙
-      ap (λ (i : List ℕ). item_octets 2 last (slice_index bytes 1) (slice_index bytes 4) (slice_index bytes 5) size (slice_index bytes 7) i (behind bytes)) joined ∙
-      ap (λ (k : ℕ). item_octets 2 last (slice_index bytes 1) (slice_index bytes 4) (slice_index bytes 5) k (slice_index bytes 7) (spi ++ drop size (within bytes)) (behind bytes)) (sym spi_len) ∙
-      ap (λ (k : ℕ). item_octets 2 last (slice_index bytes 1) (slice_index bytes 4) (slice_index bytes 5) (length spi) k (spi ++ drop size (within bytes)) (behind bytes)) (sym all.1);
-      length_fits = subst (λ (i : List ℕ). 8 + length i < 65536) joined item.fits;
-      spi_fits = omega (arith, spi_len, fits 6);
-      count_fits = omega (arith, all.1, fits 7);
-      transforms = all.0;
-    },
-    refl,
-    IsOctets-drop (two_at bytes 2) bytes fits)
+    subst (FoundProposal bytes) (ok_is (proposal_read bytes b.0.0) x v.1) (
+      record { reserved = slice_index bytes 1; inside = drop size (within bytes); rest = behind bytes },
+      record {
+        bytes_are = item.bytes_are ∙
+            ap (λ (i : List ℕ). item_octets 2 last (slice_index bytes 1) (slice_index bytes 4) (slice_index bytes 5) size (slice_index bytes 7) i (behind bytes)) joined ∙
+            ap (λ (k : ℕ). item_octets 2 last (slice_index bytes 1) (slice_index bytes 4) (slice_index bytes 5) k (slice_index bytes 7) (spi ++ drop size (within bytes)) (behind bytes)) (sym spi_len) ∙
+            ap (λ (k : ℕ). item_octets 2 last (slice_index bytes 1) (slice_index bytes 4) (slice_index bytes 5) (length spi) k (spi ++ drop size (within bytes)) (behind bytes)) (sym all.1);
+        length_fits = subst (λ (i : List ℕ). 8 + length i < 65536) joined item.fits;
+        spi_fits = omega (arith, spi_len, fits 6);
+        count_fits = omega (arith, all.1, fits 7);
+        transforms = all.0;
+      },
+      refl,
+      IsOctets-drop (two_at bytes 2) bytes fits,
+    )
 
 proposal_same : (number protocol : ℕ) (spi spi' : List ℕ) (transforms : List TransformValue) (rest rest' : List ℕ) → spi ≡ spi' → rest ≡ rest'
     → (let made : ProposalValue × List ℕ = (record { number = number; protocol = protocol; spi = spi; transforms = transforms }, rest) in done made)
@@ -86,9 +87,9 @@ proposals_items end =
       rest_fits = λ bytes x fits e. (proposal_found end bytes x fits e).3;
       none = refl;
       found = λ bytes x xs fits e s.
-        let f = proposal_found end bytes x fits e in
-        let rest : SpellsProposals xs f.0.rest = subst (λ (r : List ℕ). SpellsProposals xs r) (sym f.2) s in
-        (f.0, subst (λ (l : Bool). SpellsProposal x.0 l bytes f.0) (last_by_rest xs f.0.rest rest) f.1, rest);
+          let f = proposal_found end bytes x fits e in
+          let rest : SpellsProposals xs f.0.rest = subst (λ (r : List ℕ). SpellsProposals xs r) (sym f.2) s in
+          (f.0, subst (λ (l : Bool). SpellsProposal x.0 l bytes f.0) (last_by_rest xs f.0.rest rest) f.1, rest);
       empty = λ bytes s. s;
       again = λ bytes x xs s. (s.0.rest, proposal_again end (is_last xs) bytes x s.0 s.1 (last_by_rest xs s.0.rest s.2), s.2);
     }

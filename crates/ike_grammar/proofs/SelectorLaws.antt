@@ -1,14 +1,14 @@
 -- Selectors that are read are spelled so, and what is spelled so is read.
-use Rattle.std.proofs.Common.{◌≡◌, ℕ, zero, suc, ◌+◌, ◌-◌, ◌*◌, ◌/◌, ◌%◌, ◌≤◌, ◌<◌, Bool, true, false, cond, eqb, eq-eqb, List, [], ◌∷◌, ◌++◌, length, take, drop, Result, Ok, refl, sym, ap, subst, ◌∙◌, append_assoc, arith, length-append}
-use Rattle.std.specs.Prelude.{slice_index, nat_lt, not, ◌&&◌, ◌||◌, ◌==◌, IsTrue}
+use Rattle.std.proofs.Common.{◌≡◌, ℕ, zero, suc, ◌+◌, ◌*◌, ◌/◌, ◌%◌, ◌≤◌, ◌<◌, Bool, true, false, eq-eqb, List, [], ◌∷◌, ◌++◌, length, take, drop, Result, Ok, refl, sym, ap, subst, ◌∙◌, append_assoc, arith, length-append}
+use Rattle.std.specs.Prelude.{slice_index, not, ◌&&◌, ◌||◌, ◌==◌}
 use Rattle.std.specs.List.{AllByRecursion}
 use Rattle.std.proofs.lemmas.Bool.{ltb-false, le-ltb, eqb-true}
 use Rattle.std.proofs.lemmas.List.{take-append-drop, take_at, drop_at, length-take, length-drop, nil_from_length, append-nil}
 use Rattle.ike_values.specs.Values.{SelectorValue}
-use Rattle.ike_values.specs.Spelling.{two, address_len, selector_spelling, FitsSelector, selectors_spelling, SpellsTraffic}
+use Rattle.ike_values.specs.Spelling.{address_len, selector_spelling, FitsSelector, selectors_spelling, SpellsTraffic}
 use Rattle.ike_grammar.specs.declared.fault.Bad.{Bad}
 use Rattle.ike_grammar.specs.OctetRange.{IsOctets}
-use Rattle.ike_grammar.specs.Faults.{◌>>=◌, unless, Passes, two_at, counted}
+use Rattle.ike_grammar.specs.Faults.{◌>>=◌, two_at, counted}
 use Rattle.ike_grammar.specs.Selectors.{selector_tests, selector_read, selector_at, traffic_tests, behind_tests, traffic_made, traffic_at}
 use Rattle.ike_grammar.proofs.Binds.{done, bind_ok, ok_is, unless_ok, unless_passes, not_false, not_true, not_none, some_octets}
 use Rattle.ike_grammar.proofs.Cells.{IsOctets-drop, heads4, heads8, high, low, two_again}
@@ -46,7 +46,7 @@ selector_takes end bytes x fits e =
     let upper : (8 + 2 * len) / 256 ≡ slice_index bytes 2 = ap (λ (n : ℕ). n / 256) (sym size) ∙ high (slice_index bytes 2) (slice_index bytes 3) (fits 3) in
     let lower : (8 + 2 * len) % 256 ≡ slice_index bytes 3 = ap (λ (n : ℕ). n % 256) (sym size) ∙ low (slice_index bytes 2) (slice_index bytes 3) (fits 3) in
     let parts : content ≡ (take len content ++ take len (drop len content)) ++ drop len (drop len content) =
-      sym (take-append-drop len content) ∙ ap (λ (t : List ℕ). take len content ++ t) (sym (take-append-drop len (drop len content))) ∙ sym (append_assoc (take len content) (take len (drop len content)) (drop len (drop len content))) in
+    sym (take-append-drop len content) ∙ ap (λ (t : List ℕ). take len content ++ t) (sym (take-append-drop len (drop len content))) ∙ sym (append_assoc (take len content) (take len (drop len content)) (drop len (drop len content))) in
     subst (TakesSelector bytes) (ok_is (selector_read bytes) x u.1)
     (record {
       parts = heads8 bytes long ∙ same_ports (sym upper) (sym lower) (sym (high (slice_index bytes 4) (slice_index bytes 5) (fits 5))) (sym (low (slice_index bytes 4) (slice_index bytes 5) (fits 5))) (sym (high (slice_index bytes 6) (slice_index bytes 7) (fits 7))) (sym (low (slice_index bytes 6) (slice_index bytes 7) (fits 7))) parts;
@@ -117,14 +117,15 @@ traffic_found end body xs fits e =
     let all = selectors_take end (slice_index body 0) (drop 4 body) b.0 (IsOctets-drop 4 body fits) b.1 in
     let nothing : b.0.1 ≡ [] = nil_from_length b.0.1 (let le = ltb-false 0 (length b.0.1) v.0.0 in omega arith) in
     let content : drop 4 body ≡ selectors_spelling b.0.0 = all.parts ∙ ap (λ (r : List ℕ). selectors_spelling b.0.0 ++ r) nothing ∙ append-nil (selectors_spelling b.0.0) in
-    subst (λ (ys : List SelectorValue). (r : ℕ × ℕ × ℕ) × SpellsTraffic ys body r) (ok_is b.0.0 xs v.1)
-    ((slice_index body 1, slice_index body 2, slice_index body 3),
-    record {
-      bytes_are = heads4 body long ∙ ap (λ (k : ℕ). k ∷ slice_index body 1 ∷ slice_index body 2 ∷ slice_index body 3 ∷ drop 4 body) (sym all.count) ∙ ap (λ (r : List ℕ). length b.0.0 ∷ slice_index body 1 ∷ slice_index body 2 ∷ slice_index body 3 ∷ r) content;
-      some = omega (arith, all.count, some);
-      count_fits = omega (arith, all.count, fits 0);
-      selectors = all.fit;
-    })
+    subst (λ (ys : List SelectorValue). (r : ℕ × ℕ × ℕ) × SpellsTraffic ys body r) (ok_is b.0.0 xs v.1) (
+      (slice_index body 1, slice_index body 2, slice_index body 3),
+      record {
+        bytes_are = heads4 body long ∙ ap (λ (k : ℕ). k ∷ slice_index body 1 ∷ slice_index body 2 ∷ slice_index body 3 ∷ drop 4 body) (sym all.count) ∙ ap (λ (r : List ℕ). length b.0.0 ∷ slice_index body 1 ∷ slice_index body 2 ∷ slice_index body 3 ∷ r) content;
+        some = omega (arith, all.count, some);
+        count_fits = omega (arith, all.count, fits 0);
+        selectors = all.fit;
+      },
+    )
 
 pub traffic_again : (end : ℕ) (body : List ℕ) (xs : List SelectorValue) (r : ℕ × ℕ × ℕ) → SpellsTraffic xs body r → traffic_at end body ≡ Ok xs
 unfolding traffic_at

@@ -1,11 +1,10 @@
 -- Each reader of an item takes octets from the front.
-use Rattle.std.proofs.Common.{◌≡◌, ℕ, suc, ◌+◌, ◌-◌, ◌≤◌, ◌<◌, Bool, true, false, cond, eqb, ltb, List, [], ◌∷◌, length, take, drop, Result, Ok, Err, refl, sym, ap, subst, ◌∙◌, arith, inl, inr}
-use Rattle.std.specs.Prelude.{◌||◌, ◌==◌, slice_index, nat_lt}
-use Rattle.std.proofs.lemmas.Bool.{ltb-false, eqb-true}
+use Rattle.std.proofs.Common.{◌≡◌, ℕ, ◌+◌, ◌-◌, ◌≤◌, ◌<◌, Bool, List, length, drop, Ok, refl, subst, arith, inl, inr}
+use Rattle.std.specs.Prelude.{◌==◌, slice_index, nat_lt}
+use Rattle.std.proofs.lemmas.Bool.{ltb-false}
 use Rattle.std.proofs.lemmas.List.{length-drop}
 use Rattle.ike_values.specs.Values.{AttributeValue, TransformValue, ProposalValue, SelectorValue}
 use Rattle.ike_values.specs.Spelling.{address_len}
-use Rattle.ike_grammar.specs.declared.fault.Bad.{Bad}
 use Rattle.ike_grammar.specs.Faults.{◌>>=◌, unless, Passes, two_at, many, counted}
 use Rattle.ike_grammar.specs.Proposals.{attribute_tests, attribute_at, formed_at, free_tests, free_read, fixed_read, item_tests, within, behind, transform_at, transform_read, transforms_at, proposal_tests, proposal_at, proposal_read, proposal_made, inside_at, left_tests}
 use Rattle.ike_grammar.specs.Selectors.{selector_tests, selector_read, selector_at}
@@ -20,8 +19,8 @@ attribute_shortens end bytes x e =
     let long : 4 ≤ length bytes = ltb-false _ _ u.0.0 in
     elim (chosen (nat_lt (two_at bytes 0) 32768) (unless (free_tests end bytes) (Ok (free_read bytes))) (Ok (fixed_read bytes)) (Ok x) u.1) [
       | inl h ↦
-        let v = unless_ok (free_tests end bytes) (Ok (free_read bytes)) x h.1 in
-        subst (λ (y : AttributeValue × List ℕ). length y.1 < length bytes) (ok_is (free_read bytes) x v.1) (omega (arith, length-drop (two_at bytes 2) (drop 4 bytes), length-drop 4 bytes))
+          let v = unless_ok (free_tests end bytes) (Ok (free_read bytes)) x h.1 in
+          subst (λ (y : AttributeValue × List ℕ). length y.1 < length bytes) (ok_is (free_read bytes) x v.1) (omega (arith, length-drop (two_at bytes 2) (drop 4 bytes), length-drop 4 bytes))
       | inr h ↦ subst (λ (y : AttributeValue × List ℕ). length y.1 < length bytes) (ok_is (fixed_read bytes) x h.1) (omega (arith, length-drop 4 bytes))
     ]
 

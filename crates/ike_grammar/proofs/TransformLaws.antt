@@ -1,17 +1,16 @@
 -- Transforms that are read are spelled so, and what is spelled so is read.
-use Rattle.std.proofs.Common.{◌≡◌, ℕ, zero, suc, ◌+◌, ◌-◌, ◌*◌, ◌/◌, ◌%◌, ◌≤◌, ◌<◌, Bool, true, false, eqb, eq-eqb, List, [], ◌∷◌, ◌++◌, length, Result, Ok, refl, sym, ap, subst, ◌∙◌, arith}
+use Rattle.std.proofs.Common.{◌≡◌, ℕ, zero, suc, ◌+◌, ◌-◌, ◌/◌, ◌%◌, ◌<◌, Bool, eqb, List, [], ◌∷◌, ◌++◌, length, Result, Ok, refl, sym, ap, subst, ◌∙◌, arith}
 use Rattle.std.specs.Prelude.{slice_index, ◌==◌}
-use Rattle.std.proofs.lemmas.Bool.{eqb-true}
 use Rattle.std.proofs.lemmas.List.{nil_from_length}
 use Rattle.ike_values.specs.Values.{AttributeValue, TransformValue}
 use Rattle.ike_values.specs.Spelling.{two, is_last, mark, attributes_spelling, TransformParts, SpellsTransform, SpellsTransforms}
 use Rattle.ike_grammar.specs.declared.fault.Bad.{Bad}
 use Rattle.ike_grammar.specs.OctetRange.{IsOctets}
-use Rattle.ike_grammar.specs.Faults.{◌>>=◌, unless, Passes, two_at, many}
+use Rattle.ike_grammar.specs.Faults.{◌>>=◌, two_at, many}
 use Rattle.ike_grammar.specs.Proposals.{attribute_at, item_tests, within, behind, transform_read, transform_at, transforms_at}
 use Rattle.ike_grammar.proofs.Binds.{done, bind_ok, ok_is, unless_ok, unless_passes, not_none}
 use Rattle.ike_grammar.proofs.Cells.{IsOctets-drop, IsOctets-take, two_again, two_back}
-use Rattle.ike_grammar.proofs.AttributeLaws.{SpellsAttributes, attributes_found, attributes_again}
+use Rattle.ike_grammar.proofs.AttributeLaws.{attributes_found, attributes_again}
 use Rattle.ike_grammar.proofs.ItemLaws.{item_found, item_octets, item_again}
 
 -- a transform with its free parts, and what stands behind it
@@ -28,17 +27,18 @@ transform_found end last bytes x fits e =
     let item = item_found end 3 8 last bytes fits (omega arith) u.0 in
     let all = attributes_found (end - length (behind bytes)) (within bytes) b.0 (IsOctets-drop 8 _ (IsOctets-take (two_at bytes 2) bytes fits)) b.1 in
     let spelled = attributes_spelling b.0 in
-    subst (FoundTransform last bytes) (ok_is (transform_read bytes b.0) x b.2)
-    (record { reserved = slice_index bytes 1; reserved_behind = slice_index bytes 5; rest = behind bytes },
-    record {
-      bytes_are = item.bytes_are ∙
-      ap (λ (i : List ℕ). item_octets 3 last (slice_index bytes 1) (slice_index bytes 4) (slice_index bytes 5) (slice_index bytes 6) (slice_index bytes 7) i (behind bytes)) all.bytes_are ∙
-      ap (λ (id : List ℕ). mark 3 last ∷ slice_index bytes 1 ∷ two (8 + length spelled) ++ (slice_index bytes 4 ∷ slice_index bytes 5 ∷ id) ++ spelled ++ behind bytes) (sym (two_back bytes 6 fits));
-      length_fits = subst (λ (i : List ℕ). 8 + length i < 65536) all.bytes_are item.fits;
-      attributes = all.fit;
-    },
-    refl,
-    IsOctets-drop (two_at bytes 2) bytes fits)
+    subst (FoundTransform last bytes) (ok_is (transform_read bytes b.0) x b.2) (
+      record { reserved = slice_index bytes 1; reserved_behind = slice_index bytes 5; rest = behind bytes },
+      record {
+        bytes_are = item.bytes_are ∙
+            ap (λ (i : List ℕ). item_octets 3 last (slice_index bytes 1) (slice_index bytes 4) (slice_index bytes 5) (slice_index bytes 6) (slice_index bytes 7) i (behind bytes)) all.bytes_are ∙
+            ap (λ (id : List ℕ). mark 3 last ∷ slice_index bytes 1 ∷ two (8 + length spelled) ++ (slice_index bytes 4 ∷ slice_index bytes 5 ∷ id) ++ spelled ++ behind bytes) (sym (two_back bytes 6 fits));
+        length_fits = subst (λ (i : List ℕ). 8 + length i < 65536) all.bytes_are item.fits;
+        attributes = all.fit;
+      },
+      refl,
+      IsOctets-drop (two_at bytes 2) bytes fits,
+    )
 
 transform_same : (kind id id' : ℕ) (attributes : List AttributeValue) (rest rest' : List ℕ) → id ≡ id' → rest ≡ rest'
     → (let made : TransformValue × List ℕ = (record { kind = kind; id = id; attributes = attributes }, rest) in done made) ≡ (let made : TransformValue × List ℕ = (record { kind = kind; id = id'; attributes = attributes }, rest') in done made)

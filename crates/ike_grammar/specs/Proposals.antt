@@ -1,5 +1,5 @@
 -- Reading the proposals of an SA payload. What is read ends at the place end.
-use Rattle.std.specs.Prelude.{ℕ, zero, suc, ◌+◌, ◌-◌, Bool, false, ◌||◌, ◌&&◌, ◌==◌, nat_lt, not, if◌then◌else◌, List, [], ◌∷◌, length, slice_index, take, drop, Result, Ok}
+use Rattle.std.specs.Prelude.{ℕ, zero, suc, ◌+◌, ◌-◌, Bool, ◌||◌, ◌&&◌, ◌==◌, nat_lt, not, if◌then◌else◌, List, [], ◌∷◌, length, slice_index, take, drop, Result, Ok}
 use Rattle.ike_values.specs.Values.{AttributeValue, fixed, free, TransformValue, ProposalValue}
 use Rattle.ike_values.specs.Spelling.{mark}
 use Rattle.ike_grammar.specs.declared.fault.Bad.{Bad}
@@ -70,14 +70,15 @@ abbrev pub left_tests : ℕ → List ℕ → List (Bool × Bad)
 left_tests end left = refuse (nat_lt 0 (length left)) (end - length left) Trailing ∷ []
 
 abbrev pub proposal_read : List ℕ → List TransformValue → ProposalValue × List ℕ
-proposal_read bytes transforms =
-    (record {
-      number = slice_index bytes 4;
-      protocol = slice_index bytes 5;
-      spi = take (slice_index bytes 6) (within bytes);
-      transforms = transforms;
-    },
-    behind bytes)
+proposal_read bytes transforms = (
+  record {
+    number = slice_index bytes 4;
+    protocol = slice_index bytes 5;
+    spi = take (slice_index bytes 6) (within bytes);
+    transforms = transforms;
+  },
+  behind bytes,
+)
 
 abbrev pub inside_at : ℕ → List ℕ → Result (List TransformValue × List ℕ) Bad
 inside_at end bytes = transforms_at (end - length (behind bytes)) (slice_index bytes 7) (drop (slice_index bytes 6) (within bytes))

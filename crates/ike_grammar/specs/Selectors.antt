@@ -17,16 +17,17 @@ selector_tests end bytes =
 
 abbrev pub selector_read : List ℕ → SelectorValue × List ℕ
 selector_read bytes =
-    let len = address_len (slice_index bytes 0) in
-    (record {
-      kind = slice_index bytes 0;
-      protocol = slice_index bytes 1;
-      start_port = two_at bytes 4;
-      end_port = two_at bytes 6;
-      start = take len (drop 8 bytes);
-      end = take len (drop len (drop 8 bytes));
-    },
-    drop len (drop len (drop 8 bytes)))
+    let len = address_len (slice_index bytes 0) in (
+      record {
+        kind = slice_index bytes 0;
+        protocol = slice_index bytes 1;
+        start_port = two_at bytes 4;
+        end_port = two_at bytes 6;
+        start = take len (drop 8 bytes);
+        end = take len (drop len (drop 8 bytes));
+      },
+      drop len (drop len (drop 8 bytes)),
+    )
 
 unfoldable pub selector_at : ℕ → List ℕ → Result (SelectorValue × List ℕ) Bad
 selector_at end bytes = unless (selector_tests end bytes) (Ok (selector_read bytes))

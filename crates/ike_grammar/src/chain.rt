@@ -15,7 +15,13 @@ use ike_values::{OtherBody, Payload, Payloads};
 use std::alloc::Global;
 
 #[tactic(auto, unfolding(crate::specs::Chain::chain_by))]
-pub(crate) fn chain_of(alloc: Global, end: usize, inner: bool, first: u8, bytes: &[u8]) -> Result<Payloads, Unread>
+pub(crate) fn chain_of(
+    alloc: Global,
+    end: usize,
+    inner: bool,
+    first: u8,
+    bytes: &[u8],
+) -> Result<Payloads, Unread>
     requires { length bytes.now ≤ end }
     ensures { Gives (λ x. x) result (chain_at end inner first bytes.now) }
 {
@@ -35,7 +41,13 @@ pub(crate) fn chain_of(alloc: Global, end: usize, inner: bool, first: u8, bytes:
 }
 
 #[tactic(auto, unfolding(crate::specs::Chain::payload_at))]
-fn payload_of(alloc: Global, end: usize, number: u8, inner: bool, bytes: &[u8]) -> Result<(Payload, u8, &[u8]), Unread>
+fn payload_of(
+    alloc: Global,
+    end: usize,
+    number: u8,
+    inner: bool,
+    bytes: &[u8],
+) -> Result<(Payload, u8, &[u8]), Unread>
     requires { length bytes.now ≤ end }
     ensures { Gives (λ x. (payload_value x.0, x.1, x.2.now)) result (payload_at end number inner bytes.now) }
 {
@@ -64,7 +76,14 @@ fn payload_of(alloc: Global, end: usize, number: u8, inner: bool, bytes: &[u8]) 
 const CRITICAL: u8 = 128;
 
 #[tactic(auto, unfolding(crate::specs::Chain::body_at))]
-fn body_of(alloc: Global, kind: Kind, end: usize, number: u8, next: u8, body: &[u8]) -> Result<Payload, Unread>
+fn body_of(
+    alloc: Global,
+    kind: Kind,
+    end: usize,
+    number: u8,
+    next: u8,
+    body: &[u8],
+) -> Result<Payload, Unread>
     requires { length body.now + 4 ≤ end }
     ensures { Gives payload_value result (body_at kind end number next body.now) }
 {
@@ -93,7 +112,13 @@ fn body_of(alloc: Global, kind: Kind, end: usize, number: u8, next: u8, body: &[
 }
 
 // Behind SK stands nothing, and its next payload is the first inner one.
-fn leading(kind: Kind, end: usize, next: u8, behind: &[u8], payload: Payload) -> Result<(Payload, u8, &[u8]), Unread>
+fn leading(
+    kind: Kind,
+    end: usize,
+    next: u8,
+    behind: &[u8],
+    payload: Payload,
+) -> Result<(Payload, u8, &[u8]), Unread>
     requires { length behind.now ≤ end }
     ensures { Gives (λ x. (payload_value x.0, x.1, x.2.now)) result (leads_to kind end next behind.now (payload_value payload)) }
 {

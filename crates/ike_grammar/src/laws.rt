@@ -16,8 +16,7 @@ pub fn one_reading()
     ensures one_value { (first : ℕ) (inner : Bool) (bytes : List ℕ) (payloads others : List PayloadValue) → Spells payloads first inner bytes → Spells others first inner bytes → payloads ≡ others }
     ensures one_fault { (first : ℕ) (inner : Bool) (bytes : List ℕ) (place place' : ℕ) (reason reason' : Reason) → Refused first inner bytes place reason → Refused first inner bytes place' reason' → (place ≡ place') × (reason ≡ reason') }
     ensures not_both { (first : ℕ) (inner : Bool) (bytes : List ℕ) (payloads : List PayloadValue) (place : ℕ) (reason : Reason) → Spells payloads first inner bytes → Refused first inner bytes place reason → ⊥ }
-{
-}
+{}
 
 /// Octets spell one message, or are refused at one place for one reason, and never both.
 pub fn one_message()
@@ -25,5 +24,4 @@ pub fn one_message()
     ensures one_value { (bytes : List ℕ) (message other : Message) → IsMessage message bytes → IsMessage other bytes → message ≡ other }
     ensures one_fault { (bytes : List ℕ) (place place' : ℕ) (reason reason' : Reason) → MessageRefused bytes place reason → MessageRefused bytes place' reason' → (place ≡ place') × (reason ≡ reason') }
     ensures not_both { (bytes : List ℕ) (message : Message) (place : ℕ) (reason : Reason) → IsMessage message bytes → MessageRefused bytes place reason → ⊥ }
-{
-}
+{}

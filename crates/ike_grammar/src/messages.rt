@@ -12,7 +12,9 @@ use std::alloc::Global;
 
 /// The octets of a header (RFC 7296, section 3.1).
 const HEADER: usize = 28;
+
 const INITIATOR: u8 = 8;
+
 const RESPONSE: u8 = 32;
 
 #[tactic(auto, unfolding(crate::specs::Messages::header_at))]

@@ -84,7 +84,12 @@ fn mark(more: u8, last: bool) -> u8
     if last { 0 } else { more }
 }
 
-fn transforms_of(alloc: Global, end: usize, count: u8, bytes: &[u8]) -> Result<(Transforms, &[u8]), Unread>
+fn transforms_of(
+    alloc: Global,
+    end: usize,
+    count: u8,
+    bytes: &[u8],
+) -> Result<(Transforms, &[u8]), Unread>
     requires { length bytes.now ≤ end }
     ensures given { Gives (λ x. (x.0, x.1.now)) result (transforms_at end count bytes.now) }
     ensures within { IfOk result (λ x. length x.1.now ≤ length bytes.now) }
@@ -100,7 +105,12 @@ fn transforms_of(alloc: Global, end: usize, count: u8, bytes: &[u8]) -> Result<(
 }
 
 #[tactic(auto, unfolding(crate::specs::Proposals::transform_at))]
-fn transform_of(alloc: Global, end: usize, last: bool, bytes: &[u8]) -> Result<(Transform, &[u8]), Unread>
+fn transform_of(
+    alloc: Global,
+    end: usize,
+    last: bool,
+    bytes: &[u8],
+) -> Result<(Transform, &[u8]), Unread>
     requires { length bytes.now ≤ end }
     ensures { Gives (λ x. (transform_value x.0, x.1.now)) result (transform_at end last bytes.now) }
 {
@@ -153,7 +163,13 @@ fn attribute_of(alloc: Global, end: usize, bytes: &[u8]) -> Result<(Attribute, &
     let (_, rest) = bytes.split_at(4);
     if kind >= FIXED {
         let value = two(bytes, 2);
-        return Ok((Attribute::Fixed { kind: kind - FIXED, value }, rest));
+        return Ok((
+            Attribute::Fixed {
+                kind: kind - FIXED,
+                value,
+            },
+            rest,
+        ));
     }
     let len = two(bytes, 2) as usize;
     if rest.len() < len {

@@ -14,6 +14,7 @@ use std::alloc::Global;
 
 /// The types of selectors (RFC 7296, section 3.13.1).
 const IPV4_RANGE: u8 = 7;
+
 const IPV6_RANGE: u8 = 8;
 
 #[tactic(auto, unfolding(crate::specs::Selectors::traffic_at))]
@@ -36,7 +37,12 @@ pub(crate) fn traffic_of(alloc: Global, end: usize, body: &[u8]) -> Result<Selec
     Ok(selectors)
 }
 
-fn selectors_of(alloc: Global, end: usize, count: u8, bytes: &[u8]) -> Result<(Selectors, &[u8]), Unread>
+fn selectors_of(
+    alloc: Global,
+    end: usize,
+    count: u8,
+    bytes: &[u8],
+) -> Result<(Selectors, &[u8]), Unread>
     requires { length bytes.now ≤ end }
     ensures given { Gives (λ x. (x.0, x.1.now)) result (counted (selector_at end) count bytes.now) }
     ensures within { IfOk result (λ x. length x.1.now ≤ length bytes.now) }

@@ -1,5 +1,4 @@
 use super::*;
-
 use ike_values::{Attribute, Payload};
 use std::alloc::{AllocError, Global};
 use std::test::*;
@@ -87,10 +86,7 @@ const MESSAGES: [(&str, &str); 45] = [
         "1813b81dcf4bb1d700000000000000002920ff28ffffffff000000712c0000080000401a290000180100000007060010e2ba4112af55577e18a21b012e0000100000401703025a128456322e000000252d6bc1516557f23434518c71e381ed35c7ef94e0fc46e77fdf7e9b962c6ad6aba5",
         "ok 1813b81dcf4bb1d7 0000000000000000 255 true true 4294967295 notify 0 - 16410 - payload 44 notify 0 - 16407 03025a128456322e sk 0 2d6bc1516557f23434518c71e381ed35c7ef94e0fc46e77fdf7e9b962c6ad6aba5",
     ),
-    (
-        "62",
-        "bad 0 Short",
-    ),
+    ("62", "bad 0 Short"),
     (
         "29e4dc946c0f0525000000000000000010202320000000000000001c",
         "bad 28 Short",
@@ -203,7 +199,15 @@ fn shown(alloc: Global, octets: &[u8]) -> Result<String, AllocError> {
     match decode_message(alloc, octets) {
         Ok(message) => {
             let header = message.header;
-            let mut text = format!(in alloc; "ok {:016x} {:016x} {} {} {} {}", header.spii, header.spir, header.exchange, header.initiator, header.response, header.id)?;
+            let mut text = format!(in alloc;
+                "ok {:016x} {:016x} {} {} {} {}",
+                header.spii,
+                header.spir,
+                header.exchange,
+                header.initiator,
+                header.response,
+                header.id
+            )?;
             for payload in message.payloads.as_slice() {
                 let payload = shown_payload(alloc, payload)?;
                 text.push_str(payload.as_str())?;
@@ -220,7 +224,10 @@ fn shown_payload(alloc: Global, payload: &Payload) -> Result<String, AllocError>
         Payload::Notify(notify) => {
             let spi = hexadecimal(alloc, notify.spi.as_slice())?;
             let content = hexadecimal(alloc, notify.content.as_slice())?;
-            format!(in alloc; " notify {} {} {} {}", notify.protocol, spi, notify.kind, content)
+            format!(in alloc;
+                " notify {} {} {} {}",
+                notify.protocol, spi, notify.kind, content
+            )
         }
         Payload::Sk(sk) => {
             let ciphertext = hexadecimal(alloc, sk.ciphertext.as_slice())?;
@@ -230,9 +237,15 @@ fn shown_payload(alloc: Global, payload: &Payload) -> Result<String, AllocError>
         Payload::Delete(delete) => {
             let spis = hexadecimal(alloc, delete.spis.as_slice())?;
             if delete.spis.as_slice().is_empty() {
-                return format!(in alloc; " payload 42 {:02x}{:02x}{:04x}", delete.protocol, delete.size, delete.number);
+                return format!(in alloc;
+                    " payload 42 {:02x}{:02x}{:04x}",
+                    delete.protocol, delete.size, delete.number
+                );
             }
-            format!(in alloc; " payload 42 {:02x}{:02x}{:04x}{}", delete.protocol, delete.size, delete.number, spis)
+            format!(in alloc;
+                " payload 42 {:02x}{:02x}{:04x}{}",
+                delete.protocol, delete.size, delete.number, spis
+            )
         }
         Payload::IdI(id) => numbered(alloc, 35, id.kind, id.content.as_slice()),
         Payload::IdR(id) => numbered(alloc, 36, id.kind, id.content.as_slice()),
@@ -289,7 +302,15 @@ fn a_proposal_is_read(rt: HostRuntime) -> Result<(), Fail> {
     };
     assert_eq!(rt; cipher.kind, 1);
     assert_eq!(rt; cipher.id, 20);
-    assert!(rt; matches!(cipher.attributes.as_slice(), [Attribute::Fixed { kind: 14, value: 128 }]));
+    assert!(rt;
+        matches!(
+            cipher.attributes.as_slice(),
+            [Attribute::Fixed {
+                kind: 14,
+                value: 128
+            }]
+        )
+    );
     assert_eq!(rt; numbers.kind, 5);
     assert_eq!(rt; numbers.id, 1);
     assert!(rt; numbers.attributes.as_slice().is_empty());
@@ -308,7 +329,10 @@ fn an_inner_chain_has_no_sk(rt: HostRuntime) {
 
 #[test]
 fn a_header_is_read(rt: HostRuntime) -> Result<(), Fail> {
-    let octets = hex::decode(rt.alloc(), "349a97d875d51e8d00000000000000000020ff08000000000000001c")?;
+    let octets = hex::decode(
+        rt.alloc(),
+        "349a97d875d51e8d00000000000000000020ff08000000000000001c",
+    )?;
     let header = decode_header(&octets).ok().ok_or("a header")?;
     assert_eq!(rt; header.spii, 0x349a97d875d51e8d);
     assert_eq!(rt; header.exchange, 255);

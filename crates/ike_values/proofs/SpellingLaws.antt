@@ -1,8 +1,8 @@
 -- The values that fit are those that have a spelling.
-use Rattle.std.proofs.Common.{◌≡◌, ℕ, ◌+◌, ◌<◌, Bool, true, false, List, [], ◌∷◌, ◌++◌, length, refl, sym, ap, subst, ◌∙◌, arith, length-append}
+use Rattle.std.proofs.Common.{◌≡◌, ℕ, Bool, false, List, [], ◌∷◌, ◌++◌, length, refl, sym, ap, subst, arith, length-append}
 use Rattle.std.specs.List.{AllByRecursion}
 use Rattle.ike_values.specs.Values.{TransformValue, ProposalValue, PayloadValue, sa, ke, idi, idr, cert, certreq, auth, nonce, notify, delete, vendor, tsi, tsr, sk, cp, eap, other}
-use Rattle.ike_values.specs.Spelling.{attributes_spelling, selectors_spelling, SpellsTransforms, SpellsProposals, MayHave, SpellsBody, GoesOn, Spells, HasSpelling}
+use Rattle.ike_values.specs.Spelling.{attributes_spelling, SpellsTransforms, SpellsProposals, MayHave, SpellsBody, GoesOn, Spells, HasSpelling}
 use Rattle.ike_values.specs.Writing.{transforms_written, FitsTransform, proposals_written, FitsProposal, body_written, FitsBody, first_of, next_of, chain_written, MayStand, AreValid}
 
 -- ---- what fits is spelled by what is written
@@ -13,16 +13,17 @@ transforms_spelled (x ∷ xs) fits = (record { reserved = 0; reserved_behind = 0
 
 proposals_spelled : (xs : List ProposalValue) → AllByRecursion FitsProposal xs → SpellsProposals xs (proposals_written xs)
 proposals_spelled [] fits = refl
-proposals_spelled (x ∷ xs) fits =
-    (record { reserved = 0; inside = transforms_written x.transforms; rest = proposals_written xs },
-    record {
-      bytes_are = refl;
-      length_fits = omega (arith, fits.0.length_fits, length-append x.spi (transforms_written x.transforms));
-      spi_fits = fits.0.spi_fits;
-      count_fits = fits.0.count_fits;
-      transforms = transforms_spelled x.transforms fits.0.transforms;
-    },
-    proposals_spelled xs fits.1)
+proposals_spelled (x ∷ xs) fits = (
+  record { reserved = 0; inside = transforms_written x.transforms; rest = proposals_written xs },
+  record {
+    bytes_are = refl;
+    length_fits = omega (arith, fits.0.length_fits, length-append x.spi (transforms_written x.transforms));
+    spi_fits = fits.0.spi_fits;
+    count_fits = fits.0.count_fits;
+    transforms = transforms_spelled x.transforms fits.0.transforms;
+  },
+  proposals_spelled xs fits.1,
+)
 
 body_spelled : (item : PayloadValue) → FitsBody item → SpellsBody item (body_written item)
 body_spelled (sa x) fits = (fits.0, proposals_spelled x fits.1)
@@ -54,10 +55,11 @@ goes_on_written item inner items stands others = others
 
 pub chain_spelled : (inner : Bool) (items : List PayloadValue) → AreValid inner items → Spells items (first_of items) inner (chain_written items)
 chain_spelled inner [] valid = (refl, refl)
-chain_spelled inner (item ∷ items) valid =
-    (record { next = next_of item items; flags = 0; body = body_written item; rest = chain_written items },
-    record { first_is = refl; bytes_are = refl; length_fits = valid.0.length_fits; flags_fit = no_flags item; body_is = body_spelled item valid.0.body },
-    goes_on_written item inner items valid.1 (chain_spelled inner items valid.2))
+chain_spelled inner (item ∷ items) valid = (
+  record { next = next_of item items; flags = 0; body = body_written item; rest = chain_written items },
+  record { first_is = refl; bytes_are = refl; length_fits = valid.0.length_fits; flags_fit = no_flags item; body_is = body_spelled item valid.0.body },
+  goes_on_written item inner items valid.1 (chain_spelled inner items valid.2),
+)
 
 -- ---- what is spelled fits, since all spellings of a value are equally long
 
@@ -65,24 +67,28 @@ transforms_fit : (xs : List TransformValue) (bytes : List ℕ) → SpellsTransfo
 transforms_fit [] bytes s = (tt, ap length s)
 transforms_fit (x ∷ xs) bytes s =
     let others = transforms_fit xs s.0.rest s.2 in
-    let inside = attributes_spelling x.attributes in
-    ((record { attributes = s.1.attributes; length_fits = s.1.length_fits }, others.0),
-    omega (arith, ap length s.1.bytes_are, length-append inside s.0.rest, length-append inside (transforms_written xs), others.1))
+    let inside = attributes_spelling x.attributes in (
+      (record { attributes = s.1.attributes; length_fits = s.1.length_fits }, others.0),
+      omega (arith, ap length s.1.bytes_are, length-append inside s.0.rest, length-append inside (transforms_written xs), others.1),
+    )
 
 proposals_fit : (xs : List ProposalValue) (bytes : List ℕ) → SpellsProposals xs bytes → AllByRecursion FitsProposal xs × (length bytes ≡ length (proposals_written xs))
 proposals_fit [] bytes s = (tt, ap length s)
 proposals_fit (x ∷ xs) bytes s =
     let others = proposals_fit xs s.0.rest s.2 in
     let transforms = transforms_fit x.transforms s.0.inside s.1.transforms in
-    let written = transforms_written x.transforms in
-    ((record {
-      spi_fits = s.1.spi_fits;
-      count_fits = s.1.count_fits;
-      transforms = transforms.0;
-      length_fits = omega (arith, s.1.length_fits, length-append x.spi s.0.inside, transforms.1);
-    },
-    others.0),
-    omega (arith, ap length s.1.bytes_are, length-append (x.spi ++ s.0.inside) s.0.rest, length-append (x.spi ++ written) (proposals_written xs), length-append x.spi s.0.inside, length-append x.spi written, transforms.1, others.1))
+    let written = transforms_written x.transforms in (
+      (
+        record {
+          spi_fits = s.1.spi_fits;
+          count_fits = s.1.count_fits;
+          transforms = transforms.0;
+          length_fits = omega (arith, s.1.length_fits, length-append x.spi s.0.inside, transforms.1);
+        },
+        others.0,
+      ),
+      omega (arith, ap length s.1.bytes_are, length-append (x.spi ++ s.0.inside) s.0.rest, length-append (x.spi ++ written) (proposals_written xs), length-append x.spi s.0.inside, length-append x.spi written, transforms.1, others.1),
+    )
 
 body_fits : (item : PayloadValue) (body : List ℕ) → SpellsBody item body → FitsBody item × (length body ≡ length (body_written item))
 body_fits (sa x) body s = let all = proposals_fit x body s.1 in ((s.0, all.0), all.1)

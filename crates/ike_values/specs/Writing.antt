@@ -2,7 +2,7 @@
 use Rattle.std.specs.Prelude.{◌≡◌, ℕ, ◌+◌, ◌*◌, ◌<◌, ◌≤◌, ◌^◌, Bool, false, IsTrue, List, [], ◌∷◌, ◌++◌, length}
 use Rattle.std.specs.List.{AllByRecursion}
 use Rattle.std.specs.Int.{w64, to_be_bytes}
-use Rattle.ike_values.specs.Values.{TransformValue, ProposalValue, SelectorValue, NotifyValue, DeleteValue, SkValue, PayloadValue, sa, ke, idi, idr, cert, certreq, auth, nonce, notify, delete, vendor, tsi, tsr, sk, cp, eap, other}
+use Rattle.ike_values.specs.Values.{TransformValue, ProposalValue, SelectorValue, SkValue, PayloadValue, sa, ke, idi, idr, cert, certreq, auth, nonce, notify, delete, vendor, tsi, tsr, sk, cp, eap, other}
 use Rattle.ike_values.specs.Spelling.{two, is_last, mark, attributes_spelling, FitsAttribute, selectors_spelling, FitsSelector, is_unknown, type_of}
 
 abbrev pub transform_written : TransformValue → Bool → List ℕ

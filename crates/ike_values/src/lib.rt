@@ -3,6 +3,7 @@
 
 mod attribute;
 mod header;
+mod lengths;
 mod payload;
 mod proposal;
 mod selector;
@@ -10,10 +11,13 @@ mod transform;
 mod validity;
 
 pub use attribute::{Attribute, Attributes};
+pub use ha_base::{GatewayId, Identity};
 pub use header::{Header, Message};
-pub use payload::{
-    AuthBody, DeleteBody, IdBody, NotifyBody, OtherBody, Payload, Payloads, SkBody,
-};
+pub use lengths::{attributes_len, body_len, proposal_len};
+pub use payload::{AuthBody, DeleteBody, IdBody, NotifyBody, OtherBody, Payload, Payloads, SkBody};
 pub use proposal::{Proposal, Proposals};
 pub use selector::{Selector, Selectors};
 pub use transform::{Transform, Transforms};
+
+#[cfg(test)]
+mod tests;

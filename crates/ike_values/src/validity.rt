@@ -9,17 +9,17 @@ ghost use Rattle.ike_values.specs.Spelling.{attribute_spelling, attributes_spell
 ghost use Rattle.ike_values.specs.Writing.{transforms_written, proposals_written, FitsTransform, FitsProposal, FitsSelectors, FitsSk, FitsPayload, FitsBody, body_written, MayStand, AreValid};
 
 use crate::attribute::Attribute;
+use crate::lengths::{LIMIT, attributes_len, body_len, capped, sk_len, transforms_len};
 use crate::payload::{Payload, SkBody};
 use crate::proposal::Proposal;
 use crate::selector::Selector;
 use crate::transform::Transform;
 
-/// One more than a length field of two octets holds.
-const LIMIT: usize = 65536;
 /// The octets of an SK body with a ciphertext of one octet.
 const SHORTEST_SK: usize = 25;
 /// The types of traffic selectors (RFC 7296, section 3.13.1).
 const IPV4_RANGE: u8 = 7;
+
 const IPV6_RANGE: u8 = 8;
 
 /// Whether payloads, those behind each of them and all that they hold have a spelling.
@@ -86,56 +86,6 @@ fn fits_sk(sk: &SkBody) -> bool
     sk_len(sk) >= SHORTEST_SK
 }
 
-// What the types of an SK body say of it: an IV of 8 octets, and a check value of 16.
-fn sk_len(sk: &SkBody) -> usize
-    ensures len { result ≡ 24 + length sk.now.ciphertext.octets }
-    ensures iv { sk.now.iv < 2 ^ 64 }
-    ensures icv { length sk.now.icv ≡ 16 }
-{
-    sk.iv.to_be_bytes().len() + sk.ciphertext.as_slice().len() + code_len(&sk.icv)
-}
-
-fn code_len(icv: &[u8; 16]) -> usize
-    ensures len { result ≡ 16 }
-    ensures icv { length icv.now ≡ 16 }
-{
-    icv.len()
-}
-
-fn capped(len: usize) -> usize
-    ensures { result ≡ min 65536 len }
-{
-    len.min(LIMIT)
-}
-
-// The octets of a body, or 65,536 where there are more.
-fn body_len(payload: &Payload) -> usize
-    ensures { result ≡ min 65536 (length (body_written (payload_value payload.now))) }
-{
-    match payload {
-        Payload::Sa(proposals) => proposals_len(proposals.as_slice()),
-        Payload::Ke(octets)
-        | Payload::Cert(octets)
-        | Payload::CertReq(octets)
-        | Payload::Nonce(octets)
-        | Payload::Vendor(octets)
-        | Payload::Cp(octets)
-        | Payload::Eap(octets) => capped(octets.as_slice().len()),
-        Payload::IdI(id) | Payload::IdR(id) => capped(4 + id.content.as_slice().len()),
-        Payload::Auth(auth) => capped(4 + auth.content.as_slice().len()),
-        Payload::Notify(notify) => {
-            let spi = capped(notify.spi.as_slice().len());
-            capped(4 + spi + notify.content.as_slice().len())
-        }
-        Payload::Delete(delete) => capped(4 + delete.spis.as_slice().len()),
-        Payload::TsI(selectors) | Payload::TsR(selectors) => {
-            capped(4 + selectors_len(selectors.as_slice()))
-        }
-        Payload::Sk(sk) => capped(sk_len(sk)),
-        Payload::Other(other) => capped(other.body.as_slice().len()),
-    }
-}
-
 fn fits_proposals(proposals: &[Proposal]) -> bool
     ensures { IsTrue result ↔ ((0 < length (map proposal_value proposals.now)) × AllByRecursion FitsProposal (map proposal_value proposals.now)) }
 {
@@ -166,25 +116,6 @@ fn fits_proposal(proposal: &Proposal) -> bool
         && 8 + spi + transforms_len(transforms) < LIMIT
 }
 
-fn proposals_len(proposals: &[Proposal]) -> usize
-    ensures { result ≡ min 65536 (length (proposals_written (map proposal_value proposals.now))) }
-{
-    let mut len = 0;
-    let mut rest = proposals;
-    while let [first, others @ ..] = rest {
-        len = capped(len + proposal_len(first));
-        rest = others;
-    }
-    len
-}
-
-fn proposal_len(proposal: &Proposal) -> usize
-    ensures { result ≡ min 65536 (8 + (length (proposal_value proposal.now).spi + length (transforms_written (proposal_value proposal.now).transforms))) }
-{
-    let spi = capped(proposal.spi.as_slice().len());
-    capped(8 + spi + transforms_len(proposal.transforms.as_slice()))
-}
-
 fn all_transforms_fit(transforms: &[Transform]) -> bool
     ensures { IsTrue result ↔ AllByRecursion FitsTransform (map transform_value transforms.now) }
 {
@@ -203,18 +134,6 @@ fn fits_transform(transform: &Transform) -> bool
 {
     let attributes = transform.attributes.as_slice();
     all_attributes_fit(attributes) && 8 + attributes_len(attributes) < LIMIT
-}
-
-fn transforms_len(transforms: &[Transform]) -> usize
-    ensures { result ≡ min 65536 (length (transforms_written (map transform_value transforms.now))) }
-{
-    let mut len = 0;
-    let mut rest = transforms;
-    while let [first, others @ ..] = rest {
-        len = capped(len + 8 + attributes_len(first.attributes.as_slice()));
-        rest = others;
-    }
-    len
 }
 
 fn all_attributes_fit(attributes: &[Attribute]) -> bool
@@ -236,27 +155,6 @@ fn fits_attribute(attribute: &Attribute) -> bool
     match attribute {
         Attribute::Fixed { kind, .. } => *kind < 32768,
         Attribute::Free { kind, value } => *kind < 32768 && value.as_slice().len() < LIMIT,
-    }
-}
-
-fn attributes_len(attributes: &[Attribute]) -> usize
-    ensures { result ≡ min 65536 (length (attributes_spelling (map attribute_value attributes.now))) }
-{
-    let mut len = 0;
-    let mut rest = attributes;
-    while let [first, others @ ..] = rest {
-        len = capped(len + attribute_len(first));
-        rest = others;
-    }
-    len
-}
-
-fn attribute_len(attribute: &Attribute) -> usize
-    ensures { result ≡ min 65536 (length (attribute_spelling (attribute_value attribute.now))) }
-{
-    match attribute {
-        Attribute::Fixed { .. } => 4,
-        Attribute::Free { value, .. } => capped(4 + value.as_slice().len()),
     }
 }
 
@@ -286,16 +184,4 @@ fn fits_selector(selector: &Selector) -> bool
     (selector.kind == IPV4_RANGE || selector.kind == IPV6_RANGE)
         && selector.start.as_slice().len() == len
         && selector.end.as_slice().len() == len
-}
-
-fn selectors_len(selectors: &[Selector]) -> usize
-    ensures { result ≡ min 65536 (length (selectors_spelling (map selector_value selectors.now))) }
-{
-    let mut len = 0;
-    let mut rest = selectors;
-    while let [first, others @ ..] = rest {
-        len = capped(len + 8 + first.start.as_slice().len() + first.end.as_slice().len());
-        rest = others;
-    }
-    len
 }

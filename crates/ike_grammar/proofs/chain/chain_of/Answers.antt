@@ -1,9 +1,8 @@
-use Rattle.std.proofs.Common.{◌≡◌, ◌<◌, arith}
+use Rattle.std.proofs.Common.{◌<◌, arith}
 use Rattle.std.proofs.lemmas.Result.{err_from_is_err_and}
 use Rattle.ike_values.specs.PayloadView.{payload_value}
 use Rattle.ike_grammar.specs.Chain.{chain_at}
-use Rattle.ike_grammar.proofs.Binds.{some_left, none_left}
-use Rattle.ike_grammar.proofs.Chains.{payload_shortens, goes_on, ends, closes_bad, closes_done}
+use Rattle.ike_grammar.proofs.Chains.{payload_shortens, goes_on, ends}
 use Rattle.ike_grammar.proofs.chain.chain_of.Goals as goal
 
 pub returns-in_err-payload : goal.returns-in_err-payload

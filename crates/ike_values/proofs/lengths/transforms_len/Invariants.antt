@@ -1,7 +1,7 @@
 use Rattle.std.proofs.Common.{◌≡◌, ◌+◌, ◌≤◌, min, length, map}
 use Rattle.ike_values.specs.TransformView.{transform_value}
 use Rattle.ike_values.specs.Writing.{transforms_written}
-use Rattle.ike_values.proofs.validity.transforms_len.Given as goal
+use Rattle.ike_values.proofs.lengths.transforms_len.Given as goal
 
 abbrev pub invariant-loop-rest : goal.invariant-loop-rest
 invariant-loop-rest l = record {

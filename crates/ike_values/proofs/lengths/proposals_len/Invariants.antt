@@ -1,7 +1,7 @@
 use Rattle.std.proofs.Common.{◌≡◌, ◌+◌, ◌≤◌, min, length, map}
 use Rattle.ike_values.specs.ProposalView.{proposal_value}
 use Rattle.ike_values.specs.Writing.{proposals_written}
-use Rattle.ike_values.proofs.validity.proposals_len.Given as goal
+use Rattle.ike_values.proofs.lengths.proposals_len.Given as goal
 
 abbrev pub invariant-loop-rest : goal.invariant-loop-rest
 invariant-loop-rest l = record {

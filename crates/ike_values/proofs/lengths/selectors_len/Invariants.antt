@@ -1,7 +1,7 @@
 use Rattle.std.proofs.Common.{◌≡◌, ◌+◌, ◌≤◌, min, length, map}
 use Rattle.ike_values.specs.SelectorView.{selector_value}
 use Rattle.ike_values.specs.Spelling.{selectors_spelling}
-use Rattle.ike_values.proofs.validity.selectors_len.Given as goal
+use Rattle.ike_values.proofs.lengths.selectors_len.Given as goal
 
 abbrev pub invariant-loop-rest : goal.invariant-loop-rest
 invariant-loop-rest l = record {
