@@ -1,4 +1,5 @@
-ghost use Rattle.std.specs.Prelude.{◌≡◌};
+ghost use Rattle.std.specs.Prelude.{◌≡◌, IfOk};
+ghost use Rattle.event_text.specs.Input.{contents_of, left_contents};
 
 use crate::world::World;
 use event_text::{EventReader, InputFault, LineReason, write_end, write_head, write_turn};
@@ -21,6 +22,7 @@ fn play_events<K: Keeper>(
     keeper: &mut Gate<K>,
     report: &mut Octets,
 ) -> Result<Option<InputFault>, Memory>
+    ensures fault { IfOk result (λ fault. fault ≡ (left_contents reader.old).fault) }
     ensures held { K.held keeper.new.keeper ≡ K.held keeper.old.keeper }
 {
     loop {
@@ -43,6 +45,7 @@ pub(crate) fn play<K: Keeper>(
     world: &mut World,
     keeper: &mut Gate<K>,
 ) -> Result<Played, Memory>
+    ensures fault { IfOk result (λ played. played.fault ≡ (contents_of input.now).fault) }
     ensures held { K.held keeper.new.keeper ≡ K.held keeper.old.keeper }
 {
     let mut report = Octets::new(alloc);

@@ -1,11 +1,12 @@
 //! The top call, which is the whole program but for what standard input and output are.
 
-ghost use Rattle.std.specs.Prelude.{◌≡◌, ◌<◌, ◌⊎◌, ℕ, List, length, false};
+ghost use Rattle.std.specs.Prelude.{◌≡◌, ◌⊎◌, Some, None, false};
 ghost use Rattle.std.specs.List.{AllByRecursion};
-ghost use Rattle.std.specs.Io.KnownBytes.{Consumes, IsAtEnd, Keeps};
+ghost use Rattle.std.specs.Io.KnownBytes.{Keeps};
 ghost use Rattle.ha_base.specs.Faults.{HasFailed};
 ghost use Rattle.replay_world.specs.Commands.{is_command};
-ghost use Rattle.replay_world.specs.Statuses.{AtEnd};
+ghost use Rattle.event_text.specs.declared.place.InputFault.{InputFault};
+ghost use Rattle.replay_world.specs.Statuses.{AtEnd, ReadsTo};
 
 use crate::input::{Unread, read_input};
 use crate::play::play;
@@ -85,7 +86,8 @@ pub fn replay<S: Source, O: Sink, D: Sink, K: Keeper>(
     ensures no_words { is_command words.now.items ≡ false → result ≡ Status.Words ⊎ result ≡ Status.WriteFault }
     ensures untouched { is_command words.now.items ≡ false → Keeps (O.written out.old) (O.written out.new)
         × Keeps (S.left source.old) (S.left source.new) }
-    ensures read_to_end { result ≡ Status.Done → IsAtEnd (S.left source.new) ⊎ (input : List ℕ) × Consumes (S.left source.old) (S.left source.new) input × (67108864 < length input) }
+    ensures done { result ≡ Status.Done → ReadsTo (S.left source.old) (S.left source.new) None }
+    ensures faulty { result ≡ Status.FaultyLine → (fault : InputFault) × ReadsTo (S.left source.old) (S.left source.new) (Some fault) }
 {
     if !is_run(words) {
         return match write_all(diag, b"ha: usage: run\n") {

@@ -1,8 +1,12 @@
 use Rattle.std.proofs.Common.{◌≡◌, length}
+use Rattle.event_text.specs.Input.{left_contents}
 use Rattle.replay_world.proofs.play.play_events.Given as goal
 
 abbrev pub invariant-loop-moment : goal.invariant-loop-moment
-invariant-loop-moment g l = g.K.Keeper.held l.keeper.keeper ≡ g.K.Keeper.held l.fn.keeper.keeper
+invariant-loop-moment g l = record {
+  held : g.K.Keeper.held l.keeper.keeper ≡ g.K.Keeper.held l.fn.keeper.keeper;
+  fault : (left_contents l.reader).fault ≡ (left_contents l.fn.reader).fault;
+}
 
 abbrev pub decreases-loop-moment : goal.decreases-loop-moment
 decreases-loop-moment g l = length l.reader.lines
