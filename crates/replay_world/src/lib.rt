@@ -9,3 +9,6 @@ pub mod top;
 mod world;
 
 pub use world::World;
+
+#[cfg(test)]
+mod tests;

@@ -1,4 +1,5 @@
-ghost use Rattle.std.specs.Prelude.{◌≡◌, [], false};
+ghost use Rattle.std.specs.Prelude.{◌≡◌, [], false, IfOk};
+ghost use Rattle.event_text.specs.Input.{contents_of, left_contents};
 
 use crate::world::World;
 use event_text::{EventReader, InputFault, LineReason, write_end, write_head, write_turn};
@@ -23,6 +24,7 @@ fn play_events<K: Keeper>(
 ) -> Result<Option<InputFault>, Memory>
     requires empty { keeper.old.calls ≡ [] }
     requires told { keeper.old.missed ≡ false }
+    ensures fault { IfOk result (λ fault. fault ≡ (left_contents reader.old).fault) }
     ensures held { K.held keeper.new.keeper ≡ K.held keeper.old.keeper }
 {
     loop {
@@ -47,6 +49,7 @@ pub(crate) fn play<K: Keeper>(
 ) -> Result<Played, Memory>
     requires empty { keeper.old.calls ≡ [] }
     requires told { keeper.old.missed ≡ false }
+    ensures fault { IfOk result (λ played. played.fault ≡ (contents_of input.now).fault) }
     ensures held { K.held keeper.new.keeper ≡ K.held keeper.old.keeper }
 {
     let mut report = Octets::new(alloc);

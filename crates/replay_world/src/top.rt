@@ -1,7 +1,12 @@
 //! The top call, which is the whole program but for what standard input and output are.
 
-ghost use Rattle.std.specs.Prelude.{◌≡◌};
+ghost use Rattle.std.specs.Prelude.{◌≡◌, ◌⊎◌, Some, None, false};
 ghost use Rattle.std.specs.List.{AllByRecursion};
+ghost use Rattle.std.specs.Io.KnownBytes.{Keeps};
+ghost use Rattle.ha_base.specs.Faults.{HasFailed};
+ghost use Rattle.replay_world.specs.Commands.{is_command};
+ghost use Rattle.event_text.specs.declared.place.InputFault.{InputFault};
+ghost use Rattle.replay_world.specs.Statuses.{AtEnd, ReadsTo};
 
 use crate::input::{Unread, read_input};
 use crate::play::play;
@@ -29,18 +34,26 @@ pub enum Status {
 }
 
 // The one command is `run`.
-fn is_run(words: &Vec<String>) -> bool {
+fn is_run(words: &Vec<String>) -> bool
+    ensures { result ≡ is_command words.now.items }
+{
     words.len() == 1 && words[0].as_str() == "run"
 }
 
 // Says why a call ends; where that can't be written, it ends so all the same.
-fn complain<D: Sink>(diag: &mut D, line: &[u8], status: Status) -> Status {
+fn complain<D: Sink>(diag: &mut D, line: &[u8], status: Status) -> Status
+    ensures { result ≡ status }
+{
     let _ = write_all(diag, line);
     status
 }
 
 // Says which line is faulty.
-fn name_line<D: Sink>(alloc: Global, diag: &mut D, fault: InputFault) -> Status {
+fn name_line<D: Sink>(alloc: Global, diag: &mut D, fault: InputFault) -> Status
+    ensures status { result ≡ Status.FaultyLine ⊎ (result ≡ Status.Memory ⊎ result ≡ Status.WriteFault) }
+    ensures none { result ≡ Status.FaultyLine → D.faults diag.new ≡ D.faults diag.old }
+    ensures failed { result ≡ Status.WriteFault → HasFailed (D.faults diag.old) (D.faults diag.new) }
+{
     let Ok(text) = format!(in alloc; "ha: line {}\n", fault.line) else {
         return complain(diag, b"ha: want of memory\n", Status::Memory);
     };
@@ -64,6 +77,17 @@ pub fn replay<S: Source, O: Sink, D: Sink, K: Keeper>(
     requires peer { count peer_service ≡ 0 }
     requires services { AllByRecursion (λ service. count service ≡ 0) services.items }
     ensures held { K.held keeper.new ≡ K.held keeper.old }
+    ensures none_failed { AtEnd result ((S.faults source.new ≡ S.faults source.old) × (O.faults out.new ≡ O.faults out.old)
+        × (D.faults diag.new ≡ D.faults diag.old)) }
+    ensures read_fault { result ≡ Status.ReadFault → HasFailed (S.faults source.old) (S.faults source.new) }
+    ensures write_fault { result ≡ Status.WriteFault → HasFailed (O.faults out.old) (O.faults out.new)
+        ⊎ HasFailed (D.faults diag.old) (D.faults diag.new) }
+    ensures words { result ≡ Status.Words → is_command words.now.items ≡ false }
+    ensures no_words { is_command words.now.items ≡ false → result ≡ Status.Words ⊎ result ≡ Status.WriteFault }
+    ensures untouched { is_command words.now.items ≡ false → Keeps (O.written out.old) (O.written out.new)
+        × Keeps (S.left source.old) (S.left source.new) }
+    ensures done { result ≡ Status.Done → ReadsTo (S.left source.old) (S.left source.new) None }
+    ensures faulty { result ≡ Status.FaultyLine → (fault : InputFault) × ReadsTo (S.left source.old) (S.left source.new) (Some fault) }
 {
     if !is_run(words) {
         return match write_all(diag, b"ha: usage: run\n") {

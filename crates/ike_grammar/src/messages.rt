@@ -1,0 +1,93 @@
+//! Headers and whole messages.
+
+ghost use Rattle.std.specs.Prelude.{◌≡◌, ◌+◌, ◌<◌, ◌≤◌, length, IsOk};
+ghost use Rattle.ike_values.specs.Headers.{has_flag};
+ghost use Rattle.ike_grammar.specs.Faults.{Gives};
+ghost use Rattle.ike_grammar.specs.Messages.{four_at, eight_at, header_at, message_at};
+
+use crate::chain::chain_of;
+use crate::fault::{Bad, Reason, Unread};
+use ike_values::{Header, Message};
+use std::alloc::Global;
+
+/// The octets of a header (RFC 7296, section 3.1).
+const HEADER: usize = 28;
+
+const INITIATOR: u8 = 8;
+
+const RESPONSE: u8 = 32;
+
+#[tactic(auto, unfolding(crate::specs::Messages::header_at))]
+pub(crate) fn header_of(bytes: &[u8]) -> Result<Header, Bad>
+    ensures read { result ≡ header_at bytes.now }
+    ensures long { IsOk result → HEADER ≤ length bytes.now }
+{
+    if bytes.len() < HEADER {
+        return Err(Bad {
+            place: 0,
+            reason: Reason::Short,
+        });
+    }
+    if bytes[17] / 16 != 2 {
+        return Err(Bad {
+            place: 17,
+            reason: Reason::Version,
+        });
+    }
+    if four(bytes, 24) as usize != bytes.len() {
+        return Err(Bad {
+            place: 24,
+            reason: Reason::Length,
+        });
+    }
+    Ok(Header {
+        spii: eight(bytes, 0),
+        spir: eight(bytes, 8),
+        exchange: bytes[18],
+        initiator: has_flag(bytes[19], INITIATOR),
+        response: has_flag(bytes[19], RESPONSE),
+        id: four(bytes, 20),
+    })
+}
+
+fn has_flag(flags: u8, flag: u8) -> bool
+    ensures { result ≡ has_flag flags flag }
+{
+    flags & flag != 0
+}
+
+fn four(bytes: &[u8], at: usize) -> u32
+    requires { at + 3 < length bytes.now }
+    ensures { result ≡ four_at bytes.now at }
+{
+    u32::from_be_bytes([bytes[at], bytes[at + 1], bytes[at + 2], bytes[at + 3]])
+}
+
+fn eight(bytes: &[u8], at: usize) -> u64
+    requires { at + 7 < length bytes.now }
+    ensures { result ≡ eight_at bytes.now at }
+{
+    u64::from_be_bytes([
+        bytes[at],
+        bytes[at + 1],
+        bytes[at + 2],
+        bytes[at + 3],
+        bytes[at + 4],
+        bytes[at + 5],
+        bytes[at + 6],
+        bytes[at + 7],
+    ])
+}
+
+#[tactic(auto, unfolding(crate::specs::Messages::message_at))]
+pub(crate) fn message_of(alloc: Global, bytes: &[u8]) -> Result<Message, Unread>
+    ensures { Gives (λ x. x) result (message_at bytes.now) }
+{
+    let header = match header_of(bytes) {
+        Ok(header) => header,
+        Err(bad) => return Err(Unread::Bad(bad)),
+    };
+    let (_, chain) = bytes.split_at(HEADER);
+    let payloads = chain_of(alloc, bytes.len(), false, bytes[16], chain)?;
+    Ok(Message { header, payloads })
+}

@@ -1,0 +1,99 @@
+-- The spelling with reserved bits 0, and the values that have one.
+use Rattle.std.specs.Prelude.{◌≡◌, ℕ, ◌+◌, ◌*◌, ◌<◌, ◌≤◌, ◌^◌, Bool, false, IsTrue, List, [], ◌∷◌, ◌++◌, length}
+use Rattle.std.specs.List.{AllByRecursion}
+use Rattle.std.specs.Int.{w64, to_be_bytes}
+use Rattle.ike_values.specs.Values.{TransformValue, ProposalValue, SelectorValue, SkValue, PayloadValue, sa, ke, idi, idr, cert, certreq, auth, nonce, notify, delete, vendor, tsi, tsr, sk, cp, eap, other}
+use Rattle.ike_values.specs.Spelling.{two, is_last, mark, attributes_spelling, FitsAttribute, selectors_spelling, FitsSelector, is_unknown, type_of}
+
+abbrev pub transform_written : TransformValue → Bool → List ℕ
+transform_written x last = mark 3 last ∷ 0 ∷ two (8 + length (attributes_spelling x.attributes)) ++ (x.kind ∷ 0 ∷ two x.id) ++ attributes_spelling x.attributes
+
+abbrev pub transforms_written : List TransformValue → List ℕ
+transforms_written [] = []
+transforms_written (x ∷ xs) = transform_written x (is_last xs) ++ transforms_written xs
+
+pub record FitsTransform (x : TransformValue) : Type 0 where
+  pub attributes : AllByRecursion FitsAttribute x.attributes
+  pub length_fits : 8 + length (attributes_spelling x.attributes) < 65536
+
+abbrev pub proposal_written : ProposalValue → Bool → List ℕ
+proposal_written x last = mark 2 last ∷ 0 ∷ two (8 + length (x.spi ++ transforms_written x.transforms)) ++ (x.number ∷ x.protocol ∷ length x.spi ∷ length x.transforms ∷ []) ++ (x.spi ++ transforms_written x.transforms)
+
+abbrev pub proposals_written : List ProposalValue → List ℕ
+proposals_written [] = []
+proposals_written (x ∷ xs) = proposal_written x (is_last xs) ++ proposals_written xs
+
+pub record FitsProposal (x : ProposalValue) : Type 0 where
+  pub spi_fits : length x.spi < 256
+  pub count_fits : length x.transforms < 256
+  pub transforms : AllByRecursion FitsTransform x.transforms
+  pub length_fits : 8 + (length x.spi + length (transforms_written x.transforms)) < 65536
+
+abbrev pub numbered_written : ℕ → List ℕ → List ℕ
+numbered_written number content = number ∷ 0 ∷ 0 ∷ 0 ∷ content
+
+abbrev pub body_written : PayloadValue → List ℕ
+body_written (sa x) = proposals_written x
+body_written (ke x) = x
+body_written (idi x) = numbered_written x.kind x.content
+body_written (idr x) = numbered_written x.kind x.content
+body_written (cert x) = x
+body_written (certreq x) = x
+body_written (auth x) = numbered_written x.method x.content
+body_written (nonce x) = x
+body_written (notify x) = x.protocol ∷ length x.spi ∷ two x.kind ++ x.spi ++ x.content
+body_written (delete x) = x.protocol ∷ x.size ∷ two x.number ++ x.spis
+body_written (vendor x) = x
+body_written (tsi x) = numbered_written (length x) (selectors_spelling x)
+body_written (tsr x) = numbered_written (length x) (selectors_spelling x)
+body_written (sk x) = to_be_bytes w64 x.iv ++ x.ciphertext ++ x.icv
+body_written (cp x) = x
+body_written (eap x) = x
+body_written (other x) = x.body
+
+pub record FitsSelectors (xs : List SelectorValue) : Type 0 where
+  pub some : 0 < length xs
+  pub count_fits : length xs < 256
+  pub selectors : AllByRecursion FitsSelector xs
+
+pub record FitsSk (x : SkValue) : Type 0 where
+  pub iv_fits : x.iv < 2 ^ 64
+  pub some : 0 < length x.ciphertext
+  pub icv_len : length x.icv ≡ 16
+
+abbrev pub FitsBody : PayloadValue → Type 0
+FitsBody (sa x) = (0 < length x) × AllByRecursion FitsProposal x
+FitsBody (nonce x) = (16 ≤ length x) × (length x ≤ 256)
+FitsBody (notify x) = length x.spi < 256
+FitsBody (delete x) = length x.spis ≡ x.size * x.number
+FitsBody (tsi x) = FitsSelectors x
+FitsBody (tsr x) = FitsSelectors x
+FitsBody (sk x) = FitsSk x
+FitsBody (other x) = IsTrue (is_unknown x.kind)
+FitsBody item = Unit {0}
+
+pub record FitsPayload (item : PayloadValue) : Type 0 where
+  pub body : FitsBody item
+  pub length_fits : 4 + length (body_written item) < 65536
+
+-- the type of the first payload, 0 where there is none
+abbrev pub first_of : List PayloadValue → ℕ
+first_of [] = 0
+first_of (item ∷ items) = type_of item
+
+abbrev pub next_of : PayloadValue → List PayloadValue → ℕ
+next_of (sk x) items = x.first
+next_of item items = first_of items
+
+abbrev pub chain_written : List PayloadValue → List ℕ
+chain_written [] = []
+chain_written (item ∷ items) = next_of item items ∷ 0 ∷ two (4 + length (body_written item)) ++ body_written item ++ chain_written items
+
+-- whether SK may stand here, in an inner chain or not, before these payloads
+abbrev pub MayStand : PayloadValue → Bool → List PayloadValue → Type 0
+MayStand (sk x) inner items = (inner ≡ false) × (items ≡ [])
+MayStand item inner items = Unit {0}
+
+abbrev pub AreValid : Bool → List PayloadValue → Type 0
+AreValid inner [] = Unit {0}
+AreValid inner (item ∷ items) = FitsPayload item × MayStand item inner items × AreValid inner items

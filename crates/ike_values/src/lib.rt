@@ -1,0 +1,23 @@
+//! The values that IKEv2 messages carry (RFC 7296, section 3): headers, payloads and the lists inside them.
+#![tactic(auto)]
+
+mod attribute;
+mod header;
+mod lengths;
+mod payload;
+mod proposal;
+mod selector;
+mod transform;
+mod validity;
+
+pub use attribute::{Attribute, Attributes};
+pub use ha_base::{GatewayId, Identity};
+pub use header::{Header, Message};
+pub use lengths::{attributes_len, body_len, proposal_len};
+pub use payload::{AuthBody, DeleteBody, IdBody, NotifyBody, OtherBody, Payload, Payloads, SkBody};
+pub use proposal::{Proposal, Proposals};
+pub use selector::{Selector, Selectors};
+pub use transform::{Transform, Transforms};
+
+#[cfg(test)]
+mod tests;
