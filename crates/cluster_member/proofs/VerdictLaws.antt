@@ -1,5 +1,5 @@
 -- What a takeover and a draw come out as.
-use Rattle.std.proofs.Common.{◌≡◌, ℕ, ◌^◌, ◌<◌, ◌≤◌, Bool, true, false, Option, Some, None, List, [], ◌∷◌, length, ⊎_elim, refl, ap, sym, ◌∙◌, arith}
+use Rattle.std.proofs.Common.{◌≡◌, ℕ, ◌^◌, ◌≤◌, false, Option, Some, None, List, [], ◌∷◌, length, ⊎_elim, refl, ap, arith}
 use Rattle.std.proofs.lemmas.Bool.{cases_lt}
 use Rattle.std.specs.Prelude.{MatchOption}
 use Rattle.event_text.specs.declared.verdict.Refusal.{Refusal}
@@ -15,9 +15,8 @@ use Rattle.keeper_book.specs.declared.calls.Call.{Call}
 use Rattle.keeper_book.specs.declared.calls.KeeperAnswer.{KeeperAnswer}
 use Rattle.keeper_book.specs.declared.calls.KeeperAnswer.TheVariants as answer
 use Rattle.keeper_book.specs.declared.counters.Counter.TheVariants as counter
-use Rattle.keeper_book.specs.declared.faults.KeeperFault.{KeeperFault}
 use Rattle.keeper_book.specs.declared.faults.KeeperFault.TheVariants as fault
-use Rattle.turn_rules.specs.Draws.{Concludes, Draws, Grants, TakesOver, reach_of, refusal_of_fault, refusal_of_stop}
+use Rattle.turn_rules.specs.Draws.{Concludes, Draws, Grants, TakesOver, reach_of, refusal_of_stop}
 use Rattle.turn_rules.specs.Ends.{is_of_run, is_refused_by_run}
 use Rattle.turn_rules.specs.Fits.{is_join, is_takeover}
 use Rattle.turn_rules.specs.Held.{Held}

@@ -1,10 +1,10 @@
 -- Each event does what the turns before it say, and leaves the ends as the turns say then.
-use Rattle.std.proofs.Common.{◌≡◌, ◌≢◌, ℕ, suc, ◌+◌, ◌-◌, ◌^◌, ◌<◌, ◌≤◌, ◌==◌, Bool, true, false, Option, Some, None, List, [], ◌∷◌, ◌++◌, length, get_or, ⊎_elim, refl, ap, sym, ◌∙◌, arith, subst, rules, if◌then◌else◌}
+use Rattle.std.proofs.Common.{◌≡◌, ◌≢◌, ℕ, ◌+◌, ◌-◌, ◌<◌, ◌≤◌, ◌==◌, Bool, true, false, Option, Some, None, List, [], ◌∷◌, ◌++◌, length, get_or, ⊎_elim, refl, ap, sym, ◌∙◌, arith, subst, if◌then◌else◌}
 use Rattle.std.proofs.Math.ListN.{set}
-use Rattle.std.proofs.lemmas.Bool.{and_parts, cases_lt, cases_order, eq-eqb, eqb-true, eqb-false, leb-true, ltb-true, ne_eqb}
+use Rattle.std.proofs.lemmas.Bool.{and_parts, cases_lt, eqb-true, eqb-false, leb-true, ltb-true}
 use Rattle.std.proofs.lemmas.List.{append-nil, get_or_append_left, get_or_at, get_or_past, get_or-set_same, get_or-set_other, length-append, length-set}
-use Rattle.std.specs.Prelude.{◌||◌, ◌&&◌, not, is_some, nat_le, nat_lt, option_to_list, MatchOption}
-use Rattle.cluster_member.specs.Members.{DrawsFrom, Holder, TakesTo}
+use Rattle.std.specs.Prelude.{◌||◌, ◌&&◌, not, is_some, nat_le, nat_lt, MatchOption}
+use Rattle.cluster_member.specs.Members.{Holder, TakesTo}
 use Rattle.cluster_member.proofs.VerdictLaws.{IsOfMember, option_drawn, takes_member}
 use Rattle.cluster_member.proofs.StepLaws.{draws-from-fit, draws-held, takes-fit, takes-held}
 use Rattle.event_text.specs.declared.event.Event.{Event}
@@ -20,20 +20,15 @@ use Rattle.keeper_book.specs.Told.{seen}
 use Rattle.keeper_book.specs.declared.calls.Call.{Call}
 use Rattle.keeper_book.specs.declared.calls.KeeperAnswer.{KeeperAnswer}
 use Rattle.keeper_book.specs.declared.calls.KeeperAnswer.TheVariants as answer
-use Rattle.keeper_book.specs.declared.faults.KeeperFault.{KeeperFault}
-use Rattle.keeper_book.specs.declared.faults.KeeperFault.TheVariants as fault
 use Rattle.keeper_book.specs.declared.records.Record.{Record}
-use Rattle.turn_rules.specs.Draws.{Admits, Concludes, Draws, Enters, Grants, TakesOver, refusal_of_fault}
-use Rattle.turn_rules.specs.Ends.{Member, Peer, Performer, is_by, is_end, is_of_run, is_refused_by_run, performer_of, own}
-use Rattle.keeper_book.specs.declared.counters.Counter.TheVariants as counter
-use Rattle.turn_rules.specs.Draws.{reach_of, refusal_of_stop}
-use Rattle.turn_rules.specs.Held.{Held}
-use Rattle.turn_rules.specs.Local.{AreShown, IsExplained, Local}
+use Rattle.turn_rules.specs.Draws.{Admits, Concludes, Draws, Enters, TakesOver, refusal_of_fault}
+use Rattle.turn_rules.specs.Ends.{Member, Peer, Performer, is_by, is_end, is_of_run, performer_of, own}
+use Rattle.turn_rules.specs.Local.{AreShown, Local}
 use Rattle.turn_rules.specs.Steps.{IsQuiet}
 use Rattle.turn_rules.specs.Fits.{DrawFits, ImportFits, JoinFits, OwnFits}
-use Rattle.turn_rules.specs.Fits.{Fits, Refusing, has_import, has_joined, has_takeover, is_importable, is_join, is_takeover, joins}
+use Rattle.turn_rules.specs.Fits.{Fits, Refusing, has_import, has_joined, has_takeover, is_importable, is_takeover, joins}
 use Rattle.turn_rules.specs.Held.{held_after, held_at, held_by}
-use Rattle.turn_rules.specs.Peers.{admits, entered, entered_in, slots_by}
+use Rattle.turn_rules.specs.Peers.{admits, entered, slots_by}
 use Rattle.replay_world.specs.Casts.{AreKept, DrawsAs, DrawsAt, Owns, Plays, Rejecting, TakesOverAs, has_member, Imports, Joins, Mirrors, Standing, imported_as, joined_as, nobody}
 use Rattle.replay_world.proofs.MirrorLaws.{Continues, continued}
 
@@ -135,7 +130,7 @@ module _ (now : Moment) (step : Step) where
       joined_number k l =
           ⊎_elim (λ b. ap (λ (h : Holder). h.number) (get_or_append_left s.members _ nobody k b) ∙ numbered k b)
           (λ b. let e : k ≡ length s.members = omega arith in
-            ap (λ (h : Holder). h.number) (get_or_at s.members (record { number = length s.members + 1; held = [] }) [] nobody k (sym e)) ∙ ap (λ n. n + 1) (sym e))
+          ap (λ (h : Holder). h.number) (get_or_at s.members (record { number = length s.members + 1; held = [] }) [] nobody k (sym e)) ∙ ap (λ n. n + 1) (sym e))
           (cases_lt k (length s.members))
 
       -- a place where no member stood
@@ -149,15 +144,15 @@ module _ (now : Moment) (step : Step) where
         count = omega (arith, length-append s.members (record { number = length s.members + 1; held = [] } ∷ []));
         numbers = λ k l. joined_number k (omega (arith, l, length-append s.members (record { number = length s.members + 1; held = [] } ∷ [])));
         mine = λ k spir t.
-          let e : k + 1 ≡ length s.members + 1 = eqb-true _ _ t in
-          let at : length s.members ≡ k = omega arith in
-          ap (λ (h : Holder). held_at h.held spir) (get_or_at s.members (record { number = length s.members + 1; held = [] }) [] nobody k at)
-          ∙ sym (ap (held_after spir (event.Join fresh) [] (out.Member (length s.members + 1))) (held_past s.members k spir (omega arith)));
+            let e : k + 1 ≡ length s.members + 1 = eqb-true _ _ t in
+            let at : length s.members ≡ k = omega arith in
+            ap (λ (h : Holder). held_at h.held spir) (get_or_at s.members (record { number = length s.members + 1; held = [] }) [] nobody k at)
+            ∙ sym (ap (held_after spir (event.Join fresh) [] (out.Member (length s.members + 1))) (held_past s.members k spir (omega arith)));
         others = λ k spir t.
-          let d : k ≢ length s.members = λ e. eqb-false _ _ t (ap (λ n. n + 1) e) in
-          ⊎_elim (λ b. ap (λ (h : Holder). held_at h.held spir) (get_or_append_left s.members _ nobody k b))
-          (λ b. held_past (s.members ++ record { number = length s.members + 1; held = [] } ∷ []) k spir (omega (arith, length-append s.members (record { number = length s.members + 1; held = [] } ∷ []))) ∙ sym (held_past s.members k spir b))
-          (cases_lt k (length s.members));
+            let d : k ≢ length s.members = λ e. eqb-false _ _ t (ap (λ n. n + 1) e) in
+            ⊎_elim (λ b. ap (λ (h : Holder). held_at h.held spir) (get_or_append_left s.members _ nobody k b))
+            (λ b. held_past (s.members ++ record { number = length s.members + 1; held = [] } ∷ []) k spir (omega (arith, length-append s.members (record { number = length s.members + 1; held = [] } ∷ []))) ∙ sym (held_past s.members k spir b))
+            (cases_lt k (length s.members));
         imported = refl;
         owned = refl;
       }
@@ -173,7 +168,7 @@ module _ (now : Moment) (step : Step) where
             refusing_elim (nat_lt 0 (length s.members)) refusal.NotBuilt calls v (λ n e. refused refusal.NotBuilt refl e)
             (λ a. refusing_elim (nat_le 64 (length s.members) || nat_le s.boxes (length s.members)) (refusal.NoRoom (length s.members)) calls v (λ n e. refused (refusal.NoRoom (length s.members)) refl e)
             (λ b c. subst (λ u. Continues s (turn_of (event.Join fresh) calls u) (joined_as u s)) (sym c.said)
-              (subst (λ cs. Continues s (turn_of (event.Join fresh) cs (out.Member (length s.members + 1))) (joined_as (out.Member (length s.members + 1)) s)) (sym c.no_more) (joined fresh))))
+            (subst (λ cs. Continues s (turn_of (event.Join fresh) cs (out.Member (length s.members + 1))) (joined_as (out.Member (length s.members + 1)) s)) (sym c.no_more) (joined fresh))))
             p.fits
 
     -- a member's own turn, which changes what it holds
@@ -198,13 +193,13 @@ module _ (now : Moment) (step : Step) where
         count = rw said.no_join (length-set s.members (member - 1) holder);
         numbers = λ k l. moved_number k (k == member - 1) refl (rw length-set at l);
         mine = λ k spir t.
-          let at : k + 1 ≡ member = eqb-true _ _ (sym (by_it (k + 1)) ∙ t) in
-          let place : k ≡ member - 1 = omega arith in
-          subst (λ j. held_at (get_or moved j nobody).held spir ≡ held_after spir e calls v (held_at (get_or s.members j nobody).held spir)) (sym place)
-          (ap (λ (h : Holder). held_at h.held spir) here ∙ holds spir);
+            let at : k + 1 ≡ member = eqb-true _ _ (sym (by_it (k + 1)) ∙ t) in
+            let place : k ≡ member - 1 = omega arith in
+            subst (λ j. held_at (get_or moved j nobody).held spir ≡ held_after spir e calls v (held_at (get_or s.members j nobody).held spir)) (sym place)
+            (ap (λ (h : Holder). held_at h.held spir) here ∙ holds spir);
         others = λ k spir t.
-          let apart : k ≢ member - 1 = λ q. eqb-false _ _ (sym (by_it (k + 1)) ∙ t) (omega arith) in
-          ap (λ (h : Holder). held_at h.held spir) (get_or-set_other s.members (member - 1) k holder nobody apart);
+            let apart : k ≢ member - 1 = λ q. eqb-false _ _ (sym (by_it (k + 1)) ∙ t) (omega arith) in
+            ap (λ (h : Holder). held_at h.held spir) (get_or-set_other s.members (member - 1) k holder nobody apart);
         imported = rw none;
         owned = taken;
       }
@@ -252,9 +247,9 @@ module _ (s : Standing) (numbered : Numbered s.members) (member spir : ℕ) (cal
         let takes = own_taken j t t in
         subst (λ n. Continues s (turn_of now step (event.Own member spir) calls v) n) (sym t.leaves)
         (member_done now step s numbered (event.Own member spir) calls v member t.now (is_takeover v) refl refl
-          (takes_member spir member calls v (takes-fit spir member _ _ calls v takes)) j.first j.last t.number
-          (or_false (is_takeover v) ∙ ap (λ b. is_takeover v || b) (sym first))
-          (λ other. takes-held other spir member _ _ calls v takes))
+        (takes_member spir member calls v (takes-fit spir member _ _ calls v takes)) j.first j.last t.number
+        (or_false (is_takeover v) ∙ ap (λ b. is_takeover v || b) (sym first))
+        (λ other. takes-held other spir member _ _ calls v takes))
 
     pub continues-own : Owns s member spir calls v new → Continues s (turn_of now step (event.Own member spir) calls v) new
     continues-own p =
@@ -268,9 +263,9 @@ module _ (s : Standing) (numbered : Numbered s.members) (member spir : ℕ) (cal
         let drawn = option_drawn _ calls v (draws-from-fit spir _ _ calls v d.draws) in
         subst (λ n. Continues s (turn_of now step (event.Draw member spir) calls v) n) (sym d.leaves)
         (member_done now step s numbered (event.Draw member spir) calls v member d.now s.owned refl refl
-          drawn.said j.first j.last d.number
-          (ap (λ b. b || s.owned) (sym drawn.no_takeover))
-          (λ other. draws-held other spir member _ _ calls v d.draws))
+        drawn.said j.first j.last d.number
+        (ap (λ b. b || s.owned) (sym drawn.no_takeover))
+        (λ other. draws-held other spir member _ _ calls v d.draws))
 
     pub continues-draw : DrawsAt s member spir calls v new → Continues s (turn_of now step (event.Draw member spir) calls v) new
     continues-draw p =
@@ -292,20 +287,20 @@ module _ (past : List Turn) (s : Standing) (m : Mirrors past s) (calls : List Ca
       subst (λ n. Refusing (not (nat_lt 0 member && nat_le member n)) refusal.NoMember calls v (Refusing (has_takeover past) refusal.NotBuilt calls v (TakesOver spir member calls v))) m.count
       (subst (λ b. Refusing (not (has_member member s.members)) refusal.NoMember calls v (Refusing b refusal.NotBuilt calls v (TakesOver spir member calls v))) m.owned
       (rejecting_as (not (has_member member s.members)) s refusal.NoMember calls v new
-        (λ j. rejecting_as s.owned s refusal.NotBuilt calls v new
-        (λ b t. takes-fit spir member _ _ calls v (own_taken s m.numbers member spir calls v new (has_joined_by member s.members j) t t)))
-        p))
+      (λ j. rejecting_as s.owned s refusal.NotBuilt calls v new
+      (λ b t. takes-fit spir member _ _ calls v (own_taken s m.numbers member spir calls v new (has_joined_by member s.members j) t t)))
+      p))
 
   fits_draw : (member spir : ℕ) → DrawsAt s member spir calls v new → DrawFits past member spir calls v
   fits_draw member spir p =
       subst (λ n. Refusing (not (nat_lt 0 member && nat_le member n)) refusal.NoMember calls v (MatchOption (held_by (own (Member member) past) spir) (Concludes calls v (out.Refused refusal.NotOwner)) (λ held. Draws held calls v))) m.count
       (rejecting_as (not (has_member member s.members)) s refusal.NoMember calls v new
-        (λ j d.
-          let joined = has_joined_by member s.members j in
-          let back : member - 1 + 1 ≡ member = omega (arith, joined.first) in
-          let said : held_at (get_or s.members (member - 1) nobody).held spir ≡ held_by (own (Member member) past) spir = m.held (member - 1) spir ∙ ap (λ n. held_by (own (Member n) past) spir) back in
-          subst (λ x. MatchOption x (Concludes calls v (out.Refused refusal.NotOwner)) (λ held. Draws held calls v)) said (draws-from-fit spir _ _ calls v d.draws))
-        p)
+      (λ j d.
+      let joined = has_joined_by member s.members j in
+      let back : member - 1 + 1 ≡ member = omega (arith, joined.first) in
+      let said : held_at (get_or s.members (member - 1) nobody).held spir ≡ held_by (own (Member member) past) spir = m.held (member - 1) spir ∙ ap (λ n. held_by (own (Member n) past) spir) back in
+      subst (λ x. MatchOption x (Concludes calls v (out.Refused refusal.NotOwner)) (λ held. Draws held calls v)) said (draws-from-fit spir _ _ calls v d.draws))
+      p)
 
   -- an event does what the turns before it say
   pub fits : (e : Event) → Plays s e calls v new → Fits s.boxes past e calls v
@@ -387,5 +382,5 @@ pub kept : (past : List Turn) (s : Standing) (now : Moment) (e : Event) (calls :
 kept past s now e calls step new k p shown quiet = record {
   mirrors = continued past (turn_of now step e calls step.verdict) s new k.mirrors (continues past s k.mirrors calls step.verdict new now step e p);
   local = subst (λ boxes. Local boxes (record { moment = now; event = e; calls = calls; step = step } ∷ past)) (sym (boxes-stay s calls step.verdict new e p))
-    (record { fits = fits past s k.mirrors calls step.verdict new e p; shown = shown; quiet = quiet }, k.local);
+      (record { fits = fits past s k.mirrors calls step.verdict new e p; shown = shown; quiet = quiet }, k.local);
 }

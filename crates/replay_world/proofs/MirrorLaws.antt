@@ -1,26 +1,12 @@
 -- What the ends hold goes on to be what the turns say.
-use Rattle.std.proofs.Common.{◌≡◌, ◌≢◌, ℕ, suc, ◌+◌, ◌-◌, ◌^◌, ◌<◌, ◌≤◌, ◌==◌, Bool, true, false, Option, Some, None, List, [], ◌∷◌, ◌++◌, length, get_or, ⊎_elim, refl, ap, sym, ◌∙◌, arith, subst, rules, if◌then◌else◌}
-use Rattle.std.proofs.Math.ListN.{set}
-use Rattle.std.proofs.lemmas.Bool.{cases_lt, eq-eqb, eqb-true, eqb-false, ne_eqb}
-use Rattle.std.proofs.lemmas.List.{append-nil, get_or_append_left, get_or_at, get_or_past, get_or-set_same, get_or-set_other, length-append, length-set}
-use Rattle.std.specs.Prelude.{◌||◌, ◌&&◌, not, is_some, nat_le, nat_lt, option_to_list, MatchOption, cond}
-use Rattle.cluster_member.specs.Members.{DrawsFrom, Holder, TakesTo}
-use Rattle.cluster_member.proofs.StepLaws.{draws-from-fit, draws-held, takes-fit, takes-held}
-use Rattle.event_text.specs.declared.event.Event.{Event}
-use Rattle.event_text.specs.declared.event.Event.TheVariants as event
-use Rattle.event_text.specs.declared.turn.Step.{Step}
+use Rattle.std.proofs.Common.{◌≡◌, ℕ, suc, ◌+◌, ◌<◌, Bool, true, false, Option, Some, None, List, ◌∷◌, ◌++◌, length, get_or, refl, ap, sym, ◌∙◌, if◌then◌else◌}
+use Rattle.std.proofs.lemmas.List.{append-nil}
+use Rattle.std.specs.Prelude.{◌||◌, is_some, option_to_list, cond}
 use Rattle.event_text.specs.declared.turn.Turn.{Turn}
-use Rattle.event_text.specs.declared.verdict.Refusal.{Refusal}
-use Rattle.event_text.specs.declared.verdict.Refusal.TheVariants as refusal
-use Rattle.event_text.specs.declared.verdict.Verdict.{Verdict}
-use Rattle.event_text.specs.declared.verdict.Verdict.TheVariants as out
-use Rattle.ha_base.specs.declared.outside.Moment.{Moment}
-use Rattle.keeper_book.specs.declared.calls.Call.{Call}
 use Rattle.keeper_book.specs.declared.records.Record.{Record}
 use Rattle.turn_rules.proofs.Ties.{held_by-cons}
-use Rattle.turn_rules.specs.Draws.{Concludes, Draws, Enters, Grants, TakesOver}
-use Rattle.turn_rules.specs.Ends.{Member, Peer, Performer, is_by, is_end, is_of_run, is_refused_by_run, own}
-use Rattle.turn_rules.specs.Fits.{Refusing, has_import, has_takeover, is_join, is_takeover, joins}
+use Rattle.turn_rules.specs.Ends.{Member, Peer, Performer, is_by, own}
+use Rattle.turn_rules.specs.Fits.{is_join, is_takeover, joins}
 use Rattle.turn_rules.specs.Held.{held_after, held_at, held_by}
 use Rattle.turn_rules.specs.Peers.{entered_in, slots_by}
 use Rattle.replay_world.specs.Casts.{Mirrors, Standing, nobody}

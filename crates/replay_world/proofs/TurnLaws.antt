@@ -1,5 +1,5 @@
 -- What the calls of one more turn are, and what they do to the keeper.
-use Rattle.std.proofs.Common.{◌≡◌, ℕ, ◌+◌, ◌≤◌, Bool, true, false, Option, Some, None, List, [], ◌∷◌, ◌++◌, length, get_or, reverse, ⊎_elim, ◌⊎◌, inl, inr, refl, ap, sym, ◌∙◌, arith, subst}
+use Rattle.std.proofs.Common.{◌≡◌, ℕ, ◌≤◌, Bool, true, false, Option, Some, None, List, [], ◌∷◌, ◌++◌, length, reverse, ⊎_elim, ◌⊎◌, inl, inr, sym, arith, subst}
 use Rattle.std.proofs.lemmas.List.{reverse-append}
 use Rattle.event_text.specs.declared.turn.Turn.{Turn}
 use Rattle.keeper_book.specs.Book.{Book, EntersAll, EntersAllTold}

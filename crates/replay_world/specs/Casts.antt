@@ -55,15 +55,15 @@ joined_as verdict old = old
 
 pub record Imports (old : Standing) (sa : Record) (calls : List Call) (verdict : Verdict) (new : Standing) : Type 0 where
   pub fits : Refusing old.imported refusal.NotBuilt calls verdict
-    (Refusing (not (is_importable sa)) refusal.SpiRange calls verdict
-    (Refusing (not (admits old.slots sa)) refusal.SpiInUse calls verdict
-    (Enters sa calls verdict)))
+      (Refusing (not (is_importable sa)) refusal.SpiRange calls verdict
+      (Refusing (not (admits old.slots sa)) refusal.SpiInUse calls verdict
+      (Enters sa calls verdict)))
   pub leaves : new ≡ imported_as sa verdict old
 
 pub record Joins (old : Standing) (calls : List Call) (verdict : Verdict) (new : Standing) : Type 0 where
   pub fits : Refusing (nat_lt 0 (length old.members)) refusal.NotBuilt calls verdict
-    (Refusing (nat_le MAX_MEMBERS (length old.members) || nat_le old.boxes (length old.members)) (refusal.NoRoom (length old.members)) calls verdict
-    (Concludes calls verdict (out.Member (length old.members + 1))))
+      (Refusing (nat_le MAX_MEMBERS (length old.members) || nat_le old.boxes (length old.members)) (refusal.NoRoom (length old.members)) calls verdict
+      (Concludes calls verdict (out.Member (length old.members + 1))))
   pub leaves : new ≡ joined_as verdict old
 
 -- the event is refused, and changes nothing

@@ -159,12 +159,7 @@ impl Cast {
         Some((member - 1) as usize)
     }
 
-    fn own<K: Keeper>(
-        &mut self,
-        keeper: &mut K,
-        member: u64,
-        spir: u64,
-    ) -> Result<Step, Memory>
+    fn own<K: Keeper>(&mut self, keeper: &mut K, member: u64, spir: u64) -> Result<Step, Memory>
         ensures owns { IfOk result (λ step. (calls : List Call) × Owns self.old member spir calls step.verdict self.new
             × Asks K.Keeper keeper.old calls keeper.new) }
         ensures quiet { IfOk result IsQuiet }

@@ -1,11 +1,11 @@
 -- One turn more.
-use Rattle.std.proofs.Common.{◌≡◌, ℕ, ◌≤◌, List, [], ◌∷◌, ◌++◌, length, reverse, refl, ap, sym, ◌∙◌, subst}
+use Rattle.std.proofs.Common.{◌≡◌, List, [], ◌∷◌, ◌++◌, reverse, refl, ap, sym, ◌∙◌, subst}
 use Rattle.event_text.specs.declared.turn.Turn.{Turn}
 use Rattle.keeper_book.specs.Book.{EntersAllTold}
 use Rattle.keeper_book.specs.Told.{HaveCause}
 use Rattle.keeper_book.specs.declared.calls.Call.{Call}
 use Rattle.turn_rules.specs.Local.{AreShown}
-use Rattle.replay_world.specs.Casts.{AreKept, Standing}
+use Rattle.replay_world.specs.Casts.{AreKept}
 use Rattle.replay_world.specs.Runs.{CausedSince, Run, StandsTold}
 use Rattle.replay_world.proofs.EventLaws.{boxes-stay, few, fits, kept}
 use Rattle.replay_world.proofs.TurnLaws.{caused-more, newest, spoken-shown, stands-more, told-all}
@@ -26,8 +26,8 @@ module _ (g : _) (c : goal.After-push_reserved g) where
       let p = c.in_ok-step.ensures.plays in
       c.take_calls-calls.ensures.calls
       ∙ told-all p.0 c.args.keeper.now.calls c.play.new.keeper.calls c.args.keeper.now.missed c.play.new.keeper.missed c.requires.empty c.requires.told
-        (few c.self.inside.cast.boxes past c.args.event p.0 c.in_ok-step.step.verdict (fits past c.self.inside.cast c.self.invariant.mirrors p.0 c.in_ok-step.step.verdict c.play.new.self c.args.event p.1))
-        p.2.adds
+      (few c.self.inside.cast.boxes past c.args.event p.0 c.in_ok-step.step.verdict (fits past c.self.inside.cast c.self.invariant.mirrors p.0 c.in_ok-step.step.verdict c.play.new.self c.args.event p.1))
+      p.2.adds
 
   are_kept : AreKept (turn ∷ past) c.play.new.self
   are_kept =
@@ -55,7 +55,7 @@ pub returns-clause-stands : goal.returns-clause-stands
 returns-clause-stands g c = λ stood.
     let before : StandsTold (past g c) (g.K.Keeper.book c.args.keeper.now.keeper) = subst (λ (run : Run). StandsTold run.past (g.K.Keeper.book c.args.keeper.now.keeper)) (sym c.self.view_is) stood in
     let enters : EntersAllTold (g.K.Keeper.book c.args.keeper.now.keeper) (turn g c).calls (g.K.Keeper.book c.play.new.keeper.keeper) =
-      subst (λ (cs : List Call). EntersAllTold (g.K.Keeper.book c.args.keeper.now.keeper) cs (g.K.Keeper.book c.play.new.keeper.keeper)) (sym (calls_are g c)) c.in_ok-step.ensures.plays.2.enters in
+    subst (λ (cs : List Call). EntersAllTold (g.K.Keeper.book c.args.keeper.now.keeper) cs (g.K.Keeper.book c.play.new.keeper.keeper)) (sym (calls_are g c)) c.in_ok-step.ensures.plays.2.enters in
     let after : StandsTold (turn g c ∷ past g c) (g.K.Keeper.book c.play.new.keeper.keeper) = stands-more (turn g c) (past g c) _ _ enters before in
     let there : StandsTold (turn g c ∷ past g c) (g.K.Keeper.book c.take_calls-calls.new.self.keeper) = rw c.take_calls-calls.ensures.keeper after in
     subst (λ (turns : List Turn). StandsTold turns (g.K.Keeper.book c.take_calls-calls.new.self.keeper)) (sym (reversed g c)) there
@@ -64,7 +64,7 @@ pub returns-clause-caused : goal.returns-clause-caused
 returns-clause-caused g c = λ start caused.
     let before : CausedSince start (g.K.Keeper.faults c.args.keeper.now.keeper) (past g c) = subst (λ (run : Run). CausedSince start (g.K.Keeper.faults c.args.keeper.now.keeper) run.past) (sym c.self.view_is) caused in
     let cause : HaveCause (g.K.Keeper.faults c.args.keeper.now.keeper) (g.K.Keeper.faults c.play.new.keeper.keeper) (turn g c).calls =
-      subst (λ (cs : List Call). HaveCause (g.K.Keeper.faults c.args.keeper.now.keeper) (g.K.Keeper.faults c.play.new.keeper.keeper) cs) (sym (calls_are g c)) c.in_ok-step.ensures.plays.2.cause in
+    subst (λ (cs : List Call). HaveCause (g.K.Keeper.faults c.args.keeper.now.keeper) (g.K.Keeper.faults c.play.new.keeper.keeper) cs) (sym (calls_are g c)) c.in_ok-step.ensures.plays.2.cause in
     let after : CausedSince start (g.K.Keeper.faults c.play.new.keeper.keeper) (turn g c ∷ past g c) = caused-more (turn g c) (past g c) start _ _ cause before in
     let there : CausedSince start (g.K.Keeper.faults c.take_calls-calls.new.self.keeper) (turn g c ∷ past g c) = rw c.take_calls-calls.ensures.keeper after in
     subst (λ (turns : List Turn). CausedSince start (g.K.Keeper.faults c.take_calls-calls.new.self.keeper) turns) (sym (reversed g c)) there
