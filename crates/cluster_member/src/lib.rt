@@ -7,10 +7,7 @@ mod member;
 mod refusals;
 
 pub use member::Member;
-<<<<<<< HEAD
 pub use refusals::of_fault;
-=======
->>>>>>> 946d6e2 (Test and turn the calls of members and the peer, and describe horizons)
 
 #[cfg(test)]
 mod tests;
