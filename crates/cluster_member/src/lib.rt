@@ -8,3 +8,6 @@ mod refusals;
 
 pub use member::Member;
 pub use refusals::of_fault;
+
+#[cfg(test)]
+mod tests;

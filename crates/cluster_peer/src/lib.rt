@@ -5,3 +5,6 @@ mod peer;
 mod slots;
 
 pub use peer::Peer;
+
+#[cfg(test)]
+mod tests;

@@ -11,3 +11,6 @@ mod stop;
 
 pub use horizon::Horizon;
 pub use stop::Stop;
+
+#[cfg(test)]
+mod tests;

@@ -1,6 +1,7 @@
 -- What the decoders promise, from what they give.
 use Rattle.std.proofs.Common.{◌≡◌, ℕ, Bool, List, length, Result, Ok, Err, sym, subst}
 use Rattle.std.specs.Prelude.{IfOk, IfErr}
+use Rattle.ha_base.specs.Octets.{WithRoom}
 use Rattle.ike_values.specs.Values.{PayloadValue}
 use Rattle.ike_values.specs.Spelling.{Spells}
 use Rattle.ike_values.specs.Headers.{IsHeader, IsMessage}
@@ -50,3 +51,9 @@ message_is_refused bytes r g = refused_at r (message_at bytes) g
 pub header_is_found : (bytes : List ℕ) (r : Result Header Bad) → IsOctets bytes → r ≡ header_at bytes → IfOk r (λ h. IsHeader h bytes)
 header_is_found bytes (Ok h) fits e = (_, header_found bytes h fits (sym e))
 header_is_found bytes (Err b) fits e = tt
+
+-- ---- what is written
+
+pub message_is_again : {E : Type 0} (m : Message) (r : Result WithRoom E) → IfOk r (λ out. IsMessage m out.octets) → IfOk r (λ out. message_at out.octets ≡ Ok m)
+message_is_again m (Ok out) s = message_again out.octets m s
+message_is_again m (Err e) s = tt

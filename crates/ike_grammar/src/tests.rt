@@ -1,4 +1,5 @@
 use super::*;
+use ha_base::Octets;
 use ike_values::{Attribute, Payload};
 use std::alloc::{AllocError, Global};
 use std::test::*;
@@ -337,5 +338,27 @@ fn a_header_is_read(rt: HostRuntime) -> Result<(), Fail> {
     assert_eq!(rt; header.spii, 0x349a97d875d51e8d);
     assert_eq!(rt; header.exchange, 255);
     assert!(rt; header.initiator && !header.response);
+    Ok(())
+}
+
+/// The message with this chain, and no reserved bit set.
+const SA_MESSAGE: &str =
+    "00000000000000010000000000000000212025080000000000000040000000240000002001030402000100020300000c01000014800e00800000000805000001";
+
+#[test]
+fn what_is_read_is_written_again(rt: HostRuntime) -> Result<(), Fail> {
+    let octets = hex::decode(rt.alloc(), SA_MESSAGE)?;
+    let message = decode_message(rt.alloc(), &octets).ok().ok_or("a message")?;
+    if !message.payloads.is_valid() || !fits_message(&message.payloads) {
+        return Err(Fail::from("payloads that are read have a spelling"));
+    }
+    let again = encode_message(rt.alloc(), &message).ok().ok_or("memory")?;
+    assert_eq!(rt; again.as_slice(), octets.as_slice());
+    let mut chain = Octets::new(rt.alloc());
+    let first = encode_chain(&message.payloads, &mut chain)
+        .ok()
+        .ok_or("memory")?;
+    assert_eq!(rt; first, 33);
+    assert!(rt; octets.as_slice().ends_with(chain.as_slice()));
     Ok(())
 }

@@ -1,0 +1,103 @@
+//! Proposals, their transforms, and the attributes of these.
+
+ghost use Rattle.std.specs.Prelude.{◌≡◌, ◌++◌, map, OnOk};
+ghost use Rattle.std.specs.List.{AllByRecursion};
+ghost use Rattle.ike_values.specs.AttributeView.{attribute_value};
+ghost use Rattle.ike_values.specs.TransformView.{transform_value};
+ghost use Rattle.ike_values.specs.ProposalView.{proposal_value};
+ghost use Rattle.ike_values.specs.Spelling.{mark, attribute_spelling, attributes_spelling, FitsAttribute};
+ghost use Rattle.ike_values.specs.Writing.{transform_written, transforms_written, FitsTransform, proposal_written, proposals_written, FitsProposal};
+
+use crate::octets::put_two;
+use ha_base::{Memory, Octets};
+use ike_values::{Attribute, Proposal, Transform, attributes_len, proposal_len};
+
+pub(crate) fn put_proposals(out: &mut Octets, proposals: &[Proposal]) -> Result<(), Memory>
+    requires { AllByRecursion FitsProposal (map proposal_value proposals.now) }
+    ensures { OnOk result (out.new.octets ≡ out.old.octets ++ proposals_written (map proposal_value proposals.now)) }
+{
+    let mut rest = proposals;
+    while let [first, others @ ..] = rest {
+        put_proposal(out, others.is_empty(), first)?;
+        rest = others;
+    }
+    Ok(())
+}
+
+fn put_proposal(out: &mut Octets, last: bool, proposal: &Proposal) -> Result<(), Memory>
+    requires { FitsProposal (proposal_value proposal.now) }
+    ensures { OnOk result (out.new.octets ≡ out.old.octets ++ proposal_written (proposal_value proposal.now) last) }
+{
+    let spi = proposal.spi.as_slice();
+    let transforms = proposal.transforms.as_slice();
+    out.extend(&[mark(2, last), 0])?;
+    put_two(out, proposal_len(proposal) as u16)?;
+    out.extend(&[
+        proposal.number,
+        proposal.protocol,
+        spi.len() as u8,
+        transforms.len() as u8,
+    ])?;
+    out.extend(spi)?;
+    put_transforms(out, transforms)
+}
+
+// What an item of a list begins with: 0 for the last.
+fn mark(more: u8, last: bool) -> u8
+    ensures { result ≡ mark more last }
+{
+    if last { 0 } else { more }
+}
+
+fn put_transforms(out: &mut Octets, transforms: &[Transform]) -> Result<(), Memory>
+    requires { AllByRecursion FitsTransform (map transform_value transforms.now) }
+    ensures { OnOk result (out.new.octets ≡ out.old.octets ++ transforms_written (map transform_value transforms.now)) }
+{
+    let mut rest = transforms;
+    while let [first, others @ ..] = rest {
+        put_transform(out, others.is_empty(), first)?;
+        rest = others;
+    }
+    Ok(())
+}
+
+fn put_transform(out: &mut Octets, last: bool, transform: &Transform) -> Result<(), Memory>
+    requires { FitsTransform (transform_value transform.now) }
+    ensures { OnOk result (out.new.octets ≡ out.old.octets ++ transform_written (transform_value transform.now) last) }
+{
+    let attributes = transform.attributes.as_slice();
+    out.extend(&[mark(3, last), 0])?;
+    put_two(out, 8 + attributes_len(attributes) as u16)?;
+    out.extend(&[transform.kind, 0])?;
+    put_two(out, transform.id)?;
+    put_attributes(out, attributes)
+}
+
+fn put_attributes(out: &mut Octets, attributes: &[Attribute]) -> Result<(), Memory>
+    requires { AllByRecursion FitsAttribute (map attribute_value attributes.now) }
+    ensures { OnOk result (out.new.octets ≡ out.old.octets ++ attributes_spelling (map attribute_value attributes.now)) }
+{
+    let mut rest = attributes;
+    while let [first, others @ ..] = rest {
+        put_attribute(out, first)?;
+        rest = others;
+    }
+    Ok(())
+}
+
+fn put_attribute(out: &mut Octets, attribute: &Attribute) -> Result<(), Memory>
+    requires { FitsAttribute (attribute_value attribute.now) }
+    ensures { OnOk result (out.new.octets ≡ out.old.octets ++ attribute_spelling (attribute_value attribute.now)) }
+{
+    match attribute {
+        Attribute::Fixed { kind, value } => {
+            put_two(out, 32768 + *kind)?;
+            put_two(out, *value)
+        }
+        Attribute::Free { kind, value } => {
+            put_two(out, *kind)?;
+            put_two(out, value.as_slice().len() as u16)?;
+            out.extend(value.as_slice())
+        }
+    }
+}
