@@ -1,3 +1,4 @@
 pub mod EventLaws
 pub mod MirrorLaws
+pub mod PlayedLaws
 pub mod TurnLaws

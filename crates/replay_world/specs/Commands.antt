@@ -1,5 +1,5 @@
 -- What the words of a command line ask for.
-use Rattle.std.specs.Prelude.{Bool, false, ◌&&◌, List, [], ◌∷◌, codes, string_bytes, String}
+use Rattle.std.specs.Prelude.{Bool, false, List, [], ◌∷◌, codes, string_bytes, String}
 use Rattle.std.specs.Str.{bytes_eq}
 
 -- the words are the one command that there is

@@ -1,9 +1,13 @@
-ghost use Rattle.std.specs.Prelude.{◌≡◌, [], false, IfOk};
+ghost use Rattle.std.specs.Prelude.{◌≡◌, ℕ, List, [], ◌++◌, false, vec_len, IfOk, OnOk};
 ghost use Rattle.event_text.specs.Input.{contents_of, left_contents};
+ghost use Rattle.event_text.specs.Report.{report, turns_text};
+ghost use Rattle.replay_world.specs.Played.{IsPlayed, prefixed, titles};
+ghost use Rattle.replay_world.specs.Runs.{CausedSince, StandsTold};
+ghost use Rattle.turn_rules.specs.Local.{Local};
 
 use crate::world::World;
 use event_text::{EventReader, InputFault, LineReason, write_end, write_head, write_turn};
-use ha_base::{Memory, Octets};
+use ha_base::{Memory, Octets, Service};
 use keeper_book::{Gate, Keeper};
 use std::alloc::Global;
 
@@ -22,10 +26,20 @@ fn play_events<K: Keeper>(
     keeper: &mut Gate<K>,
     report: &mut Octets,
 ) -> Result<Option<InputFault>, Memory>
-    requires empty { keeper.old.calls ≡ [] }
     requires told { keeper.old.missed ≡ false }
-    ensures fault { IfOk result (λ fault. fault ≡ (left_contents reader.old).fault) }
+    requires empty { keeper.old.calls ≡ [] }
+    requires local { Local world.old.ends.boxes world.old.ends.past }
     ensures held { K.held keeper.new.keeper ≡ K.held keeper.old.keeper }
+    ensures events { IfOk result (λ fault. prefixed (titles world.old.ends.past) (left_contents reader.old)
+        ≡ record { events = titles world.new.ends.past; fault = fault }) }
+    ensures text { (head : List ℕ) → report.old.octets ≡ head ++ turns_text world.old.ends.past
+        → OnOk result (report.new.octets ≡ head ++ turns_text world.new.ends.past) }
+    ensures boxes { world.new.ends.boxes ≡ world.old.ends.boxes }
+    ensures local { Local world.new.ends.boxes world.new.ends.past }
+    ensures stands { StandsTold world.old.ends.past (K.book keeper.old.keeper)
+        → OnOk result (StandsTold world.new.ends.past (K.book keeper.new.keeper)) }
+    ensures caused { (start : ℕ) → CausedSince start (K.faults keeper.old.keeper) world.old.ends.past
+        → OnOk result (CausedSince start (K.faults keeper.new.keeper) world.new.ends.past) }
 {
     loop {
         match reader.next_event(alloc) {
@@ -40,6 +54,35 @@ fn play_events<K: Keeper>(
     }
 }
 
+// Plays the events of an input up to its end, or up to its first fault, which is answered, and appends their turns' text.
+fn play_input<K: Keeper>(
+    alloc: Global,
+    input: &[u8],
+    world: &mut World,
+    keeper: &mut Gate<K>,
+    report: &mut Octets,
+) -> Result<Option<InputFault>, Memory>
+    requires told { keeper.old.missed ≡ false }
+    requires empty { keeper.old.calls ≡ [] }
+    requires begun { world.old.ends.past ≡ [] }
+    ensures held { K.held keeper.new.keeper ≡ K.held keeper.old.keeper }
+    ensures events { IfOk result (λ fault. contents_of input.now ≡ record { events = titles world.new.ends.past; fault = fault }) }
+    ensures text { (head : List ℕ) → report.old.octets ≡ head ++ turns_text [] → OnOk result (report.new.octets ≡ head ++ turns_text world.new.ends.past) }
+    ensures boxes { world.new.ends.boxes ≡ world.old.ends.boxes }
+    ensures local { OnOk result (Local world.new.ends.boxes world.new.ends.past) }
+    ensures stands { StandsTold [] (K.book keeper.old.keeper) → OnOk result (StandsTold world.new.ends.past (K.book keeper.new.keeper)) }
+    ensures caused { (start : ℕ) → CausedSince start (K.faults keeper.old.keeper) []
+        → OnOk result (CausedSince start (K.faults keeper.new.keeper) world.new.ends.past) }
+{
+    match EventReader::new(input) {
+        Err(fault) => Ok(Some(fault)),
+        Ok(reader) => {
+            let mut reader = reader;
+            play_events(alloc, &mut reader, world, keeper, report)
+        }
+    }
+}
+
 /// Plays the events of an input up to its end, or up to its first fault.
 pub(crate) fn play<K: Keeper>(
     alloc: Global,
@@ -47,20 +90,40 @@ pub(crate) fn play<K: Keeper>(
     world: &mut World,
     keeper: &mut Gate<K>,
 ) -> Result<Played, Memory>
-    requires empty { keeper.old.calls ≡ [] }
     requires told { keeper.old.missed ≡ false }
-    ensures fault { IfOk result (λ played. played.fault ≡ (contents_of input.now).fault) }
+    requires empty { keeper.old.calls ≡ [] }
+    requires begun { world.old.ends.past ≡ [] }
     ensures held { K.held keeper.new.keeper ≡ K.held keeper.old.keeper }
+    ensures events { IfOk result (λ played. contents_of input.now ≡ record { events = titles world.new.ends.past; fault = played.fault }) }
+    ensures text { IfOk result (λ played. played.report.octets ≡ report world.new.ends.past) }
+    ensures boxes { world.new.ends.boxes ≡ world.old.ends.boxes }
+    ensures local { OnOk result (Local world.new.ends.boxes world.new.ends.past) }
+    ensures stands { StandsTold [] (K.book keeper.old.keeper) → OnOk result (StandsTold world.new.ends.past (K.book keeper.new.keeper)) }
+    ensures caused { (start : ℕ) → CausedSince start (K.faults keeper.old.keeper) []
+        → OnOk result (CausedSince start (K.faults keeper.new.keeper) world.new.ends.past) }
 {
     let mut report = Octets::new(alloc);
     write_head(&mut report)?;
-    let fault = match EventReader::new(input) {
-        Err(fault) => Some(fault),
-        Ok(reader) => {
-            let mut reader = reader;
-            play_events(alloc, &mut reader, world, keeper, &mut report)?
-        }
-    };
+    let fault = play_input(alloc, input, world, keeper, &mut report)?;
     write_end(alloc, world.turns(), &mut report)?;
     Ok(Played { report, fault })
+}
+
+/// Plays an input in a run of its own, with these services.
+pub(crate) fn play_run<K: Keeper>(
+    alloc: Global,
+    input: &[u8],
+    keeper: &mut Gate<K>,
+    peer_service: Box<dyn Service>,
+    services: Vec<Box<dyn Service>>,
+) -> Result<Played, Memory>
+    requires told { keeper.old.missed ≡ false }
+    requires empty { keeper.old.calls ≡ [] }
+    ensures held { K.held keeper.new.keeper ≡ K.held keeper.old.keeper }
+    ensures played { IfOk result (λ played. IsPlayed (vec_len services) input.now played.fault played.report.octets
+        (K.book keeper.old.keeper) (K.book keeper.new.keeper) (K.faults keeper.old.keeper) (K.faults keeper.new.keeper)) }
+{
+    let mut world = World::new(alloc, peer_service, services);
+    let played = play(alloc, input, &mut world, keeper)?;
+    Ok(played)
 }

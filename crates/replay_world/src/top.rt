@@ -1,16 +1,16 @@
 //! The top call, which is the whole program but for what standard input and output are.
 
-ghost use Rattle.std.specs.Prelude.{◌≡◌, ◌⊎◌, Some, None, false};
+ghost use Rattle.std.specs.Prelude.{◌≡◌, ◌⊎◌, Some, None, false, vec_len};
 ghost use Rattle.std.specs.List.{AllByRecursion};
 ghost use Rattle.std.specs.Io.KnownBytes.{Keeps};
 ghost use Rattle.ha_base.specs.Faults.{HasFailed};
+ghost use Rattle.replay_world.specs.Played.{Completes};
 ghost use Rattle.replay_world.specs.Commands.{is_command};
 ghost use Rattle.event_text.specs.declared.place.InputFault.{InputFault};
-ghost use Rattle.replay_world.specs.Statuses.{AtEnd, ReadsTo};
+ghost use Rattle.replay_world.specs.Statuses.{AtEnd};
 
 use crate::input::{Unread, read_input};
-use crate::play::play;
-use crate::world::World;
+use crate::play::play_run;
 use event_text::InputFault;
 use ha_base::{Failed, Service, Sink, Source, write_all};
 use keeper_book::{Gate, Keeper};
@@ -86,8 +86,12 @@ pub fn replay<S: Source, O: Sink, D: Sink, K: Keeper>(
     ensures no_words { is_command words.now.items ≡ false → result ≡ Status.Words ⊎ result ≡ Status.WriteFault }
     ensures untouched { is_command words.now.items ≡ false → Keeps (O.written out.old) (O.written out.new)
         × Keeps (S.left source.old) (S.left source.new) }
-    ensures done { result ≡ Status.Done → ReadsTo (S.left source.old) (S.left source.new) None }
-    ensures faulty { result ≡ Status.FaultyLine → (fault : InputFault) × ReadsTo (S.left source.old) (S.left source.new) (Some fault) }
+    ensures done { result ≡ Status.Done → Completes (vec_len services) (S.left source.old) (S.left source.new)
+        (O.written out.old) (O.written out.new) (K.book keeper.old) (K.book keeper.new)
+        (K.faults keeper.old) (K.faults keeper.new) None }
+    ensures faulty { result ≡ Status.FaultyLine → (fault : InputFault) × Completes (vec_len services) (S.left source.old) (S.left source.new)
+        (O.written out.old) (O.written out.new) (K.book keeper.old) (K.book keeper.new)
+        (K.faults keeper.old) (K.faults keeper.new) (Some fault) }
 {
     if !is_run(words) {
         return match write_all(diag, b"ha: usage: run\n") {
@@ -100,9 +104,8 @@ pub fn replay<S: Source, O: Sink, D: Sink, K: Keeper>(
         Err(Unread::Memory) => return complain(diag, b"ha: want of memory\n", Status::Memory),
         Err(Unread::Fault) => return complain(diag, b"ha: read fault\n", Status::ReadFault),
     };
-    let mut world = World::new(alloc, peer_service, services);
     let mut gate = Gate::new(keeper);
-    let Ok(played) = play(alloc, input.as_slice(), &mut world, &mut gate) else {
+    let Ok(played) = play_run(alloc, input.as_slice(), &mut gate, peer_service, services) else {
         return complain(diag, b"ha: want of memory\n", Status::Memory);
     };
     if write_all(out, played.report.as_slice()).is_err() {

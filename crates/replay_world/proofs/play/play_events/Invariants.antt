@@ -1,14 +1,22 @@
--- The gate tells its calls, and has none, whenever a turn begins.
-use Rattle.std.proofs.Common.{◌≡◌, [], false, length}
+use Rattle.std.proofs.Common.{◌≡◌, ℕ, false, List, [], ◌++◌, length}
 use Rattle.event_text.specs.Input.{left_contents}
+use Rattle.event_text.specs.Report.{turns_text}
+use Rattle.replay_world.specs.Played.{prefixed, titles}
+use Rattle.replay_world.specs.Runs.{CausedSince, StandsTold}
+use Rattle.turn_rules.specs.Local.{Local}
 use Rattle.replay_world.proofs.play.play_events.Given as goal
 
 abbrev pub invariant-loop-moment : goal.invariant-loop-moment
 invariant-loop-moment g l = record {
   held : g.K.Keeper.held l.keeper.keeper ≡ g.K.Keeper.held l.fn.keeper.keeper;
-  empty : l.keeper.calls ≡ [];
   told : l.keeper.missed ≡ false;
-  fault : (left_contents l.reader).fault ≡ (left_contents l.fn.reader).fault;
+  empty : l.keeper.calls ≡ [];
+  events : prefixed (titles l.fn.world.ends.past) (left_contents l.fn.reader) ≡ prefixed (titles l.world.ends.past) (left_contents l.reader);
+  text : (head : List ℕ) → l.fn.report.octets ≡ head ++ turns_text l.fn.world.ends.past → l.report.octets ≡ head ++ turns_text l.world.ends.past;
+  boxes : l.world.ends.boxes ≡ l.fn.world.ends.boxes;
+  local : Local l.world.ends.boxes l.world.ends.past;
+  stands : StandsTold l.fn.world.ends.past (g.K.Keeper.book l.fn.keeper.keeper) → StandsTold l.world.ends.past (g.K.Keeper.book l.keeper.keeper);
+  caused : (start : ℕ) → CausedSince start (g.K.Keeper.faults l.fn.keeper.keeper) l.fn.world.ends.past → CausedSince start (g.K.Keeper.faults l.keeper.keeper) l.world.ends.past;
 }
 
 abbrev pub decreases-loop-moment : goal.decreases-loop-moment

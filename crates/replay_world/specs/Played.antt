@@ -1,0 +1,49 @@
+-- What the turns of a run say of the input that was played.
+use Rattle.std.specs.Prelude.{ℕ, ◌≡◌, ◌<◌, ◌⊎◌, List, [], ◌∷◌, ◌++◌, length, Option}
+use Rattle.std.specs.Io.KnownBytes.{Appends, Consumes, IsAtEnd}
+use Rattle.event_text.specs.Events.{PlainEvent, plain}
+use Rattle.event_text.specs.Input.{Contents, contents_of}
+use Rattle.event_text.specs.Report.{report}
+use Rattle.event_text.specs.declared.place.InputFault.{InputFault}
+use Rattle.event_text.specs.declared.turn.Turn.{Turn}
+use Rattle.ha_base.specs.declared.outside.Moment.{Moment}
+use Rattle.keeper_book.specs.Book.{Book}
+use Rattle.replay_world.specs.Runs.{CausedSince, StandsTold}
+use Rattle.turn_rules.specs.Local.{Local}
+use Rattle.turn_rules.specs.Safe.{Safe}
+
+-- the moment and the event of a turn, as a line has them
+abbrev pub title : Turn → Moment × PlainEvent
+title turn = (turn.moment, plain turn.event)
+
+-- the events of turns, which have the newest first, in their order
+abbrev pub titles : List Turn → List (Moment × PlainEvent)
+titles [] = []
+titles (turn ∷ past) = titles past ++ title turn ∷ []
+
+-- events, and then what is left of an input
+abbrev pub prefixed : List (Moment × PlainEvent) → Contents → Contents
+prefixed events rest = record { events = events ++ rest.events; fault = rest.fault }
+
+-- What an input was played as: the trace has one turn for each of its events up to its first fault, where it has one, each
+-- explained by those before it, and the text is the report of the trace.
+pub record IsPlayed (boxes : ℕ) (input : List ℕ) (fault : Option InputFault) (text : List ℕ) (book now_book : Option Book) (faults now_faults : ℕ) : Type 0 where
+  pub trace : List Turn
+  pub events : contents_of input ≡ record { events = titles trace; fault = fault }
+  pub written : text ≡ report trace
+  pub local : Local boxes trace
+  pub safe : Safe trace
+  -- where the keeper told an empty book, it tells the one that the calls of the trace lead to
+  pub stands : StandsTold [] book → StandsTold trace now_book
+  -- a call failed only where the keeper's count of faults rose
+  pub caused : CausedSince faults now_faults trace
+
+-- an input was read, to its end or until it was too long to be one, and what was written is the report of what it was
+-- played as
+pub record Completes (boxes : ℕ) (left still_left written now_written : Option (List ℕ)) (book now_book : Option Book) (faults now_faults : ℕ) (fault : Option InputFault) : Type 0 where
+  pub input : List ℕ
+  pub text : List ℕ
+  pub read : Consumes left still_left input
+  pub whole : IsAtEnd still_left ⊎ (67108864 < length input)
+  pub played : IsPlayed boxes input fault text book now_book faults now_faults
+  pub wrote : Appends written now_written text
