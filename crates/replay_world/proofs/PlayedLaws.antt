@@ -2,6 +2,9 @@
 use Rattle.std.proofs.Common.{◌≡◌, ℕ, ◌+◌, ◌<◌, List, [], ◌∷◌, ◌++◌, length, Option, Some, None, refl, ap, sym, subst, ◌∙◌, append_assoc, append-nil, add-one, arith}
 use Rattle.std.specs.Prelude.{is_some, slice_get, unwrap_or, true}
 use Rattle.std.specs.List.{AllByRecursion, filter_map}
+use Rattle.std.proofs.Math.Seq.{take-length}
+use Rattle.std.specs.Io.KnownBytes.{Appends}
+use Rattle.ha_base.specs.Faults.{AppendsFront}
 use Rattle.event_text.specs.Events.{PlainEvent, plain}
 use Rattle.event_text.specs.Input.{Contents, with_event}
 use Rattle.event_text.specs.Report.{given, gives_text, turn_text, turns_text}
@@ -83,3 +86,7 @@ local_is_safe boxes past l = record {
 
 pub none_caused : (faults : ℕ) → CausedSince faults faults []
 none_caused faults = record { later = omega arith; failed = λ none. absurd none }
+
+-- what was written whole was written from the front
+pub appends_front : (old new : Option (List ℕ)) (text : List ℕ) → Appends old new text → AppendsFront old new text
+appends_front old new text wrote = (length text, subst (λ xs. Appends old new xs) (sym (take-length text)) wrote)

@@ -8,6 +8,7 @@ use Rattle.event_text.specs.declared.place.InputFault.{InputFault}
 use Rattle.event_text.specs.declared.turn.Turn.{Turn}
 use Rattle.ha_base.specs.declared.outside.Moment.{Moment}
 use Rattle.keeper_book.specs.Book.{Book}
+use Rattle.ha_base.specs.Faults.{AppendsFront}
 use Rattle.replay_world.specs.Runs.{CausedSince, StandsTold}
 use Rattle.turn_rules.specs.Local.{Local}
 use Rattle.turn_rules.specs.Safe.{Safe}
@@ -47,3 +48,13 @@ pub record Completes (boxes : ℕ) (left still_left written now_written : Option
   pub whole : IsAtEnd still_left ⊎ (67108864 < length input)
   pub played : IsPlayed boxes input fault text book now_book faults now_faults
   pub wrote : Appends written now_written text
+
+-- the same, but of what was to be written only a front was
+pub record BreaksOff (boxes : ℕ) (left still_left written now_written : Option (List ℕ)) (book now_book : Option Book) (faults now_faults : ℕ) : Type 0 where
+  pub input : List ℕ
+  pub text : List ℕ
+  pub fault : Option InputFault
+  pub read : Consumes left still_left input
+  pub whole : IsAtEnd still_left ⊎ (67108864 < length input)
+  pub played : IsPlayed boxes input fault text book now_book faults now_faults
+  pub wrote : AppendsFront written now_written text

@@ -1,10 +1,10 @@
 //! The top call, which is the whole program but for what standard input and output are.
 
-ghost use Rattle.std.specs.Prelude.{◌≡◌, ◌⊎◌, Some, None, false, vec_len};
+ghost use Rattle.std.specs.Prelude.{◌≡◌, ◌⊎◌, Some, None, false, true, vec_len};
 ghost use Rattle.std.specs.List.{AllByRecursion};
 ghost use Rattle.std.specs.Io.KnownBytes.{Keeps};
 ghost use Rattle.ha_base.specs.Faults.{HasFailed};
-ghost use Rattle.replay_world.specs.Played.{Completes};
+ghost use Rattle.replay_world.specs.Played.{BreaksOff, Completes};
 ghost use Rattle.replay_world.specs.Commands.{is_command};
 ghost use Rattle.event_text.specs.declared.place.InputFault.{InputFault};
 ghost use Rattle.replay_world.specs.Statuses.{AtEnd};
@@ -64,6 +64,7 @@ fn name_line<D: Sink>(alloc: Global, diag: &mut D, fault: InputFault) -> Status
 }
 
 /// Does what the words say: `run` reads an event file and writes its report. What is to be said besides goes to `diag`.
+#[tactic(auto, using(crate::proofs::PlayedLaws::appends_front))]
 pub fn replay<S: Source, O: Sink, D: Sink, K: Keeper>(
     alloc: Global,
     words: &Vec<String>,
@@ -92,6 +93,13 @@ pub fn replay<S: Source, O: Sink, D: Sink, K: Keeper>(
     ensures faulty { result ≡ Status.FaultyLine → (fault : InputFault) × Completes (vec_len services) (S.left source.old) (S.left source.new)
         (O.written out.old) (O.written out.new) (K.book keeper.old) (K.book keeper.new)
         (K.faults keeper.old) (K.faults keeper.new) (Some fault) }
+    ensures nothing { result ≡ Status.ReadFault → Keeps (O.written out.old) (O.written out.new) }
+    ensures no_memory { result ≡ Status.Memory → Keeps (O.written out.old) (O.written out.new)
+        ⊎ BreaksOff (vec_len services) (S.left source.old) (S.left source.new) (O.written out.old) (O.written out.new)
+        (K.book keeper.old) (K.book keeper.new) (K.faults keeper.old) (K.faults keeper.new) }
+    ensures front { is_command words.now.items ≡ true → result ≡ Status.WriteFault
+        → BreaksOff (vec_len services) (S.left source.old) (S.left source.new) (O.written out.old) (O.written out.new)
+        (K.book keeper.old) (K.book keeper.new) (K.faults keeper.old) (K.faults keeper.new) }
 {
     if !is_run(words) {
         return match write_all(diag, b"ha: usage: run\n") {
