@@ -6,6 +6,7 @@ use keeper_book::MemoryKeeper;
 use replay_world::top::{Status, replay};
 use std::alloc::AllocError;
 use std::env;
+use std::io::ErrorKind;
 use std::process::ExitCode;
 
 /// How many members a run has services for.
@@ -25,11 +26,13 @@ fn code_of(status: Status) -> u8 {
     }
 }
 
-// The words of the command line. Words that can't be read are taken as no words.
+// The words of the command line. Words that can't be read for another cause than memory are taken as no words.
 fn words(rt: &HostRuntime) -> Result<Vec<String>, AllocError> {
     let mut words = Vec::new(rt.alloc());
-    let Ok(args) = env::args(rt) else {
-        return Ok(words);
+    let args = match env::args(rt) {
+        Ok(args) => args,
+        Err(error) if error.kind() == ErrorKind::OutOfMemory => return Err(AllocError),
+        Err(_) => return Ok(words),
     };
     for word in args.skip(1) {
         words.push(word)?;
