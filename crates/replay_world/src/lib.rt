@@ -9,6 +9,3 @@ pub mod top;
 mod world;
 
 pub use world::World;
-
-#[cfg(test)]
-mod tests;
