@@ -27,13 +27,15 @@ abbrev pub prefixed : List (Moment × PlainEvent) → Contents → Contents
 prefixed events rest = record { events = events ++ rest.events; fault = rest.fault }
 
 -- What an input was played as: the trace has one turn for each of its events up to its first fault, where it has one, each
--- explained by those before it, and the text is the report of the trace.
-pub record IsPlayed (boxes : ℕ) (input : List ℕ) (fault : Option InputFault) (text : List ℕ) (book now_book : Option Book) (faults now_faults : ℕ) : Type 0 where
+-- explained by those before it, and the text is the report of the trace. given: what the services may give in a trace.
+pub record IsPlayed (given : List Turn → Type 0) (boxes : ℕ) (input : List ℕ) (fault : Option InputFault) (text : List ℕ) (book now_book : Option Book) (faults now_faults : ℕ) : Type 0 where
   pub trace : List Turn
   pub events : contents_of input ≡ record { events = titles trace; fault = fault }
   pub written : text ≡ report trace
   pub local : Local boxes trace
   pub safe : Safe trace
+  -- what was executed, the services may give
+  pub serves : given trace
   -- where the keeper told an empty book, it tells the one that the calls of the trace lead to
   pub stands : StandsTold [] book → StandsTold trace now_book
   -- a call failed only where the keeper's count of faults rose
@@ -41,20 +43,20 @@ pub record IsPlayed (boxes : ℕ) (input : List ℕ) (fault : Option InputFault)
 
 -- an input was read, to its end or until it was too long to be one, and what was written is the report of what it was
 -- played as
-pub record Completes (boxes : ℕ) (left still_left written now_written : Option (List ℕ)) (book now_book : Option Book) (faults now_faults : ℕ) (fault : Option InputFault) : Type 0 where
+pub record Completes (given : List Turn → Type 0) (boxes : ℕ) (left still_left written now_written : Option (List ℕ)) (book now_book : Option Book) (faults now_faults : ℕ) (fault : Option InputFault) : Type 0 where
   pub input : List ℕ
   pub text : List ℕ
   pub read : Consumes left still_left input
   pub whole : IsAtEnd still_left ⊎ (67108864 < length input)
-  pub played : IsPlayed boxes input fault text book now_book faults now_faults
+  pub played : IsPlayed given boxes input fault text book now_book faults now_faults
   pub wrote : Appends written now_written text
 
 -- the same, but of what was to be written only a front was
-pub record BreaksOff (boxes : ℕ) (left still_left written now_written : Option (List ℕ)) (book now_book : Option Book) (faults now_faults : ℕ) : Type 0 where
+pub record BreaksOff (given : List Turn → Type 0) (boxes : ℕ) (left still_left written now_written : Option (List ℕ)) (book now_book : Option Book) (faults now_faults : ℕ) : Type 0 where
   pub input : List ℕ
   pub text : List ℕ
   pub fault : Option InputFault
   pub read : Consumes left still_left input
   pub whole : IsAtEnd still_left ⊎ (67108864 < length input)
-  pub played : IsPlayed boxes input fault text book now_book faults now_faults
+  pub played : IsPlayed given boxes input fault text book now_book faults now_faults
   pub wrote : AppendsFront written now_written text

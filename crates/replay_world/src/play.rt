@@ -4,6 +4,7 @@ ghost use Rattle.event_text.specs.Report.{report, turns_text};
 ghost use Rattle.replay_world.specs.Played.{IsPlayed, prefixed, titles};
 ghost use Rattle.replay_world.specs.Runs.{CausedSince, StandsTold};
 ghost use Rattle.turn_rules.specs.Local.{Local};
+ghost use Rattle.turn_rules.specs.Services.{AreGiven, service_of};
 
 use crate::world::World;
 use event_text::{EventReader, InputFault, LineReason, write_end, write_head, write_turn};
@@ -109,8 +110,8 @@ pub(crate) fn play<K: Keeper>(
     Ok(Played { report, fault })
 }
 
-/// Plays an input in a run of its own, with these services.
-pub(crate) fn play_run<K: Keeper>(
+// Plays an input in a run of its own, with these services.
+fn play_run<K: Keeper>(
     alloc: Global,
     input: &[u8],
     keeper: &mut Gate<K>,
@@ -120,10 +121,27 @@ pub(crate) fn play_run<K: Keeper>(
     requires told { keeper.old.missed ≡ false }
     requires empty { keeper.old.calls ≡ [] }
     ensures held { K.held keeper.new.keeper ≡ K.held keeper.old.keeper }
-    ensures played { IfOk result (λ played. IsPlayed (vec_len services) input.now played.fault played.report.octets
+    ensures played { IfOk result (λ played. IsPlayed (AreGiven gives (service_of peer_service services.items)) (vec_len services) input.now played.fault played.report.octets
         (K.book keeper.old.keeper) (K.book keeper.new.keeper) (K.faults keeper.old.keeper) (K.faults keeper.new.keeper)) }
 {
     let mut world = World::new(alloc, peer_service, services);
     let played = play(alloc, input, &mut world, keeper)?;
     Ok(played)
+}
+
+/// The same, with a keeper that is lent.
+pub(crate) fn play_file<K: Keeper>(
+    alloc: Global,
+    input: &Octets,
+    keeper: &mut K,
+    peer_service: Box<dyn Service>,
+    services: Vec<Box<dyn Service>>,
+) -> Result<Played, Memory>
+    ensures held { K.held keeper.new ≡ K.held keeper.old }
+    ensures played { IfOk result (λ played. IsPlayed (AreGiven gives (service_of peer_service services.items)) (vec_len services)
+        input.now.octets played.fault played.report.octets
+        (K.book keeper.old) (K.book keeper.new) (K.faults keeper.old) (K.faults keeper.new)) }
+{
+    let mut gate = Gate::new(keeper);
+    play_run(alloc, input.as_slice(), &mut gate, peer_service, services)
 }

@@ -1,19 +1,20 @@
 //! The top call, which is the whole program but for what standard input and output are.
 
-ghost use Rattle.std.specs.Prelude.{◌≡◌, ◌⊎◌, Some, None, false, true, vec_len};
+ghost use Rattle.std.specs.Prelude.{◌≡◌, ◌⊎◌, Some, None, false, true, vec_len, OnOk, OnErr};
 ghost use Rattle.std.specs.List.{AllByRecursion};
-ghost use Rattle.std.specs.Io.KnownBytes.{Keeps};
-ghost use Rattle.ha_base.specs.Faults.{HasFailed};
+ghost use Rattle.std.specs.Io.KnownBytes.{Appends, Keeps};
+ghost use Rattle.ha_base.specs.Faults.{AppendsFront, HasFailed};
 ghost use Rattle.replay_world.specs.Played.{BreaksOff, Completes};
 ghost use Rattle.replay_world.specs.Commands.{is_command};
 ghost use Rattle.event_text.specs.declared.place.InputFault.{InputFault};
 ghost use Rattle.replay_world.specs.Statuses.{AtEnd};
+ghost use Rattle.turn_rules.specs.Services.{AreGiven, service_of};
 
 use crate::input::{Unread, read_input};
-use crate::play::play_run;
+use crate::play::play_file;
 use event_text::InputFault;
-use ha_base::{Failed, Service, Sink, Source, write_all};
-use keeper_book::{Gate, Keeper};
+use ha_base::{Failed, Octets, Service, Sink, Source, write_all};
+use keeper_book::Keeper;
 use std::alloc::Global;
 
 /// How a call ends.
@@ -63,8 +64,18 @@ fn name_line<D: Sink>(alloc: Global, diag: &mut D, fault: InputFault) -> Status
     }
 }
 
-/// Does what the words say: `run` reads an event file and writes its report. What is to be said besides goes to `diag`.
+// Writes an output; where that fails, a front of it was written.
 #[tactic(auto, using(crate::proofs::PlayedLaws::appends_front))]
+fn write_output<O: Sink>(out: &mut O, text: &Octets) -> Result<(), Failed>
+    ensures ok { OnOk result (Appends (O.written out.old) (O.written out.new) text.now.octets) }
+    ensures front { AppendsFront (O.written out.old) (O.written out.new) text.now.octets }
+    ensures none { OnOk result (O.faults out.new ≡ O.faults out.old) }
+    ensures failed { OnErr result (HasFailed (O.faults out.old) (O.faults out.new)) }
+{
+    write_all(out, text.as_slice())
+}
+
+/// Does what the words say: `run` reads an event file and writes its report. What is to be said besides goes to `diag`.
 pub fn replay<S: Source, O: Sink, D: Sink, K: Keeper>(
     alloc: Global,
     words: &Vec<String>,
@@ -87,18 +98,18 @@ pub fn replay<S: Source, O: Sink, D: Sink, K: Keeper>(
     ensures no_words { is_command words.now.items ≡ false → result ≡ Status.Words ⊎ result ≡ Status.WriteFault }
     ensures untouched { is_command words.now.items ≡ false → Keeps (O.written out.old) (O.written out.new)
         × Keeps (S.left source.old) (S.left source.new) }
-    ensures done { result ≡ Status.Done → Completes (vec_len services) (S.left source.old) (S.left source.new)
+    ensures done { result ≡ Status.Done → Completes (AreGiven gives (service_of peer_service services.items)) (vec_len services) (S.left source.old) (S.left source.new)
         (O.written out.old) (O.written out.new) (K.book keeper.old) (K.book keeper.new)
         (K.faults keeper.old) (K.faults keeper.new) None }
-    ensures faulty { result ≡ Status.FaultyLine → (fault : InputFault) × Completes (vec_len services) (S.left source.old) (S.left source.new)
+    ensures faulty { result ≡ Status.FaultyLine → (fault : InputFault) × Completes (AreGiven gives (service_of peer_service services.items)) (vec_len services) (S.left source.old) (S.left source.new)
         (O.written out.old) (O.written out.new) (K.book keeper.old) (K.book keeper.new)
         (K.faults keeper.old) (K.faults keeper.new) (Some fault) }
     ensures nothing { result ≡ Status.ReadFault → Keeps (O.written out.old) (O.written out.new) }
     ensures no_memory { result ≡ Status.Memory → Keeps (O.written out.old) (O.written out.new)
-        ⊎ BreaksOff (vec_len services) (S.left source.old) (S.left source.new) (O.written out.old) (O.written out.new)
+        ⊎ BreaksOff (AreGiven gives (service_of peer_service services.items)) (vec_len services) (S.left source.old) (S.left source.new) (O.written out.old) (O.written out.new)
         (K.book keeper.old) (K.book keeper.new) (K.faults keeper.old) (K.faults keeper.new) }
     ensures front { is_command words.now.items ≡ true → result ≡ Status.WriteFault
-        → BreaksOff (vec_len services) (S.left source.old) (S.left source.new) (O.written out.old) (O.written out.new)
+        → BreaksOff (AreGiven gives (service_of peer_service services.items)) (vec_len services) (S.left source.old) (S.left source.new) (O.written out.old) (O.written out.new)
         (K.book keeper.old) (K.book keeper.new) (K.faults keeper.old) (K.faults keeper.new) }
 {
     if !is_run(words) {
@@ -112,11 +123,10 @@ pub fn replay<S: Source, O: Sink, D: Sink, K: Keeper>(
         Err(Unread::Memory) => return complain(diag, b"ha: want of memory\n", Status::Memory),
         Err(Unread::Fault) => return complain(diag, b"ha: read fault\n", Status::ReadFault),
     };
-    let mut gate = Gate::new(keeper);
-    let Ok(played) = play_run(alloc, input.as_slice(), &mut gate, peer_service, services) else {
+    let Ok(played) = play_file(alloc, &input, keeper, peer_service, services) else {
         return complain(diag, b"ha: want of memory\n", Status::Memory);
     };
-    if write_all(out, played.report.as_slice()).is_err() {
+    if write_output(out, &played.report).is_err() {
         return complain(diag, b"ha: write fault\n", Status::WriteFault);
     }
     match played.fault {

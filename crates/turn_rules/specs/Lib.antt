@@ -5,4 +5,5 @@ pub mod Held
 pub mod Local
 pub mod Peers
 pub mod Safe
+pub mod Services
 pub mod Steps

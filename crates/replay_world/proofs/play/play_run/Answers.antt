@@ -2,7 +2,7 @@
 use Rattle.std.proofs.Common.{ap, subst, ◌∙◌}
 use Rattle.replay_world.specs.Runs.{Run}
 use Rattle.turn_rules.specs.Local.{Local}
-use Rattle.replay_world.proofs.PlayedLaws.{local_is_safe, none_caused}
+use Rattle.replay_world.proofs.PlayedLaws.{local_is_safe, none_caused, none_given}
 use Rattle.replay_world.proofs.play.play_run.Goals as goal
 
 pub returns-clause-played : goal.returns-clause-played
@@ -16,6 +16,7 @@ returns-clause-played g c =
       written = p.text;
       local = subst (λ n. Local n past) boxes p.local;
       safe = local_is_safe c.play.new.world.ends.boxes past p.local;
+      serves = none_given _ _ c.play.new.world.ends.boxes past p.local;
       stands = p.stands;
       caused = p.caused _ (none_caused _);
     }

@@ -1,0 +1,27 @@
+-- What the services give that execute requests for the ends.
+use Rattle.std.specs.Prelude.{ℕ, suc, zero, ◌+◌, Option, Some, None, is_some, slice_get, IfSome, IsSomeAnd, List, [], ◌∷◌, length}
+use Rattle.std.specs.List.{filter}
+use Rattle.event_text.specs.declared.turn.Turn.{Turn}
+use Rattle.ha_base.specs.Services.{ReplyRelation}
+use Rattle.turn_rules.specs.Ends.{Performer, Peer, Member, own, performer}
+
+-- the service of an end: the peer has its own, and the member that joined as the n-th has the n-th of the others
+abbrev pub service_of : {B : Type 0} → B → List B → Performer → Option B
+service_of peer members Peer = Some peer
+service_of peer members (Member zero) = None
+service_of peer members (Member (suc n)) = slice_get members n
+
+-- how many requests were executed in these turns
+abbrev pub times : List Turn → ℕ
+times past = length (filter (λ turn. is_some turn.step.served) past)
+
+-- what was executed in the turn, the service of its end may give when it has executed what it did before
+abbrev pub IsGiven : {B : Type 0} → (B → ReplyRelation) → (Performer → Option B) → List Turn → Turn → Type 0
+IsGiven gives service past turn = IfSome turn.step.served (λ served.
+    IsSomeAnd (performer turn) (λ end.
+    IsSomeAnd (service end) (λ box. gives box (times (own end past) + 1) served.request.octets served.reply.octets)))
+
+-- the same of each turn
+unfoldable pub AreGiven : {B : Type 0} → (B → ReplyRelation) → (Performer → Option B) → List Turn → Type 0
+AreGiven gives service [] = Unit {0}
+AreGiven gives service (turn ∷ past) = IsGiven gives service past turn × AreGiven gives service past
