@@ -1,0 +1,68 @@
+//! A case and its answer.
+
+use crate::run::{Failing, Outcome, play};
+use anyhow::bail;
+use replay_world::top::Status;
+use std::alloc::Global;
+use std::str;
+
+fn code_of(status: Status) -> u8 {
+    match status {
+        Status::Done => 0,
+        Status::FaultyLine => 1,
+        Status::Words => 2,
+        Status::Memory => 3,
+        Status::ReadFault => 4,
+        Status::WriteFault => 5,
+    }
+}
+
+/// The answer of a case, whose first line says what is done with the rest.
+pub fn answer(alloc: Global, case: &str) -> anyhow::Result<String> {
+    match case.split_once('\n') {
+        Some(("pieces", input)) => in_pieces(alloc, input),
+        Some(("faults", input)) => with_faults(alloc, input),
+        _ => bail!("a case is pieces or faults"),
+    }
+}
+
+fn is_same(one: &Outcome, other: &Outcome) -> bool {
+    one.status == other.status && one.written() == other.written() && one.said() == other.said()
+}
+
+fn in_pieces(alloc: Global, input: &str) -> anyhow::Result<String> {
+    let whole = play(alloc, input, 65_536, Failing::Nothing)?;
+    let cut = play(alloc, input, 7, Failing::Nothing)?;
+    let single = play(alloc, input, 1, Failing::Nothing)?;
+    if !is_same(&whole, &cut) || !is_same(&whole, &single) {
+        bail!("the outcome depends on the pieces");
+    }
+    let written = str::from_utf8(whole.written())?;
+    let said = str::from_utf8(whole.said())?;
+    Ok(format!(in alloc; "pieces\n{written}status {}\n{said}", code_of(whole.status))?)
+}
+
+// What a run writes before a call fails is a front of what it writes else.
+fn code_with(alloc: Global, input: &str, whole: &Outcome, failing: Failing) -> anyhow::Result<u8> {
+    let outcome = play(alloc, input, 7, failing)?;
+    if !whole.written().starts_with(outcome.written()) {
+        bail!("what was written is no front of the report");
+    }
+    Ok(code_of(outcome.status))
+}
+
+fn with_faults(alloc: Global, input: &str) -> anyhow::Result<String> {
+    let whole = play(alloc, input, 7, Failing::Nothing)?;
+    let mut answer = String::new(alloc);
+    answer.push_str("faults\n")?;
+    for call in 0..10 {
+        let read = code_with(alloc, input, &whole, Failing::Read(call))?;
+        let write = code_with(alloc, input, &whole, Failing::Write(call))?;
+        let diagnosis = code_with(alloc, input, &whole, Failing::Diagnosis(call))?;
+        let line = format!(in alloc;
+            "call {call}: read {read}, write {write}, diagnosis {diagnosis}\n"
+        )?;
+        answer.push_str(&line)?;
+    }
+    Ok(answer)
+}

@@ -1,0 +1,22 @@
+//! Plays the inputs that it reads through the top call, in pieces, and with each of the first calls of a stream failing.
+//!
+//! A line `== pieces` or `== faults` begins a case, and the lines after it are its input. A case `pieces` is played in
+//! pieces of 1, of 7 and of 65,536 octets: its answer has what was written, the status and what stands on the error output,
+//! which have to be the same all three times. A case `faults` is played in pieces of 7 octets: each of the first ten reads,
+//! writes and writes on the error output fails in turn, and its answer has the statuses.
+#![tactic(auto)]
+
+mod case;
+mod run;
+
+use std::io;
+
+fn main(rt: HostRuntime) -> anyhow::Result<()> {
+    let alloc = rt.alloc();
+    let text = io::read_to_string(alloc, rt.reader())?;
+    for case in text.split("== ").skip(1) {
+        let answer = case::answer(alloc, case)?;
+        print!(rt; "== {answer}")?;
+    }
+    Ok(())
+}
