@@ -1,9 +1,7 @@
 -- An input without a fault is the text of its events.
-use Rattle.std.proofs.Common.{◌≡◌, ◌≢◌, ℕ, ◌+◌, ◌<◌, ◌≤◌, true, false, not, eqb, List, [], ◌∷◌, ◌++◌, length, Option, Some, None, Result, Ok, Err, refl, sym, ap, ◌∙◌, subst, append_assoc, append-nil, arith, inl, inr, ◌⊎◌, codes}
-use Rattle.std.proofs.lemmas.Bool.{and_parts, eqb-false, le-ltb, ne_eqb}
-use Rattle.std.proofs.lemmas.Fmt.{decimal_nonempty}
-use Rattle.std.specs.Fmt.{decimal}
-use Rattle.std.specs.List.{list_all}
+use Rattle.std.proofs.Common.{◌≡◌, ◌≢◌, ℕ, ◌+◌, ◌<◌, ◌≤◌, Bool, true, false, not, cond, eqb, List, [], ◌∷◌, ◌++◌, length, Option, Some, None, Result, Ok, Err, refl, sym, ap, ◌∙◌, subst, append_assoc, append-nil, arith, inl, inr, ◌⊎◌, codes}
+use Rattle.std.proofs.lemmas.Bool.{and_parts, cases_lt, eqb-false, le-leb, le-ltb, lt-ltb, ne_eqb}
+use Rattle.std.specs.List.{AllByRecursion, filter, list_all}
 use Rattle.std.proofs.lemmas.Bool.Decides.{eqb_tells}
 use Rattle.std.proofs.lemmas.List.{length-append}
 use Rattle.std.proofs.lemmas.Slice.Eq.{bytes_eq-Decides}
@@ -12,16 +10,16 @@ use Rattle.ha_base.specs.declared.outside.Moment.{Moment}
 use Rattle.event_text.specs.declared.fault.LineFault.{LineFault}
 use Rattle.event_text.specs.declared.fault.LineReason.TheVariants as reasons
 use Rattle.event_text.specs.declared.place.Place.{Place}
-use Rattle.event_text.specs.Words.{onto, spaced}
+use Rattle.event_text.specs.Words.{onto}
+use Rattle.event_text.specs.Lines.{IsFile, IsLine, fed, is_passed, is_said, lines_of, no_feed, unfed}
 use Rattle.event_text.specs.Events.{PlainEvent}
 use Rattle.event_text.specs.Reading.{fault_at, line_at}
-use Rattle.event_text.specs.Grammar.{EventLine, event_words}
-use Rattle.event_text.specs.Input.{behind_line, contents_at, contents_in, contents_of, event_in, lines_of, on_event, on_version, overlong, second_line, unfed, unless, version_in}
-use Rattle.event_text.specs.EventFile.{EventText, IsFile, SayEvents, fed}
+use Rattle.event_text.specs.Grammar.{EventLine}
+use Rattle.event_text.specs.Input.{behind_line, contents_at, contents_in, contents_of, event_in, on_line, on_version, overlong, second_line, some_event, unless, version_in}
+use Rattle.event_text.specs.EventFile.{EventText, SayEvents}
 use Rattle.event_text.proofs.EventLaws.{line_again, line_takes}
 use Rattle.event_text.proofs.FieldLaws.{pick}
-use Rattle.event_text.proofs.SpacelessLaws.{line_unfed, no_feed}
-use Rattle.event_text.proofs.FrontLaws.{read_within, version_within}
+use Rattle.event_text.proofs.FrontLaws.{overlong_none, read_within, unless_ok, version_within}
 
 -- lines one after another
 joined : List (List ℕ) → List ℕ
@@ -90,8 +88,34 @@ file_of (l ∷ m ∷ ls) h =
 
 -- ---- what was read
 
+unfed_whole : (line : List ℕ) → list_all no_feed (unfed line) ≡ true
+unfed_whole [] = refl
+unfed_whole (c ∷ cs) =
+    elim (eqb_tells c 10) [
+      | inl feed ↦ rw feed.0 refl
+      | inr other ↦ let no : no_feed c ≡ true = rw other.0 refl in rw (other.0, no, unfed_whole cs) refl
+    ]
+
+unfed_size : (line : List ℕ) → length (unfed line) ≤ length line
+unfed_size [] = omega arith
+unfed_size (c ∷ cs) =
+    let rest = unfed_size cs in
+    elim (eqb_tells c 10) [
+      | inl feed ↦ rw feed.0 (omega arith)
+      | inr other ↦ rw other.0 (omega arith)
+    ]
+
+-- a line that is at its place is not too long
+short_read : (before octets size : ℕ) → size ≤ octets → before + octets ≤ 67108864 → overlong before octets size ≡ None → size ≤ 16384
+short_read before octets size within fits none =
+    elim (cases_lt 16384 size) [
+      | inl more ↦ absurd (let is_long = rw (lt-ltb 16384 size more, le-leb (before + 16385) 67108865 (omega arith)) at none in cc)
+      | inr le ↦ le
+    ]
+
 record ReadsAt (ls : List (List ℕ)) (p : Place) (events : List (Moment × PlainEvent)) : Type 0 where
-  say : SayEvents p.last.0 (bare ls) events
+  are_lines : AllByRecursion IsLine (bare ls)
+  say : SayEvents p.last.0 (filter is_said (bare ls)) events
   few : p.count + length events ≤ 100000
   short : p.before + length (joined ls) ≤ 67108864
 
@@ -99,30 +123,75 @@ unless_is : {A : Type 0} (o : Option LineFault) (r : Result A LineFault) (x : A)
 unless_is (Some f) r x e = absurd cc
 unless_is None r x e = e
 
--- a line that was read is an event's, and not one too many
-event_read : (p : Place) (octets : ℕ) (line : List ℕ) (x : Moment × PlainEvent) → event_in p octets line ≡ Ok x → (p.count ≢ 100000) × EventLine p.last.0 line x.0 x.1
-unfolding event_in
+-- what a line said that was read: nothing, or an event, and not one too many
+Says : Place → List ℕ → Option (Moment × PlainEvent) → Type 0
+Says p line None = is_passed line ≡ true
+Says p line (Some x) = (is_passed line ≡ false) × (p.count ≢ 100000) × EventLine p.last.0 line x.0 x.1
+
+some_read : (p : Place) (line : List ℕ) (x : Option (Moment × PlainEvent)) → is_passed line ≡ false → p.count ≢ 100000 → (r : Result (Moment × PlainEvent) LineFault) → line_at p.last.0 line ≡ r → some_event r ≡ Ok x → Says p line x
+unfolding Says
+some_read p line x said few (Err f) e same = absurd cc
+some_read p line None said few (Ok y) e same = absurd cc
+some_read p line (Some x) said few (Ok y) e same = (said, few, line_takes p.last.0 line x (e ∙ cc))
+
+passed_read : (p : Place) (line : List ℕ) (x : Option (Moment × PlainEvent)) (r : Result (Option (Moment × PlainEvent)) LineFault) → is_passed line ≡ true → r ≡ Ok None → r ≡ Ok x → Says p line x
+unfolding Says
+passed_read p line None r passed none same = passed
+passed_read p line (Some y) r passed none same = absurd (let both = sym none ∙ same in cc)
+
+event_read : (p : Place) (octets : ℕ) (line : List ℕ) (x : Option (Moment × PlainEvent)) → event_in p octets line ≡ Ok x → Says p line x
+unfolding event_in Says
 event_read p octets line x e =
-    pick (eqb p.count 100000) (Err (fault_at 1 reasons.TooMany)) (line_at p.last.0 line) (Ok x) (unless_is (overlong p.before octets (length line)) _ x e)
+    pick (is_passed line) (Ok None) (cond (eqb p.count 100000) (Err (fault_at 1 reasons.TooMany)) (some_event (line_at p.last.0 line))) (Ok x)
+    (unless_is (overlong p.before octets (length line)) _ x e)
+    (λ hit same. passed_read p line x (Ok None) hit refl same)
+    (λ miss rest. pick (eqb p.count 100000) (Err (fault_at 1 reasons.TooMany)) (some_event (line_at p.last.0 line)) (Ok x) rest
     (λ hit same. absurd cc)
-    (λ miss same. (eqb-false p.count 100000 miss, line_takes p.last.0 line x same))
+    (λ few same. some_read p line x miss (eqb-false p.count 100000 few) (line_at p.last.0 line) refl same))
+
+-- a line that was read is whole, and not too long
+line_read : (l : List ℕ) (p : Place) (x : Option (Moment × PlainEvent)) → event_in p (length l) (unfed l) ≡ Ok x → IsLine (unfed l)
+unfolding event_in
+line_read l p x e =
+    let none = unless_ok (overlong p.before (length l) (length (unfed l))) _ x e in
+    record {
+      whole = unfed_whole l;
+      short = short_read p.before (length l) (length (unfed l)) (unfed_size l) (overlong_none p.before (length l) (length (unfed l)) none) none;
+    }
 
 -- a line and what follows it were read
-on_read : (l : List ℕ) (ls : List (List ℕ)) (p : Place) → p.count ≤ 100000 → ((q : Place) → q.count ≤ 100000 → q.before ≤ 67108864 → (contents_at ls q).fault ≡ None → ReadsAt ls q (contents_at ls q).events) → (r : Result (Moment × PlainEvent) LineFault) → event_in p (length l) (unfed l) ≡ r → (on_event p.line r (λ moment. contents_at ls (behind_line p (length l) moment))).fault ≡ None → ReadsAt (l ∷ ls) p (on_event p.line r (λ moment. contents_at ls (behind_line p (length l) moment))).events
-unfolding joined
+on_read : (l : List ℕ) (ls : List (List ℕ)) (p : Place) → p.count ≤ 100000 → ((q : Place) → q.count ≤ 100000 → q.before ≤ 67108864 → (contents_at ls q).fault ≡ None → ReadsAt ls q (contents_at ls q).events) → (r : Result (Option (Moment × PlainEvent)) LineFault) → event_in p (length l) (unfed l) ≡ r → (on_line p.line r (λ event. contents_at ls (behind_line p (length l) event))).fault ≡ None → ReadsAt (l ∷ ls) p (on_line p.line r (λ event. contents_at ls (behind_line p (length l) event))).events
+unfolding joined Says
 on_read l ls p few follow (Err f) e clean = absurd cc
-on_read l ls p few follow (Ok x) e clean =
-    let within = read_within p (length l) (unfed l) x e in
-    let read = event_read p (length l) (unfed l) x e in
-    let other : p.count ≢ 100000 = read.0 in
-    let rest = follow (behind_line p (length l) x.0) (omega arith) within clean in
+on_read l ls p few follow (Ok None) e clean =
+    let within = read_within p (length l) (unfed l) None e in
+    let passed : is_passed (unfed l) ≡ true = event_read p (length l) (unfed l) None e in
+    let rest = follow (behind_line p (length l) None) few within clean in
     let rest_few = rest.few in
     let rest_short = rest.short in
-    record { say = (read.1, rest.say); few = omega arith; short = omega (arith, length-append l (joined ls)) }
+    record {
+      are_lines = (line_read l p None e, rest.are_lines);
+      say = rw passed rest.say;
+      few = rest_few;
+      short = omega (arith, length-append l (joined ls));
+    }
+on_read l ls p few follow (Ok (Some x)) e clean =
+    let within = read_within p (length l) (unfed l) (Some x) e in
+    let read = event_read p (length l) (unfed l) (Some x) e in
+    let other : p.count ≢ 100000 = read.1 in
+    let rest = follow (behind_line p (length l) (Some x)) (omega arith) within clean in
+    let rest_few = rest.few in
+    let rest_short = rest.short in
+    record {
+      are_lines = (line_read l p (Some x) e, rest.are_lines);
+      say = rw read.0 (read.2, rest.say);
+      few = omega arith;
+      short = omega (arith, length-append l (joined ls));
+    }
 
 reads_at : (ls : List (List ℕ)) (p : Place) → p.count ≤ 100000 → p.before ≤ 67108864 → (contents_at ls p).fault ≡ None → ReadsAt ls p (contents_at ls p).events
 unfolding contents_at joined
-reads_at [] p few short none = record { say = tt; few = omega arith; short = omega arith }
+reads_at [] p few short none = record { are_lines = tt; say = tt; few = omega arith; short = omega arith }
 reads_at (l ∷ ls) p few short none =
     on_read l ls p few (λ q q_few q_short clean. reads_at ls q q_few q_short clean) (event_in p (length l) (unfed l)) refl none
 
@@ -148,6 +217,7 @@ text_in (l ∷ ls) h none = on_first (version_in (length l) (unfed l)) refl none
         record {
           lines = bare ls;
           file = subst (λ (t : List ℕ). IsFile (t ∷ bare ls) (l ++ joined ls)) (version_read (length l) (unfed l) u e) (file_of (l ∷ ls) h);
+          are_lines = reads.are_lines;
           say = reads.say;
           few = omega arith;
           short = omega (arith, length-append l (joined ls));
@@ -226,68 +296,105 @@ record Parts (l : List ℕ) (ls : List (List ℕ)) (octets : List ℕ) : Type 0 
   file : IsFile ls rest
   size : length octets ≡ length line + length rest
 
-file_parts : (l : List ℕ) (ls : List (List ℕ)) (octets : List ℕ) → 0 < length l → list_all no_feed l ≡ true → IsFile (l ∷ ls) octets → Parts l ls octets
-file_parts l ls octets some h (inl e) =
-    record {
+-- an input of no octets has no line
+record IsNone (l : List ℕ) (ls : List (List ℕ)) (octets : List ℕ) : Type 0 where
+  none : octets ≡ []
+  line : l ≡ []
+  lines : ls ≡ []
+
+file_parts : (l : List ℕ) (ls : List (List ℕ)) (octets : List ℕ) → list_all no_feed l ≡ true → IsFile (l ∷ ls) octets → Parts l ls octets ⊎ IsNone l ls octets
+file_parts l ls octets h (inl e) =
+    inl (record {
       line = l ++ 10 ∷ [];
       rest = fed ls;
       parts = ap lines_of e ∙ lines_before l (fed ls) h;
       bare_line = unfed_fed l h;
       file = inl refl;
       size = ap length e ∙ ap length (sym (append_assoc l (10 ∷ []) (fed ls))) ∙ length-append (l ++ 10 ∷ []) (fed ls);
-    }
-file_parts l [] octets some h (inr e) =
-    let same = cancelled octets l e in
-    record {
-      line = l;
+    })
+file_parts [] [] octets h (inr e) = inr (record { none = cancelled octets [] e; line = refl; lines = refl })
+file_parts (c ∷ cs) [] octets h (inr e) =
+    let same = cancelled octets (c ∷ cs) e in
+    inl (record {
+      line = c ∷ cs;
       rest = [];
-      parts = ap lines_of same ∙ lines_alone l some h ∙ ap (λ (t : List (List ℕ)). l ∷ t) (sym lines_nil);
-      bare_line = unfed_alone l h;
+      parts = ap lines_of same ∙ lines_alone (c ∷ cs) (omega arith) h ∙ ap (λ (t : List (List ℕ)). (c ∷ cs) ∷ t) (sym lines_nil);
+      bare_line = unfed_alone (c ∷ cs) h;
       file = inl refl;
       size = ap length same ∙ omega arith;
-    }
-file_parts l (m ∷ ms) octets some h (inr e) =
+    })
+file_parts l (m ∷ ms) octets h (inr e) =
     let ends = fed_ends m ms in
     let whole : octets ≡ l ++ (10 ∷ ends.front) = cancelled octets (l ++ (10 ∷ ends.front)) (e ∙ ap (λ (t : List ℕ). l ++ (10 ∷ t)) ends.parts ∙ sym (append_assoc l (10 ∷ ends.front) (10 ∷ []))) in
-    record {
+    inl (record {
       line = l ++ 10 ∷ [];
       rest = ends.front;
       parts = ap lines_of whole ∙ lines_before l ends.front h;
       bare_line = unfed_fed l h;
       file = inr (sym ends.parts);
       size = ap length whole ∙ ap length (sym (append_assoc l (10 ∷ []) ends.front)) ∙ length-append (l ++ 10 ∷ []) ends.front;
-    }
+    })
 
 short_line : (before octets size : ℕ) → size ≤ 16384 → before + octets ≤ 67108864 → overlong before octets size ≡ None
 short_line before octets size short within = rw (le-ltb 16384 size short, le-ltb 67108864 (before + octets) within) refl
 
-event_again : (p : Place) (octets : ℕ) (line : List ℕ) (x : Moment × PlainEvent) → p.count < 100000 → p.before + octets ≤ 67108864 → EventLine p.last.0 line x.0 x.1 → event_in p octets line ≡ Ok x
+passed_again : (p : Place) (octets : ℕ) (line : List ℕ) → p.before + octets ≤ 67108864 → IsLine line → is_passed line ≡ true → event_in p octets line ≡ Ok None
 unfolding event_in
-event_again p octets line x few within says =
-    rw (short_line p.before octets (length line) says.short within, ne_eqb p.count 100000 (λ e. omega arith), line_again p.last.0 line x.0 x.1 says) refl
+passed_again p octets line within is_line passed = rw (short_line p.before octets (length line) is_line.short within, passed) refl
 
-line_some : (last : ℕ) (line : List ℕ) (m : Moment) (e : PlainEvent) → EventLine last line m e → 0 < length line
-line_some last line m e says =
-    let lt = says.seconds in
-    let digits = decimal_nonempty m.0 (omega arith) in
-    let size = ap length says.text ∙ length-append (decimal m.0) (spaced (event_words e)) in
-    omega arith
+event_again : (p : Place) (octets : ℕ) (line : List ℕ) (x : Moment × PlainEvent) → p.count < 100000 → p.before + octets ≤ 67108864 → is_passed line ≡ false → EventLine p.last.0 line x.0 x.1 → event_in p octets line ≡ Ok (Some x)
+unfolding event_in
+event_again p octets line x few within said says =
+    rw (short_line p.before octets (length line) says.short within, said, ne_eqb p.count 100000 (λ e. omega arith), line_again p.last.0 line x.0 x.1 says) refl
 
-again_at : (lines : List (List ℕ)) (events : List (Moment × PlainEvent)) (p : Place) (octets : List ℕ) → IsFile lines octets → SayEvents p.last.0 lines events → p.count + length events ≤ 100000 → p.before + length octets ≤ 67108864 → contents_at (lines_of octets) p ≡ record { events = events; fault = None }
-unfolding contents_at
-again_at [] [] p octets (inl e) say few short = rw (e, lines_nil) refl
-again_at [] [] p [] (inr e) say few short = absurd cc
-again_at [] [] p (c ∷ cs) (inr e) say few short = absurd cc
-again_at [] (x ∷ xs) p octets file say few short = absurd say
-again_at (l ∷ ls) [] p octets file say few short = absurd say
-again_at (l ∷ ls) (x ∷ xs) p octets file say few short =
-    let says = say.0 in
-    let free : list_all no_feed l ≡ true = rw says.text (line_unfed x.0 x.1 says.seconds says.fits) in
-    let parts = file_parts l ls octets (line_some p.last.0 l x.0 x.1 says) free file in
-    let size = parts.size in
-    let read : event_in p (length parts.line) (unfed parts.line) ≡ Ok x = rw parts.bare_line (event_again p (length parts.line) l x (omega arith) (omega arith) says) in
-    let rest = again_at ls xs (behind_line p (length parts.line) x.0) parts.rest parts.file say.1 (omega arith) (omega arith) in
-    rw (parts.parts, read, rest) refl
+Again : List (List ℕ) → Type 0
+Again lines =
+    (events : List (Moment × PlainEvent)) (p : Place) (octets : List ℕ) → IsFile lines octets → AllByRecursion IsLine lines → SayEvents p.last.0 (filter is_said lines) events → p.count + length events ≤ 100000 → p.before + length octets ≤ 67108864 → contents_at (lines_of octets) p ≡ record { events = events; fault = None }
+
+-- nothing is left
+none_again : (events : List (Moment × PlainEvent)) (p : Place) → SayEvents p.last.0 [] events → contents_at (lines_of []) p ≡ record { events = events; fault = None }
+unfolding contents_at lines_of
+none_again [] p say = refl
+none_again (x ∷ xs) p say = absurd say
+
+-- behind a line that is passed over
+passed_on : (l : List ℕ) (ls : List (List ℕ)) → is_passed l ≡ true → Again ls → Again (l ∷ ls)
+unfolding contents_at Again
+passed_on l ls passed follow events p octets file are say few short =
+    elim (file_parts l ls octets are.0.whole file) [
+      | inl parts ↦
+          let size = parts.size in
+          let read : event_in p (length parts.line) (unfed parts.line) ≡ Ok None = rw parts.bare_line (passed_again p (length parts.line) l (omega arith) are.0 passed) in
+          let rest = follow events (behind_line p (length parts.line) None) parts.rest parts.file are.1 (rw passed at say) few (omega arith) in
+          rw (parts.parts, read, rest) refl
+      | inr none ↦ rw none.none (none_again events p (rw (none.line, none.lines) at say))
+    ]
+
+-- behind an event's line
+event_on : (l : List ℕ) (ls : List (List ℕ)) → is_passed l ≡ false → Again ls → Again (l ∷ ls)
+unfolding contents_at Again
+event_on l ls said follow [] p octets file are say few short = absurd (rw said at say)
+event_on l ls said follow (x ∷ xs) p octets file are say few short =
+    elim (file_parts l ls octets are.0.whole file) [
+      | inl parts ↦
+          let says = rw said at say in
+          let size = parts.size in
+          let read : event_in p (length parts.line) (unfed parts.line) ≡ Ok (Some x) = rw parts.bare_line (event_again p (length parts.line) l x (omega arith) (omega arith) said says.0) in
+          let rest = follow xs (behind_line p (length parts.line) (Some x)) parts.rest parts.file are.1 says.1 (omega arith) (omega arith) in
+          rw (parts.parts, read, rest) refl
+      | inr none ↦ absurd (let empty = rw none.line at said in cc)
+    ]
+
+line_on : (l : List ℕ) (ls : List (List ℕ)) (b : Bool) → is_passed l ≡ b → Again ls → Again (l ∷ ls)
+line_on l ls true passed follow = passed_on l ls passed follow
+line_on l ls false said follow = event_on l ls said follow
+
+again_at : (lines : List (List ℕ)) → Again lines
+unfolding Again
+again_at [] events p octets (inl e) are say few short = rw e (none_again events p say)
+again_at [] events p [] (inr e) are say few short = absurd cc
+again_at [] events p (c ∷ cs) (inr e) are say few short = absurd cc
+again_at (l ∷ ls) events p octets file are say few short = line_on l ls (is_passed l) refl (again_at ls) events p octets file are say few short
 
 version_again : (octets : ℕ) (line : List ℕ) → octets ≤ 67108864 → line ≡ codes "ha 1" → version_in octets line ≡ Ok tt
 unfolding version_in
@@ -295,10 +402,14 @@ version_again octets line within e = rw (e, short_line 0 octets 4 (omega arith) 
 
 -- a text of events is read as these events
 pub text_again : (events : List (Moment × PlainEvent)) (octets : List ℕ) → EventText events octets → contents_of octets ≡ record { events = events; fault = None }
+unfolding Again
 text_again events octets text =
-    let parts = file_parts (codes "ha 1") text.lines octets (omega arith) refl text.file in
-    let size = parts.size in
-    let short = text.short in
-    let few = text.few in
-    rw (parts.parts, version_again (length parts.line) (unfed parts.line) (omega arith) parts.bare_line)
-    (again_at text.lines events (second_line (length parts.line)) parts.rest parts.file text.say (omega arith) (omega arith))
+    elim (file_parts (codes "ha 1") text.lines octets refl text.file) [
+      | inl parts ↦
+          let size = parts.size in
+          let short = text.short in
+          let few = text.few in
+          rw (parts.parts, version_again (length parts.line) (unfed parts.line) (omega arith) parts.bare_line)
+          (again_at text.lines events (second_line (length parts.line)) parts.rest parts.file text.are_lines text.say (omega arith) (omega arith))
+      | inr none ↦ absurd (let empty = none.line in cc)
+    ]

@@ -9,7 +9,8 @@ use Rattle.event_text.specs.declared.fault.LineReason.TheVariants as reasons
 use Rattle.event_text.specs.declared.place.Place.{Place}
 use Rattle.event_text.specs.Events.{PlainEvent}
 use Rattle.event_text.specs.Reading.{fault_at}
-use Rattle.event_text.specs.Input.{Contents, behind_line, contents_at, contents_in, contents_of, event_in, faulty, lines_of, on_event, on_version, overlong, second_line, unfed, unless, version_in, with_event}
+use Rattle.event_text.specs.Lines.{lines_of, unfed}
+use Rattle.event_text.specs.Input.{Contents, behind_line, contents_at, contents_in, contents_of, event_in, faulty, on_line, on_version, overlong, second_line, unless, version_in, with_events}
 
 -- ---- the first line of an input
 
@@ -113,7 +114,7 @@ pub unless_ok : {A : Type 0} (o : Option LineFault) (r : Result A LineFault) (x 
 unless_ok (Some f) r x e = absurd cc
 unless_ok None r x e = refl
 
-overlong_none : (before octets size : ℕ) → overlong before octets size ≡ None → before + octets ≤ 67108864
+pub overlong_none : (before octets size : ℕ) → overlong before octets size ≡ None → before + octets ≤ 67108864
 overlong_none before octets size e =
     elim (cases_lt 67108864 (before + octets)) [
       | inl more ↦ absurd (passes (ltb 16384 size && leb (before + 16385) 67108865) (rw (lt-ltb 67108864 (before + octets) more) at e))
@@ -124,7 +125,7 @@ overlong_none before octets size e =
     passes true h = absurd cc
     passes false h = absurd cc
 
-pub read_within : (p : Place) (octets : ℕ) (line : List ℕ) (x : Moment × PlainEvent) → event_in p octets line ≡ Ok x → p.before + octets ≤ 67108864
+pub read_within : (p : Place) (octets : ℕ) (line : List ℕ) (x : Option (Moment × PlainEvent)) → event_in p octets line ≡ Ok x → p.before + octets ≤ 67108864
 unfolding event_in
 read_within p octets line x e = overlong_none p.before octets (length line) (unless_ok (overlong p.before octets (length line)) _ x e)
 
@@ -132,15 +133,15 @@ pub version_within : (octets : ℕ) (line : List ℕ) (x : Unit {0}) → version
 unfolding version_in
 version_within octets line x e = let within = overlong_none 0 octets (length line) (unless_ok (overlong 0 octets (length line)) _ x e) in omega arith
 
-on_same : (line : ℕ) (r : Result (Moment × PlainEvent) LineFault) (f g : Moment → Contents) → ((x : Moment × PlainEvent) → r ≡ Ok x → f x.0 ≡ g x.0) → on_event line r f ≡ on_event line r g
+on_same : (line : ℕ) (r : Result (Option (Moment × PlainEvent)) LineFault) (f g : Option (Moment × PlainEvent) → Contents) → ((x : Option (Moment × PlainEvent)) → r ≡ Ok x → f x ≡ g x) → on_line line r f ≡ on_line line r g
 on_same line (Err d) f g h = refl
-on_same line (Ok x) f g h = ap (with_event x) (h x refl)
+on_same line (Ok x) f g h = ap (with_events x) (h x refl)
 
 -- what follows a line may be other lines, if they say the same
-step : (line : List ℕ) (ls ms : List (List ℕ)) (p : Place) → ((moment : Moment) → p.before + length line ≤ 67108864 → contents_at ls (behind_line p (length line) moment) ≡ contents_at ms (behind_line p (length line) moment)) → contents_at (line ∷ ls) p ≡ contents_at (line ∷ ms) p
+step : (line : List ℕ) (ls ms : List (List ℕ)) (p : Place) → ((event : Option (Moment × PlainEvent)) → p.before + length line ≤ 67108864 → contents_at ls (behind_line p (length line) event) ≡ contents_at ms (behind_line p (length line) event)) → contents_at (line ∷ ls) p ≡ contents_at (line ∷ ms) p
 unfolding contents_at
 step line ls ms p h =
-    on_same p.line (event_in p (length line) (unfed line)) _ _ (λ x e. h x.0 (read_within p (length line) (unfed line) x e))
+    on_same p.line (event_in p (length line) (unfed line)) _ _ (λ x e. h x (read_within p (length line) (unfed line) x e))
 
 at_front : (fuel : ℕ) (a b : List ℕ) (p : Place) → length a ≤ fuel → p.before ≤ 67108864 → 67108865 ≤ p.before + length a → contents_at (lines_of (a ++ b)) p ≡ contents_at (lines_of a) p
 at_front zero a b p small within far_enough = absurd (omega arith)
@@ -153,7 +154,7 @@ at_front (suc n) (c ∷ cs) b p small within far_enough =
           let some = h.some in
           let whole : lines_of a ≡ h.line ∷ lines_of h.rest = ap lines_of h.parts ∙ h.first h.rest in
           let longer : lines_of (a ++ b) ≡ h.line ∷ lines_of (h.rest ++ b) = ap lines_of (ap (λ (t : List ℕ). t ++ b) h.parts ∙ append_assoc h.line h.rest b) ∙ h.first (h.rest ++ b) in
-          rw (longer, whole) (step h.line (lines_of (h.rest ++ b)) (lines_of h.rest) p (λ moment fits. at_front n h.rest b (behind_line p (length h.line) moment) (omega arith) fits (omega arith)))
+          rw (longer, whole) (step h.line (lines_of (h.rest ++ b)) (lines_of h.rest) p (λ event fits. at_front n h.rest b (behind_line p (length h.line) event) (omega arith) fits (omega arith)))
       | inr h ↦
           let a = c ∷ cs in
           let x = h b in

@@ -7,7 +7,8 @@ use Rattle.std.specs.Prelude.{None}
 use Rattle.event_text.specs.declared.fault.LineReason.TheVariants as reasons
 use Rattle.event_text.specs.declared.place.Place.{Place}
 use Rattle.event_text.specs.Reading.{fault_at}
-use Rattle.event_text.specs.Input.{contents_at, contents_of, faulty, lines_of, unfed}
+use Rattle.event_text.specs.Lines.{lines_of, unfed}
+use Rattle.event_text.specs.Input.{contents_at, contents_of, faulty}
 
 -- an input is parted behind its first line feed
 lines_split : (octets : List ℕ) (n : ℕ) → n < length octets → ((k : ℕ) → k < n → get_or octets k 0 ≢ 10) → get_or octets n 0 ≡ 10 → lines_of octets ≡ take (n + 1) octets ∷ lines_of (drop (n + 1) octets)

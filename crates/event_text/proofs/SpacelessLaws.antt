@@ -110,28 +110,3 @@ line_plain m e lt h = rw (number_word m.0 (2 ^ 63) lt (lit≤ tt)) (event_plain 
 pub line_spaceless : (m : Moment) (e : PlainEvent) → m.0 < 2 ^ 63 → Fits e → are_words (line_words m e) ≡ true
 line_spaceless m e lt h =
     all_also is_plain is_word (λ w plain. all_also plain_octet no_space (λ c both. (and_parts (not (eqb c 32)) (not (eqb c 10)) both).0) w plain) (line_words m e) (line_plain m e lt h)
-
--- no octet is a line feed
-abbrev pub no_feed : ℕ → Bool
-no_feed c = not (eqb c 10)
-
-feeds-append : (v w : List ℕ) → list_all no_feed v ≡ true → list_all no_feed w ≡ true → list_all no_feed (v ++ w) ≡ true
-feeds-append [] w hv hw = hw
-feeds-append (c ∷ cs) w hv hw =
-    let parts = and_parts (no_feed c) (list_all no_feed cs) hv in
-    rw (parts.0, feeds-append cs w parts.1 hw) refl
-
-feeds_of : (w : List ℕ) → is_plain w ≡ true → list_all no_feed w ≡ true
-feeds_of w h = all_also plain_octet no_feed (λ c both. (and_parts (not (eqb c 32)) (not (eqb c 10)) both).1) w h
-
-spaced_unfed : (ws : List (List ℕ)) → list_all is_plain ws ≡ true → list_all no_feed (spaced ws) ≡ true
-spaced_unfed [] h = refl
-spaced_unfed (w ∷ ws) h =
-    let parts = and_parts (is_plain w) (list_all is_plain ws) h in
-    feeds-append (32 ∷ w) (spaced ws) (feeds_of w parts.0) (spaced_unfed ws parts.1)
-
--- no line of an event has a line feed
-pub line_unfed : (m : Moment) (e : PlainEvent) → m.0 < 2 ^ 63 → Fits e → list_all no_feed (line_of (line_words m e)) ≡ true
-line_unfed m e lt h =
-    let parts = and_parts (is_plain (decimal m.0)) (list_all is_plain (event_words e)) (line_plain m e lt h) in
-    feeds-append (decimal m.0) (spaced (event_words e)) (feeds_of (decimal m.0) parts.0) (spaced_unfed (event_words e) parts.1)

@@ -6,19 +6,10 @@ use Rattle.event_text.specs.declared.fault.LineFault.{LineFault}
 use Rattle.event_text.specs.declared.fault.LineReason.TheVariants as reasons
 use Rattle.event_text.specs.declared.place.InputFault.{InputFault}
 use Rattle.event_text.specs.declared.place.Place.{Place}
-use Rattle.event_text.specs.Words.{onto}
-use Rattle.event_text.specs.Events.{PlainEvent}
+use Rattle.event_text.specs.Lines.{is_passed, lines_of, unfed}
+use Rattle.event_text.specs.declared.event.Event.{Event}
+use Rattle.event_text.specs.Events.{PlainEvent, plain}
 use Rattle.event_text.specs.Reading.{fault_at, line_at}
-
--- The lines of an input, each with its line feed. The last may lack it.
-unfoldable pub lines_of : List ℕ → List (List ℕ)
-lines_of [] = []
-lines_of (c ∷ cs) = if c == 10 then (c ∷ []) ∷ lines_of cs else onto c (lines_of cs)
-
--- a line without its line feed
-abbrev pub unfed : List ℕ → List ℕ
-unfed [] = []
-unfed (c ∷ cs) = if c == 10 then [] else c ∷ unfed cs
 
 -- what an input says: its events up to its first fault, and the fault
 pub record Contents : Type 0 where
@@ -43,23 +34,46 @@ abbrev pub unless : {A : Type 0} → Option LineFault → Result A LineFault →
 unless (Some f) read = Err f
 unless None read = read
 
--- the event of a line at a place
-unfoldable pub event_in : Place → ℕ → List ℕ → Result (Moment × PlainEvent) LineFault
+-- what a line gave, by its fields alone
+abbrev pub said : Option (Moment × Event) → Option (Moment × PlainEvent)
+said None = None
+said (Some x) = Some (x.0, plain x.1)
+
+abbrev pub some_event : Result (Moment × PlainEvent) LineFault → Result (Option (Moment × PlainEvent)) LineFault
+some_event (Ok x) = Ok (Some x)
+some_event (Err f) = Err f
+
+-- the event of a line at a place, if the line is not passed over
+unfoldable pub event_in : Place → ℕ → List ℕ → Result (Option (Moment × PlainEvent)) LineFault
 event_in p octets line =
-    unless (overlong p.before octets (length line)) (if p.count == 100000 then Err (fault_at 1 reasons.TooMany) else line_at p.last.0 line)
+    unless (overlong p.before octets (length line))
+    (if is_passed line then Ok None else if p.count == 100000 then Err (fault_at 1 reasons.TooMany) else some_event (line_at p.last.0 line))
 
--- the place behind a line of some octets that had an event of this moment
-abbrev pub behind_line : Place → ℕ → Moment → Place
-behind_line p octets moment = record { line = p.line + 1; before = p.before + octets; count = p.count + 1; last = moment }
+abbrev pub counted : ℕ → Option (Moment × PlainEvent) → ℕ
+counted count None = count
+counted count (Some x) = count + 1
 
-abbrev pub on_event : ℕ → Result (Moment × PlainEvent) LineFault → (Moment → Contents) → Contents
-on_event line (Err f) rest = faulty line f
-on_event line (Ok x) rest = with_event x (rest x.0)
+abbrev pub moment_behind : Moment → Option (Moment × PlainEvent) → Moment
+moment_behind last None = last
+moment_behind last (Some x) = x.0
+
+-- the place behind a line of some octets, and its event, if it has one
+abbrev pub behind_line : Place → ℕ → Option (Moment × PlainEvent) → Place
+behind_line p octets event =
+    record { line = p.line + 1; before = p.before + octets; count = counted p.count event; last = moment_behind p.last event }
+
+abbrev pub with_events : Option (Moment × PlainEvent) → Contents → Contents
+with_events None rest = rest
+with_events (Some x) rest = with_event x rest
+
+abbrev pub on_line : ℕ → Result (Option (Moment × PlainEvent)) LineFault → (Option (Moment × PlainEvent) → Contents) → Contents
+on_line line (Err f) rest = faulty line f
+on_line line (Ok event) rest = with_events event (rest event)
 
 -- what lines say from a place on
 unfoldable pub contents_at : List (List ℕ) → Place → Contents
 contents_at [] p = record { events = []; fault = None }
-contents_at (line ∷ lines) p = on_event p.line (event_in p (length line) (unfed line)) (λ moment. contents_at lines (behind_line p (length line) moment))
+contents_at (line ∷ lines) p = on_line p.line (event_in p (length line) (unfed line)) (λ event. contents_at lines (behind_line p (length line) event))
 
 -- the version line, which is first
 unfoldable pub version_in : ℕ → List ℕ → Result Unit LineFault
@@ -77,7 +91,7 @@ abbrev pub contents_in : List (List ℕ) → Contents
 contents_in [] = faulty 1 (fault_at 1 reasons.Missing)
 contents_in (line ∷ lines) = on_version (version_in (length line) (unfed line)) (contents_at lines (second_line (length line)))
 
--- What an input says. Its first line is `ha 1`, and each other line is an event.
+-- What an input says. Its first line is `ha 1`, and each other line that is not passed over is an event.
 abbrev pub contents_of : List ℕ → Contents
 contents_of input = contents_in (lines_of input)
 

@@ -1,10 +1,12 @@
 pub mod Words
+pub mod Lines
 pub mod Numbers
 pub mod Octets
 pub mod Identities
 pub mod Events
 pub mod Reading
 pub mod Grammar
+pub mod Faults
 pub mod Input
 pub mod EventFile
 pub mod Writing

@@ -1,6 +1,7 @@
 //! What is wrong with a line.
 
 ghost use Rattle.std.specs.Prelude.{◌≡◌, MatchResult};
+ghost use Rattle.event_text.specs.Faults.{reason_name};
 ghost use Rattle.event_text.specs.Reading.{fault_at};
 ghost use Rattle.event_text.specs.declared.fault.Failure.TheVariants.{OutOfMemory};
 
@@ -32,6 +33,27 @@ pub enum LineReason {
     Size = 10,
     /// Memory ran out while the line was read.
     Memory = 11,
+}
+
+impl LineReason {
+    /// The reason in one word.
+    pub fn name(self) -> &'static str
+        ensures { result.now ≡ reason_name self }
+    {
+        match self {
+            LineReason::Word => "word",
+            LineReason::Number => "number",
+            LineReason::Hex => "hex",
+            LineReason::Missing => "missing",
+            LineReason::Extra => "extra",
+            LineReason::LineTooLong => "line-too-long",
+            LineReason::ClockBack => "clock-back",
+            LineReason::TooMany => "too-many",
+            LineReason::FileTooLong => "file-too-long",
+            LineReason::Size => "size",
+            LineReason::Memory => "memory",
+        }
+    }
 }
 
 /// The first fault of a line, from left to right.

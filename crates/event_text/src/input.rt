@@ -2,7 +2,8 @@
 
 ghost use Rattle.std.specs.Prelude.{◌≡◌, ◌≢◌, ◌≤◌, ◌<◌, ◌+◌, ◌^◌, [], ◌∷◌, length, take, IfErr, IfNone, IfOk, IfSome, OnErr, OnOk, OnSome, MatchResult, None, Some, Ok, Err};
 ghost use Rattle.event_text.specs.Events.{plain};
-ghost use Rattle.event_text.specs.Input.{contents_of, event_in, faulty, lines_of, left_contents, overlong, unfed, version_in, with_event};
+ghost use Rattle.event_text.specs.Lines.{is_passed, lines_of, unfed};
+ghost use Rattle.event_text.specs.Input.{contents_of, event_in, faulty, left_contents, overlong, said, version_in, with_event};
 ghost use Rattle.event_text.specs.Reading.{fault_at};
 
 use crate::event::Event;
@@ -19,6 +20,16 @@ const INPUT_OCTETS: usize = 67_108_864;
 
 /// How many events an input may have.
 const EVENTS: u32 = 100_000;
+
+/// What a line gives.
+#[derive(Drop)]
+enum Line {
+    /// There is no more line.
+    End,
+    /// The line is passed over.
+    Passed,
+    Said(Moment, Event),
+}
 
 /// A line without its line feed, how many octets it has with it, and what stands behind.
 #[derive(Clone, Copy)]
@@ -90,22 +101,36 @@ fn version(octets: usize, line: &[u8]) -> Result<(), LineFault>
     Ok(())
 }
 
+/// Whether a line is empty or a comment.
+fn is_passed(line: &[u8]) -> bool
+    ensures { result ≡ is_passed line.now }
+{
+    match line {
+        [] => true,
+        [first, ..] => *first == b'#',
+    }
+}
+
+/// The event of a line at a place, if the line is not passed over.
 #[tactic(auto, unfolding(crate::specs::Input::event_in))]
 fn event(
     alloc: Global,
     place: Place,
     octets: usize,
     line: &[u8],
-) -> Result<(Moment, Event), LineFault>
+) -> Result<Option<(Moment, Event)>, LineFault>
     requires file { place.before ≤ 67108864 }
     requires line { octets < 2 ^ 63 }
-    ensures value { MatchResult result (λ x. event_in place octets line.now ≡ Ok (x.0, plain x.1))
+    ensures value { MatchResult result (λ event. event_in place octets line.now ≡ Ok (said event))
         (λ f. f.reason ≢ LineReason.Memory → event_in place octets line.now ≡ Err f) }
     ensures within { IfOk result (λ _. place.before + octets ≤ 67108864) }
-    ensures few { IfOk result (λ _. place.count ≢ 100000) }
+    ensures few { IfOk result (λ event. OnSome event (place.count ≢ 100000)) }
 {
     if let Some(fault) = overlong(place.before, octets, line.len()) {
         return Err(fault);
+    }
+    if is_passed(line) {
+        return Ok(None);
     }
     if place.count == EVENTS {
         return Err(LineFault {
@@ -113,7 +138,10 @@ fn event(
             reason: LineReason::TooMany,
         });
     }
-    read_line(alloc, line, place.last)
+    match read_line(alloc, line, place.last) {
+        Ok((moment, event)) => Ok(Some((moment, event))),
+        Err(fault) => Err(fault),
+    }
 }
 
 fn in_line(line: u32, fault: LineFault) -> InputFault
@@ -135,7 +163,8 @@ pub struct EventReader<'a> {
 
 impl<'a> Model for EventReader<'a> {
     ghost use Rattle.std.specs.Prelude.{◌+◌, ◌≤◌};
-    ghost use Rattle.event_text.specs.Input.{Left, lines_of};
+    ghost use Rattle.event_text.specs.Lines.{lines_of};
+    ghost use Rattle.event_text.specs.Input.{Left};
 
     ghost Value = { Left };
 
@@ -172,9 +201,56 @@ impl<'a> EventReader<'a> {
         }
     }
 
-    /// The next event, with its moment, or `None` at the end of the input. An error is the first fault of the input, or want
-    /// of memory, and leaves the reader as it was.
+    /// Takes the next line. An error leaves the reader as it was.
     #[tactic(auto, unfolding(crate::specs::Input::contents_at))]
+    fn take_line(&mut self, alloc: Global) -> Result<Line, InputFault>
+        ensures end { IfOk result (λ line. line ≡ Line.End → left_contents self.old ≡ record { events = []; fault = None }) }
+        ensures passed { IfOk result (λ line. line ≡ Line.Passed → left_contents self.old ≡ left_contents self.new) }
+        ensures event { IfOk result (λ line. (x : Moment × Event) → line ≡ Line.Said x.0 x.1
+            → left_contents self.old ≡ with_event (x.0, plain x.1) (left_contents self.new)) }
+        ensures fewer { IfOk result (λ line. line ≢ Line.End → length self.new.lines < length self.old.lines) }
+        ensures fault { IfErr result (λ f. f.reason ≢ LineReason.Memory
+            → left_contents self.old ≡ record { events = []; fault = Some f }) }
+    {
+        if self.rest.is_empty() {
+            return Ok(Line::End);
+        }
+        let front = front_of(self.rest);
+        let said = match event(alloc, self.place, front.octets, front.line) {
+            Ok(said) => said,
+            Err(fault) => return Err(in_line(self.place.line, fault)),
+        };
+        self.rest = front.rest;
+        self.place.line += 1;
+        self.place.before += front.octets;
+        let Some((moment, event)) = said else {
+            return Ok(Line::Passed);
+        };
+        self.place.count += 1;
+        self.place.last = moment;
+        Ok(Line::Said(moment, event))
+    }
+
+    /// Takes lines up to the next event.
+    fn take_event(&mut self, alloc: Global) -> Result<Option<(Moment, Event)>, InputFault>
+        ensures event { IfOk result (λ next. IfSome next (λ x.
+            left_contents self.old ≡ with_event (x.0, plain x.1) (left_contents self.new))) }
+        ensures fewer { IfOk result (λ next. OnSome next (length self.new.lines < length self.old.lines)) }
+        ensures end { IfOk result (λ next. IfNone next (left_contents self.old ≡ record { events = []; fault = None })) }
+        ensures fault { IfErr result (λ f. f.reason ≢ LineReason.Memory
+            → left_contents self.old ≡ record { events = []; fault = Some f }) }
+    {
+        'lines: loop {
+            match self.take_line(alloc)? {
+                Line::End => return Ok(None),
+                Line::Passed => {}
+                Line::Said(moment, event) => return Ok(Some((moment, event))),
+            }
+        }
+    }
+
+    /// The next event, with its moment, or `None` at the end of the input. Empty lines and comments are passed over. An error is
+    /// the first fault of the input, or want of memory, and leaves the reader as it was.
     pub fn next_event(&mut self, alloc: Global) -> Result<Option<(Moment, Event)>, InputFault>
         ensures event { IfOk result (λ next. IfSome next (λ x.
             left_contents self.old ≡ with_event (x.0, plain x.1) (left_contents self.new))) }
@@ -184,23 +260,13 @@ impl<'a> EventReader<'a> {
             → left_contents self.old ≡ record { events = []; fault = Some f }) }
         ensures err { OnErr result (self.new ≡ self.old) }
     {
-        if self.rest.is_empty() {
-            return Ok(None);
-        }
-        let front = front_of(self.rest);
-        match event(alloc, self.place, front.octets, front.line) {
-            Ok((moment, event)) => {
-                self.rest = front.rest;
-                self.place = Place {
-                    line: self.place.line + 1,
-                    before: self.place.before + front.octets,
-                    count: self.place.count + 1,
-                    last: moment,
-                };
-                Ok(Some((moment, event)))
-            }
-            Err(fault) => Err(in_line(self.place.line, fault)),
-        }
+        let mut ahead = EventReader {
+            rest: self.rest,
+            place: self.place,
+        };
+        let next = ahead.take_event(alloc)?;
+        *self = ahead;
+        Ok(next)
     }
 }
 

@@ -1,11 +1,12 @@
 //! The top call, which is the whole program but for what standard input and output are.
 
-ghost use Rattle.std.specs.Prelude.{◌≡◌, ◌⊎◌, Some, None, false, true, vec_len, OnOk, OnErr};
+ghost use Rattle.std.specs.Prelude.{◌≡◌, ◌⊎◌, IfOk, OnErr, OnOk, Some, None, false, string_bytes, true, vec_len};
 ghost use Rattle.std.specs.List.{AllByRecursion};
 ghost use Rattle.std.specs.Io.KnownBytes.{Appends, Keeps};
 ghost use Rattle.ha_base.specs.Faults.{AppendsFront, HasFailed};
 ghost use Rattle.replay_world.specs.Played.{BreaksOff, Completes};
 ghost use Rattle.replay_world.specs.Commands.{is_command};
+ghost use Rattle.event_text.specs.Faults.{fault_line};
 ghost use Rattle.event_text.specs.declared.place.InputFault.{InputFault};
 ghost use Rattle.replay_world.specs.Statuses.{AtEnd};
 ghost use Rattle.turn_rules.specs.Services.{AreGiven, service_of};
@@ -15,7 +16,7 @@ use crate::play::play_file;
 use event_text::InputFault;
 use ha_base::{Failed, Octets, Service, Sink, Source, write_all};
 use keeper_book::Keeper;
-use std::alloc::Global;
+use std::alloc::{AllocError, Global};
 
 /// How a call ends.
 #[derive(Clone, Copy, Debug, PartialEq, Eq)]
@@ -49,13 +50,20 @@ fn complain<D: Sink>(diag: &mut D, line: &[u8], status: Status) -> Status
     status
 }
 
-// Says which line is faulty.
+fn fault_text(alloc: Global, fault: InputFault) -> Result<String, AllocError>
+    ensures { IfOk result (λ text. string_bytes text ≡ fault_line fault) }
+{
+    format!(in alloc; "ha: line {}, column {}: {}\n", fault.line, fault.column, fault.reason.name())
+}
+
+// Says where the input is faulty, and why.
 fn name_line<D: Sink>(alloc: Global, diag: &mut D, fault: InputFault) -> Status
     ensures status { result ≡ Status.FaultyLine ⊎ (result ≡ Status.Memory ⊎ result ≡ Status.WriteFault) }
     ensures none { result ≡ Status.FaultyLine → D.faults diag.new ≡ D.faults diag.old }
     ensures failed { result ≡ Status.WriteFault → HasFailed (D.faults diag.old) (D.faults diag.new) }
+    ensures says { result ≡ Status.FaultyLine → Appends (D.written diag.old) (D.written diag.new) (fault_line fault) }
 {
-    let Ok(text) = format!(in alloc; "ha: line {}\n", fault.line) else {
+    let Ok(text) = fault_text(alloc, fault) else {
         return complain(diag, b"ha: want of memory\n", Status::Memory);
     };
     match write_all(diag, text.as_bytes()) {
@@ -103,7 +111,8 @@ pub fn replay<S: Source, O: Sink, D: Sink, K: Keeper>(
         (K.faults keeper.old) (K.faults keeper.new) None }
     ensures faulty { result ≡ Status.FaultyLine → (fault : InputFault) × Completes (AreGiven gives (service_of peer_service services.items)) (vec_len services) (S.left source.old) (S.left source.new)
         (O.written out.old) (O.written out.new) (K.book keeper.old) (K.book keeper.new)
-        (K.faults keeper.old) (K.faults keeper.new) (Some fault) }
+        (K.faults keeper.old) (K.faults keeper.new) (Some fault)
+        × Appends (D.written diag.old) (D.written diag.new) (fault_line fault) }
     ensures nothing { result ≡ Status.ReadFault → Keeps (O.written out.old) (O.written out.new) }
     ensures no_memory { result ≡ Status.Memory → Keeps (O.written out.old) (O.written out.new)
         ⊎ BreaksOff (AreGiven gives (service_of peer_service services.items)) (vec_len services) (S.left source.old) (S.left source.new) (O.written out.old) (O.written out.new)
@@ -113,7 +122,7 @@ pub fn replay<S: Source, O: Sink, D: Sink, K: Keeper>(
         (K.book keeper.old) (K.book keeper.new) (K.faults keeper.old) (K.faults keeper.new) }
 {
     if !is_run(words) {
-        return match write_all(diag, b"ha: usage: run\n") {
+        return match write_all(diag, b"ha: usage: run | show\n") {
             Ok(()) => Status::Words,
             Err(Failed) => Status::WriteFault,
         };

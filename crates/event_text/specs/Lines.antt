@@ -1,0 +1,39 @@
+-- The lines of a text.
+use Rattle.std.specs.Prelude.{◌≡◌, ℕ, ◌≤◌, ◌==◌, not, Bool, true, List, [], ◌∷◌, ◌++◌, length, ◌⊎◌, if◌then◌else◌}
+use Rattle.std.specs.List.{list_all}
+use Rattle.event_text.specs.Words.{onto}
+
+-- lines, each with a line feed
+abbrev pub fed : List (List ℕ) → List ℕ
+fed [] = []
+fed (line ∷ lines) = line ++ (10 ∷ fed lines)
+
+-- The octets are these lines. The last may lack its line feed.
+abbrev pub IsFile : List (List ℕ) → List ℕ → Type 0
+IsFile lines octets = (octets ≡ fed lines) ⊎ (octets ++ 10 ∷ [] ≡ fed lines)
+
+abbrev pub no_feed : ℕ → Bool
+no_feed c = not (c == 10)
+
+-- A line of a file: it has no line feed in it, and is not too long.
+pub record IsLine (line : List ℕ) : Type 0 where
+  pub whole : list_all no_feed line ≡ true
+  pub short : length line ≤ 16384
+
+-- A line that is passed over: it is empty, or a comment, which begins with `#`.
+abbrev pub is_passed : List ℕ → Bool
+is_passed [] = true
+is_passed (c ∷ cs) = c == 35
+
+abbrev pub is_said : List ℕ → Bool
+is_said line = not (is_passed line)
+
+-- The lines of an input, each with its line feed. The last may lack it.
+unfoldable pub lines_of : List ℕ → List (List ℕ)
+lines_of [] = []
+lines_of (c ∷ cs) = if c == 10 then (c ∷ []) ∷ lines_of cs else onto c (lines_of cs)
+
+-- a line without its line feed
+abbrev pub unfed : List ℕ → List ℕ
+unfed [] = []
+unfed (c ∷ cs) = if c == 10 then [] else c ∷ unfed cs
