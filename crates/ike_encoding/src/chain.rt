@@ -72,7 +72,8 @@ fn first_of(payloads: &[Payload]) -> u8
     }
 }
 
-fn type_of(payload: &Payload) -> u8
+/// The type of a payload (RFC 7296, section 3.2).
+pub fn type_of(payload: &Payload) -> u8
     ensures { result ≡ type_of (payload_value payload.now) }
 {
     match payload {

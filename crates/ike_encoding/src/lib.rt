@@ -10,6 +10,6 @@ mod proposals;
 mod selectors;
 
 pub use bodies::encode_body;
-pub use chain::encode_chain;
+pub use chain::{encode_chain, type_of};
 pub use length::fits_message;
-pub use message::encode_message;
+pub use message::{encode_message, flags_of};

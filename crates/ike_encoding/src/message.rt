@@ -64,7 +64,8 @@ fn put_header(out: &mut Octets, first: u8, header: &Header, len: u32) -> Result<
     out.extend(&len.to_be_bytes())
 }
 
-fn flags_of(header: &Header) -> u8
+/// The flags of a header: Initiator and Response, and no other (RFC 7296, section 3.1).
+pub fn flags_of(header: &Header) -> u8
     ensures { result ≡ flags_of header.now }
 {
     let initiator = if header.initiator { INITIATOR } else { 0 };

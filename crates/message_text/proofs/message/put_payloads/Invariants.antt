@@ -1,0 +1,15 @@
+use Rattle.std.proofs.Common.{◌≡◌, false, ◌++◌, length, map}
+use Rattle.std.specs.List.{flat_map}
+use Rattle.ike_values.specs.PayloadView.{payload_value}
+use Rattle.ike_values.specs.Writing.{AreValid}
+use Rattle.message_text.specs.Shown.{payload_text}
+use Rattle.message_text.proofs.message.put_payloads.Given as goal
+
+abbrev pub invariant-loop-rest : goal.invariant-loop-rest
+invariant-loop-rest l = record {
+  written : l.out.octets ++ flat_map payload_text (map payload_value l.rest) ≡ l.fn.out.octets ++ flat_map payload_text (map payload_value l.fn.payloads);
+  fit : AreValid false (map payload_value l.rest);
+}
+
+abbrev pub decreases-loop-rest : goal.decreases-loop-rest
+decreases-loop-rest l = length l.rest
