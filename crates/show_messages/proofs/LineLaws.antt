@@ -1,0 +1,55 @@
+-- Lines of an input that is not at its end, and their lengths.
+use Rattle.std.proofs.Common.{◌≡◌, ℕ, ◌+◌, ◌-◌, ◌<◌, ◌≤◌, Bool, true, false, ◌&&◌, cond, eqb, ltb, leb, List, [], ◌∷◌, length, Some, None, refl, arith, inl, inr}
+use Rattle.std.proofs.lemmas.Bool.{cases_lt, le-leb, lt-ltb}
+use Rattle.event_text.specs.Input.{lines_of, overlong}
+use Rattle.event_text.specs.Reading.{fault_at}
+use Rattle.event_text.specs.Words.{onto}
+use Rattle.event_text.specs.declared.fault.LineFault.{LineFault}
+use Rattle.event_text.specs.declared.fault.LineReason.TheVariants as reasons
+use Rattle.show_messages.specs.Messages.{messages_at}
+use Rattle.show_messages.specs.declared.reader.Place.{Place}
+
+onto_some : (c : ℕ) (ls : List (List ℕ)) → 0 < length (onto c ls)
+onto_some c [] = omega arith
+onto_some c (l ∷ ls) = omega arith
+
+-- octets are a line at least
+pub lines_some : (octets : List ℕ) → 0 < length octets → 0 < length (lines_of octets)
+unfolding lines_of
+lines_some [] some = absurd (omega arith)
+lines_some (c ∷ cs) some = by_case (eqb c 10)
+  where
+    by_case : (b : Bool) → 0 < length (cond b ((c ∷ []) ∷ lines_of cs) (onto c (lines_of cs)))
+    by_case true = omega arith
+    by_case false = onto_some c (lines_of cs)
+
+-- a line is octets
+pub octets_some : (octets : List ℕ) → 0 < length (lines_of octets) → 0 < length octets
+unfolding lines_of
+octets_some [] some = some
+octets_some (c ∷ cs) some = omega arith
+
+-- nothing is left
+pub messages_end : (rest : List ℕ) (p : Place) → length rest ≡ 0 → messages_at (lines_of rest) p ≡ record { messages = []; fault = None }
+unfolding lines_of messages_at
+messages_end [] p e = refl
+messages_end (c ∷ cs) p e = absurd (omega arith)
+
+-- a line that is measured and passes is short
+pub short_line : (before octets size : ℕ) → size ≤ octets → overlong before octets size ≡ None → size ≤ 16384
+short_line before octets size fed e =
+    elim (cases_lt 16384 size) [
+      | inl long ↦
+          elim (cases_lt 67108864 (before + octets)) [
+            | inl past ↦ absurd (passes (ltb 16384 size && leb (before + 16385) 67108865) (rw (lt-ltb 67108864 (before + octets) past) at e))
+            | inr within ↦ absurd (is_long (rw (lt-ltb 16384 size long, le-leb (before + 16385) 67108865 (omega arith)) at e))
+          ]
+      | inr short ↦ short
+    ]
+  where
+    passes : (b : Bool) → cond b (Some (fault_at 16385 reasons.LineTooLong)) (Some (fault_at (67108865 - before) reasons.FileTooLong)) ≡ None → ⊥
+    passes true h = absurd cc
+    passes false h = absurd cc
+
+    is_long : {f : LineFault} → Some f ≡ None → ⊥
+    is_long h = absurd cc

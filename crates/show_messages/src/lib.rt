@@ -1,0 +1,12 @@
+//! The messages of an input, one a line in hexadecimal, and their text.
+#![tactic(auto)]
+
+mod lines;
+mod reader;
+mod text;
+
+pub use reader::Place;
+pub use text::{Shown, show};
+
+#[cfg(test)]
+mod tests;
