@@ -1,5 +1,5 @@
 -- No word of a field has a space.
-use Rattle.std.proofs.Common.{◌≡◌, ℕ, ◌-◌, ◌^◌, ◌<◌, ◌≤◌, Bool, true, false, ◌&&◌, not, eqb, List, [], ◌∷◌, ◌++◌, refl, sym, ◌∙◌, arith, inl, inr, lit≤}
+use Rattle.std.proofs.Common.{◌≡◌, ℕ, ◌-◌, ◌^◌, ◌<◌, ◌≤◌, Bool, true, false, ◌&&◌, not, eqb, List, [], ◌∷◌, refl, sym, ◌∙◌, arith, inl, inr, lit≤}
 use Rattle.std.proofs.lemmas.Bool.{and_parts, false≢true}
 use Rattle.std.proofs.lemmas.Bool.Decides.{eqb_tells}
 use Rattle.std.proofs.lemmas.Fmt.{digits_decimal}
@@ -16,7 +16,6 @@ use Rattle.event_text.specs.Octets.{IsOctets, esp_spi_text, is_lower, octets_tex
 use Rattle.event_text.specs.Identities.{IsIdentity, identity_text}
 use Rattle.event_text.specs.Events.{PlainEvent, Import, Join, Own, Draw}
 use Rattle.event_text.specs.Grammar.{Fits, event_words, line_words, size_text}
-use Rattle.event_text.specs.Words.{line_of, spaced}
 use Rattle.event_text.proofs.WordLaws.{are_words, is_word, no_space}
 use Rattle.event_text.proofs.NumberLaws.{own}
 use Rattle.event_text.proofs.OctetLaws.{lower-encode}

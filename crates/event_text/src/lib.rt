@@ -28,7 +28,7 @@ pub use reading::read_line;
 pub use seals::{Seal, Seals};
 pub use turn::{Datagram, Medium, Served, Step, Turn};
 pub use verdict::{Refusal, Verdict};
-pub use writing::{write_end, write_head, write_turn};
+pub use writing::{write_end, write_fault, write_head, write_turn};
 
 #[cfg(test)]
 mod tests;

@@ -2,8 +2,10 @@
 
 mod calls;
 mod event;
+mod fault;
 mod outcome;
 mod turn;
 mod words;
 
+pub use fault::write_fault;
 pub use turn::{write_end, write_head, write_turn};

@@ -1,9 +1,9 @@
 -- What one more turn makes of what is said of an input, and of the text of a report.
 use Rattle.std.proofs.Common.{◌≡◌, ℕ, ◌+◌, ◌<◌, List, [], ◌∷◌, ◌++◌, length, Option, Some, None, refl, ap, sym, subst, ◌∙◌, append_assoc, append-nil, add-one, arith}
-use Rattle.std.specs.Prelude.{◌⊎◌, is_some, slice_get, unwrap_or, true}
+use Rattle.std.specs.Prelude.{is_some, slice_get, unwrap_or, true}
 use Rattle.std.specs.List.{AllByRecursion, filter_map}
 use Rattle.std.proofs.Math.Seq.{take-length}
-use Rattle.std.specs.Io.KnownBytes.{Appends, Consumes, IsAtEnd}
+use Rattle.std.specs.Io.KnownBytes.{Appends}
 use Rattle.ha_base.specs.Faults.{AppendsFront}
 use Rattle.event_text.specs.Events.{PlainEvent, plain}
 use Rattle.event_text.specs.Input.{Contents, with_event}
@@ -12,8 +12,7 @@ use Rattle.event_text.specs.declared.place.InputFault.{InputFault}
 use Rattle.event_text.specs.declared.turn.Served.{Served}
 use Rattle.event_text.specs.declared.turn.Turn.{Turn}
 use Rattle.ha_base.specs.declared.outside.Moment.{Moment}
-use Rattle.replay_world.specs.Played.{BreaksOff, IsPlayed, prefixed, title, titles}
-use Rattle.keeper_book.specs.Book.{Book}
+use Rattle.replay_world.specs.Played.{prefixed, title, titles}
 use Rattle.replay_world.specs.Runs.{CausedSince}
 use Rattle.turn_rules.specs.Local.{Local}
 use Rattle.ha_base.specs.Services.{ReplyRelation}
@@ -100,15 +99,3 @@ none_caused faults = record { later = omega arith; failed = λ none. absurd none
 -- what was written whole was written from the front
 pub appends_front : (old new : Option (List ℕ)) (text : List ℕ) → Appends old new text → AppendsFront old new text
 appends_front old new text wrote = (length text, subst (λ xs. Appends old new xs) (sym (take-length text)) wrote)
-
--- a front of the report of what was played was written
-pub breaks_off : {given : List Turn → Type 0} {boxes : ℕ} {input text : List ℕ} {fault : Option InputFault} {left still_left written now_written : Option (List ℕ)} {book now_book : Option Book} {faults now_faults : ℕ} → IsPlayed given boxes input fault text book now_book faults now_faults → AppendsFront written now_written text → Consumes left still_left input → IsAtEnd still_left ⊎ (67108864 < length input) → BreaksOff given boxes left still_left written now_written book now_book faults now_faults
-breaks_off {input = input} {text = text} {fault = fault} played wrote read whole = record {
-  input = input;
-  text = text;
-  fault = fault;
-  read = read;
-  whole = whole;
-  played = played;
-  wrote = wrote;
-}

@@ -1,9 +1,18 @@
 -- What the words of a command line ask for.
-use Rattle.std.specs.Prelude.{Bool, false, List, [], ◌∷◌, codes, string_bytes, String}
+use Rattle.std.specs.Prelude.{ℕ, if◌then◌else◌, List, [], ◌∷◌, Option, Some, None, codes, string_bytes, String}
 use Rattle.std.specs.Str.{bytes_eq}
+use Rattle.replay_world.specs.declared.top.Command.{Command}
+use Rattle.replay_world.specs.declared.top.Command.TheVariants.{Run, Show}
 
--- the words are the one command that there is
-abbrev pub is_command : {A : Type 0} → List (String A) → Bool
-is_command [] = false
-is_command (word ∷ []) = bytes_eq (string_bytes word) (codes "run")
-is_command (word ∷ other ∷ more) = false
+-- the command that a word names
+abbrev pub named_by : List ℕ → Option Command
+named_by word =
+    if bytes_eq word (codes "run") then Some Run
+    else if bytes_eq word (codes "show") then Some Show
+    else None
+
+-- the command that the words are, which is one word
+abbrev pub command_of : {A : Type 0} → List (String A) → Option Command
+command_of [] = None
+command_of (word ∷ []) = named_by (string_bytes word)
+command_of (word ∷ other ∷ more) = None

@@ -1,7 +1,8 @@
 -- Lines of an input that is not at its end, and their lengths.
 use Rattle.std.proofs.Common.{◌≡◌, ℕ, ◌+◌, ◌-◌, ◌<◌, ◌≤◌, Bool, true, false, ◌&&◌, cond, eqb, ltb, leb, List, [], ◌∷◌, length, Some, None, refl, arith, inl, inr}
 use Rattle.std.proofs.lemmas.Bool.{cases_lt, le-leb, lt-ltb}
-use Rattle.event_text.specs.Input.{lines_of, overlong}
+use Rattle.event_text.specs.Input.{overlong}
+use Rattle.event_text.specs.Lines.{lines_of}
 use Rattle.event_text.specs.Reading.{fault_at}
 use Rattle.event_text.specs.Words.{onto}
 use Rattle.event_text.specs.declared.fault.LineFault.{LineFault}

@@ -1,6 +1,7 @@
 -- The messages that an input holds, up to its first fault: one a line, in hexadecimal.
-use Rattle.std.specs.Prelude.{ℕ, ◌+◌, ◌==◌, Bool, true, List, [], ◌∷◌, length, Option, Some, None, Result, Ok, Err, if◌then◌else◌}
-use Rattle.event_text.specs.Input.{lines_of, overlong, unfed, unless}
+use Rattle.std.specs.Prelude.{ℕ, ◌+◌, ◌==◌, List, [], ◌∷◌, length, Option, Some, None, Result, Ok, Err, if◌then◌else◌}
+use Rattle.event_text.specs.Input.{overlong, unless}
+use Rattle.event_text.specs.Lines.{is_passed, lines_of, unfed}
 use Rattle.event_text.specs.Octets.{decoded, is_hex}
 use Rattle.event_text.specs.Reading.{fault_at}
 use Rattle.event_text.specs.declared.fault.LineFault.{LineFault}
@@ -18,11 +19,6 @@ faulty line f = record { messages = []; fault = Some (record { line = line; colu
 
 abbrev pub with_message : List ℕ → Messages → Messages
 with_message message rest = record { messages = message ∷ rest.messages; fault = rest.fault }
-
--- a line that is passed over: an empty one, or a comment
-abbrev pub is_passed : List ℕ → Bool
-is_passed [] = true
-is_passed (c ∷ cs) = c == 35
 
 -- the message of a line, where some are before it
 abbrev pub message_in : ℕ → List ℕ → Result (Option (List ℕ)) LineFault

@@ -1,7 +1,8 @@
 //! The first line of an input, and lines that are too long.
 
 ghost use Rattle.std.specs.Prelude.{◌≡◌, ◌≢◌, ◌≤◌, ◌<◌, ◌^◌, ◌∷◌, ℕ, length, slice_index, take};
-ghost use Rattle.event_text.specs.Input.{lines_of, overlong, unfed};
+ghost use Rattle.event_text.specs.Input.{overlong};
+ghost use Rattle.event_text.specs.Lines.{lines_of, unfed};
 
 use event_text::{LineFault, LineReason};
 

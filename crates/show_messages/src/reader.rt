@@ -3,7 +3,8 @@
 ghost use Rattle.std.specs.Prelude.{◌≡◌, ◌≢◌, ◌≤◌, ◌<◌, ◌+◌, ◌^◌, [], length, true, false, IfErr, IfOk, IfNone, IfSome, OnErr, OnOk, OnSome, None, Some, Ok, Err};
 ghost use Rattle.std.specs.List.{list_all};
 ghost use Rattle.event_text.specs.Octets.{decoded, is_hex, is_lower};
-ghost use Rattle.show_messages.specs.Messages.{is_passed, left_messages, line_in, messages_of, with_message};
+ghost use Rattle.event_text.specs.Lines.{is_passed};
+ghost use Rattle.show_messages.specs.Messages.{left_messages, line_in, messages_of, with_message};
 
 use crate::lines::{front_of, overlong};
 use event_text::{InputFault, LineFault, LineReason};
@@ -96,7 +97,7 @@ pub(crate) struct MessageReader<'a> {
 
 impl<'a> Model for MessageReader<'a> {
     ghost use Rattle.std.specs.Prelude.{◌+◌, ◌≤◌};
-    ghost use Rattle.event_text.specs.Input.{lines_of};
+    ghost use Rattle.event_text.specs.Lines.{lines_of};
     ghost use Rattle.show_messages.specs.Messages.{Left};
 
     ghost Value = { Left };
