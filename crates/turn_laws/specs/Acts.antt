@@ -1,0 +1,114 @@
+-- What ends do, as data, and what it does to the numbers of each counter. A list of acts has the newest first.
+use Rattle.std.specs.Prelude.{ℕ, ◌≡◌, ◌≤◌, ◌==◌, Option, Some, None, MatchOption, List, [], ◌∷◌, if◌then◌else◌}
+use Rattle.keeper_book.specs.Counters.{counter_named, end_of, five_at}
+use Rattle.keeper_book.specs.Told.{seen}
+use Rattle.keeper_book.specs.declared.calls.Call.{Call}
+use Rattle.keeper_book.specs.declared.calls.KeeperAnswer.{KeeperAnswer}
+use Rattle.keeper_book.specs.declared.calls.KeeperAnswer.TheVariants as answer
+use Rattle.keeper_book.specs.declared.calls.KeeperAsk.{KeeperAsk}
+use Rattle.keeper_book.specs.declared.calls.KeeperAsk.TheVariants as ask
+use Rattle.keeper_book.specs.declared.counters.Counter.{Counter}
+use Rattle.keeper_book.specs.declared.records.Record.{Record}
+use Rattle.keeper_book.specs.declared.records.Taken.{Taken}
+use Rattle.turn_laws.specs.Holdings.{Actor, Begins, Draws, Effect, Holding, MayUse, Nothing, Rises, Use, held_after, uses_after}
+use Rattle.turn_laws.specs.Places.{Place, Ours, Theirs, is_place, place_of, start_of}
+use Rattle.turn_rules.specs.Held.{covered, granted}
+use Rattle.turn_rules.specs.Safe.{KeyIv}
+
+pub data Move : Type 0 where
+  -- a call of the keeper
+  Calls : (call : Call) → Move
+  -- a number is used, or taken
+  Uses : (place : Place) → (number : ℕ) → Move
+  -- something is sealed under a key and an IV, which is a number of the key's counter
+  Seals : (key : KeyIv) → Move
+  -- a member ends
+  Ends : Move
+
+pub record Act : Type 0 where
+  pub by : Actor
+  pub move : Move
+
+-- a holding of an epoch that was granted: of each counter it begins and ends at the base
+abbrev pub begun : Counter → Taken → Holding
+begun c taken = record { epoch = taken.epoch; base = five_at taken.bases c; high = five_at taken.bases c; numbers = [] }
+
+-- what the peer holds of an association that came to it: all numbers of its counter
+abbrev pub begun_theirs : Counter → Record → Holding
+begun_theirs c sa = record { epoch = 1; base = start_of sa c; high = end_of c; numbers = [] }
+
+-- by what was granted, and up to where was covered
+abbrev pub effect_ours : Actor → Counter → Option Taken → Option ℕ → Effect
+effect_ours w c (Some taken) upto = Begins w (begun c taken)
+effect_ours w c None (Some upto) = Rises w upto
+effect_ours w c None None = Nothing
+
+abbrev pub effect_theirs : Actor → Counter → Option Record → Effect
+effect_theirs w c (Some sa) = Begins w (begun_theirs c sa)
+effect_theirs w c None = Nothing
+
+-- the association that the caller saw entered
+abbrev pub entered_at : ℕ → KeeperAsk → KeeperAnswer → Option Record
+entered_at spir (ask.Enter sa) answer.Done = if sa.spir == spir then Some sa else None
+entered_at spir asked answered = None
+
+-- what a call does at a place, by what its caller saw
+abbrev pub effect_of_call : Place → Actor → KeeperAsk → KeeperAnswer → Effect
+effect_of_call (Ours spir c) w asked answered = effect_ours w c (granted spir asked answered) (covered spir c asked answered)
+effect_of_call (Theirs spir c) w asked answered = effect_theirs w c (entered_at spir asked answered)
+
+abbrev pub effect_of_use : Place → Option Place → Actor → ℕ → Effect
+effect_of_use p None w n = Nothing
+effect_of_use p (Some q) w n = if is_place q p then Draws w n else Nothing
+
+-- what a move does at a place
+abbrev pub effect_of : Place → Actor → Move → Effect
+effect_of p w (Calls call) = effect_of_call p w call.asked (seen call)
+effect_of p w (Uses q n) = effect_of_use p (Some q) w n
+effect_of p w (Seals key) = effect_of_use p (place_of key.name) w key.iv
+effect_of p w Ends = Nothing
+
+-- what each end holds at a place
+abbrev pub held_at : Place → List Act → Actor → Option Holding
+held_at p [] = λ w. None
+held_at p (act ∷ acts) = held_after (effect_of p act.by act.move) (held_at p acts)
+
+-- the numbers of a place that were used
+abbrev pub uses_at : Place → List Act → List Use
+uses_at p [] = []
+uses_at p (act ∷ acts) = uses_after (effect_of p act.by act.move) (held_at p acts) (uses_at p acts)
+
+-- a number is used of what is held
+pub record HoldsFor (held : Option Holding) (n : ℕ) : Type 0 where
+  pub holding : Holding
+  pub holds : held ≡ Some holding
+  pub may : MayUse holding n
+
+-- a cover is asked in the epoch of a holding, and does not pass the counter's end
+pub record MayCover (held : Option Holding) (c : Counter) (epoch upto : ℕ) : Type 0 where
+  pub holding : Holding
+  pub holds : held ≡ Some holding
+  pub in_epoch : holding.epoch ≡ epoch
+  pub within_end : upto ≤ end_of c
+
+-- what a call needs beside the book
+abbrev pub MayAsk : List Act → Actor → KeeperAsk → Type 0
+MayAsk acts w (ask.Cover spir kind child epoch upto) = MatchOption (counter_named kind child) ⊥ (λ c. MayCover (held_at (Ours spir c) acts w) c epoch upto)
+MayAsk acts w asked = Unit {0}
+
+-- what a move needs beside the book
+abbrev pub MayDo : List Act → Actor → Move → Type 0
+MayDo acts w (Calls call) = MayAsk acts w call.asked
+MayDo acts w (Uses p n) = HoldsFor (held_at p acts w) n
+MayDo acts w (Seals key) = MatchOption (place_of key.name) ⊥ (λ p. HoldsFor (held_at p acts w) key.iv)
+MayDo acts w Ends = Unit {0}
+
+-- each of these moves of one end may come after those before it
+abbrev pub MayDoAll : List Act → Actor → List Move → Type 0
+MayDoAll acts w [] = Unit {0}
+MayDoAll acts w (move ∷ moves) = MayDo acts w move × MayDoAll (record { by = w; move = move } ∷ acts) w moves
+
+-- the acts with these moves after them
+abbrev pub onto : Actor → List Move → List Act → List Act
+onto w [] acts = acts
+onto w (move ∷ moves) acts = onto w moves (record { by = w; move = move } ∷ acts)

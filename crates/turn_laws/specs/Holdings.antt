@@ -1,0 +1,100 @@
+-- Who holds which numbers of one counter, and what one move makes of it.
+use Rattle.std.specs.Prelude.{ℕ, ◌-◌, ◌<◌, ◌≤◌, ◌≡◌, ◌≢◌, max, Bool, true, false, Option, Some, None, List, ◌∷◌, length, map, if◌then◌else◌}
+use Rattle.std.specs.List.{AllByRecursion}
+use Rattle.std.specs.Option.{option_map}
+use Rattle.turn_laws.specs.Columns.{Column, IsRising, mark}
+use Rattle.turn_rules.specs.Ends.{Performer, is_performer}
+use Rattle.turn_rules.specs.Safe.{IsEachOnce}
+
+-- who makes a move: the run itself, or one of its ends
+pub data Actor : Type 0 where
+  Run : Actor
+  End : (end : Performer) → Actor
+
+abbrev pub is_actor : Actor → Actor → Bool
+is_actor Run Run = true
+is_actor Run (End b) = false
+is_actor (End a) Run = false
+is_actor (End a) (End b) = is_performer a b
+
+-- The numbers that an end may use: those of an epoch from its base on, below the high that was acknowledged, but for those
+-- that it used.
+pub record Holding : Type 0 where
+  pub epoch : ℕ
+  pub base : ℕ
+  pub high : ℕ
+  pub numbers : List ℕ
+
+abbrev pub IsNotIn : ℕ → List ℕ → Type 0
+IsNotIn n numbers = AllByRecursion (λ k. k ≢ n) numbers
+
+pub record MayUse (h : Holding) (n : ℕ) : Type 0 where
+  pub from_base : h.base ≤ n
+  pub below_high : n < h.high
+  pub unused : IsNotIn n h.numbers
+
+-- a number that was used, and in which epoch
+pub record Use : Type 0 where
+  pub epoch : ℕ
+  pub number : ℕ
+
+-- what a move does to the numbers of one counter
+pub data Effect : Type 0 where
+  Nothing : Effect
+  -- a holding begins, in place of any earlier one of the same end
+  Begins : Actor → Holding → Effect
+  -- the high of a holding rises
+  Rises : Actor → ℕ → Effect
+  -- a number is used
+  Draws : Actor → ℕ → Effect
+
+abbrev pub raised_to : ℕ → Holding → Holding
+raised_to upto h = record h { high = max upto h.high }
+
+abbrev pub drawn : ℕ → Holding → Holding
+drawn n h = record h { numbers = n ∷ h.numbers }
+
+abbrev pub held_after : Effect → (Actor → Option Holding) → Actor → Option Holding
+held_after Nothing held v = held v
+held_after (Begins w h) held v = if is_actor w v then Some h else held v
+held_after (Rises w upto) held v = if is_actor w v then option_map (raised_to upto) (held v) else held v
+held_after (Draws w n) held v = if is_actor w v then option_map (drawn n) (held v) else held v
+
+-- 0 is no epoch: nothing is held
+abbrev pub epoch_of : Option Holding → ℕ
+epoch_of None = 0
+epoch_of (Some h) = h.epoch
+
+-- the numbers that were used, the newest first
+abbrev pub uses_after : Effect → (Actor → Option Holding) → List Use → List Use
+uses_after (Draws w n) held uses = record { epoch = epoch_of (held w); number = n } ∷ uses
+uses_after effect held uses = uses
+
+-- an epoch that began, its base, and no number of the next one
+pub record IsHoldingOf (column : Column) (h : Holding) : Type 0 where
+  pub some : 1 ≤ h.epoch
+  pub begun : h.epoch ≤ length column.bases
+  pub base : mark column (h.epoch - 1) ≡ h.base
+  pub high : h.high ≤ mark column h.epoch
+
+-- a number of an epoch that began
+pub record IsUseOf (column : Column) (u : Use) : Type 0 where
+  pub some : 1 ≤ u.epoch
+  pub begun : u.epoch ≤ length column.bases
+  pub from_base : mark column (u.epoch - 1) ≤ u.number
+  pub below : u.number < mark column u.epoch
+
+-- The numbers of one counter belong to one end each: what each end holds of it, and the numbers that were used.
+pub record IsOwned (held : Actor → Option Holding) (uses : List Use) (column : Column) : Type 0 where
+  -- the bases do not fall, and the last is at most the high
+  pub rising : IsRising column
+  -- each holding is of an epoch that began, has its base, and ends where the next epoch begins
+  pub holdings : (w : Actor) (h : Holding) → held w ≡ Some h → IsHoldingOf column h
+  -- each epoch has at most one holding
+  pub alone : (w v : Actor) (h g : Holding) → held w ≡ Some h → held v ≡ Some g → h.epoch ≡ g.epoch → w ≡ v
+  -- each number was used within its epoch
+  pub within : AllByRecursion (IsUseOf column) uses
+  -- what is not among a holder's own numbers was not used in its epoch
+  pub known : (w : Actor) (h : Holding) → held w ≡ Some h → (n : ℕ) → IsNotIn n h.numbers → AllByRecursion (λ u. u.epoch ≡ h.epoch → u.number ≢ n) uses
+  -- no number was used twice
+  pub once : IsEachOnce (map (λ u. u.number) uses)

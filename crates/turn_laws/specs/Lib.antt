@@ -1,0 +1,6 @@
+pub mod Acts
+pub mod Columns
+pub mod Holdings
+pub mod Owned
+pub mod Places
+pub mod Turns

@@ -1,0 +1,62 @@
+-- The counters of a run, each with its numbers.
+use Rattle.std.specs.Prelude.{ℕ, ◌==◌, ◌&&◌, Bool, false, Option, Some, None, [], ◌∷◌, map}
+use Rattle.ha_base.specs.declared.counter_names.CounterName.{CounterName}
+use Rattle.ha_base.specs.declared.counter_names.End.{End}
+use Rattle.ha_base.specs.declared.counter_names.End.TheVariants as end
+use Rattle.keeper_book.specs.Book.{Book, Entry, entry_of}
+use Rattle.keeper_book.specs.Counters.{counter_named, end_of, five_at}
+use Rattle.keeper_book.specs.Records.{spir_of_origin}
+use Rattle.keeper_book.specs.declared.counters.Counter.{Counter}
+use Rattle.keeper_book.specs.declared.counters.Counter.TheVariants as counter
+use Rattle.keeper_book.specs.declared.records.Record.{Record}
+use Rattle.turn_laws.specs.Columns.{Column, nothing}
+use Rattle.turn_rules.specs.Held.{is_counter}
+
+-- A counter of the association with this responder's SPI: the cluster's, or the peer's.
+pub data Place : Type 0 where
+  Ours : (spir : ℕ) → (counter : Counter) → Place
+  Theirs : (spir : ℕ) → (counter : Counter) → Place
+
+abbrev pub is_place : Place → Place → Bool
+is_place (Ours a c) (Ours b d) = (a == b) && is_counter c d
+is_place (Theirs a c) (Theirs b d) = (a == b) && is_counter c d
+is_place p q = false
+
+abbrev pub place_by : End → ℕ → Counter → Place
+place_by end.Cluster spir c = Ours spir c
+place_by end.Peer spir c = Theirs spir c
+
+abbrev pub place_named : End → Option ℕ → Option Counter → Option Place
+place_named end (Some spir) (Some c) = Some (place_by end spir c)
+place_named end spir c = None
+
+-- where the numbers of a name are
+abbrev pub place_of : CounterName → Option Place
+place_of name = place_named name.end (spir_of_origin name.origin) (counter_named name.kind name.child)
+
+-- the counter of the other end that counts the same: what one sends, the other receives
+abbrev pub mirrored : Counter → Counter
+mirrored counter.EspOut = counter.EspIn
+mirrored counter.EspIn = counter.EspOut
+mirrored counter.Iv = counter.Iv
+mirrored counter.Ask = counter.Answer
+mirrored counter.Answer = counter.Ask
+
+-- where a counter of the peer begins
+abbrev pub start_of : Record → Counter → ℕ
+start_of sa c = five_at sa.starts (mirrored c)
+
+-- the cluster's epochs are those of the book
+abbrev pub column_ours : Counter → Option Entry → Column
+column_ours c None = nothing
+column_ours c (Some e) = record { bases = map (λ five. five_at five c) e.bases; high = five_at e.highs c }
+
+-- the peer has one epoch, which goes to the counter's end
+abbrev pub column_theirs : Counter → Option Entry → Column
+column_theirs c None = nothing
+column_theirs c (Some e) = record { bases = start_of e.sa c ∷ []; high = end_of c }
+
+-- the numbers of a counter, by the book
+abbrev pub column : Place → Book → Column
+column (Ours spir c) book = column_ours c (entry_of spir book.entries)
+column (Theirs spir c) book = column_theirs c (entry_of spir book.entries)

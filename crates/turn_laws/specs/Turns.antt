@@ -1,0 +1,58 @@
+-- The moves of a turn, and what an end's own turns say of one counter.
+use Rattle.std.specs.Prelude.{ℕ, Option, Some, None, List, [], ◌∷◌, ◌++◌, map}
+use Rattle.std.specs.List.{filter_map}
+use Rattle.std.specs.Option.{option_map}
+use Rattle.event_text.specs.declared.event.Event.{Event}
+use Rattle.event_text.specs.declared.event.Event.TheVariants as event
+use Rattle.event_text.specs.declared.seals.Seal.{Seal}
+use Rattle.event_text.specs.declared.turn.Turn.{Turn}
+use Rattle.event_text.specs.declared.verdict.Verdict.{Verdict}
+use Rattle.event_text.specs.declared.verdict.Verdict.TheVariants as out
+use Rattle.keeper_book.specs.Book.{Book}
+use Rattle.keeper_book.specs.Counters.{five_at}
+use Rattle.keeper_book.specs.declared.counters.Counter.{Counter}
+use Rattle.keeper_book.specs.declared.counters.Counter.TheVariants as counter
+use Rattle.turn_laws.specs.Acts.{Act, Calls, Move, Seals, Uses, onto}
+use Rattle.turn_laws.specs.Holdings.{Actor, End, Holding, Run}
+use Rattle.turn_laws.specs.Owned.{Owned}
+use Rattle.turn_laws.specs.Places.{Ours}
+use Rattle.turn_rules.specs.Ends.{Performer, performer}
+use Rattle.turn_rules.specs.Held.{found, grant_of, high_of, number_of, since}
+use Rattle.turn_rules.specs.Safe.{KeyIv}
+
+-- the numbers that an event used without a seal
+abbrev pub uses_of : Event → Verdict → List Move
+uses_of (event.Draw member spir) (out.Number n) = Uses (Ours spir counter.EspOut) n ∷ []
+uses_of event verdict = []
+
+abbrev pub key_iv : Seal → KeyIv
+key_iv seal = record { name = seal.name; iv = seal.iv }
+
+-- the calls of a turn, the numbers that it used, and what it sealed
+abbrev pub moves_of : Turn → List Move
+moves_of turn = map Calls turn.calls ++ (uses_of turn.event turn.step.verdict ++ map (λ seal. Seals (key_iv seal)) turn.step.seals)
+
+abbrev pub actor_as : Option Performer → Actor
+actor_as None = Run
+actor_as (Some end) = End end
+
+abbrev pub actor_of : Turn → Actor
+actor_of turn = actor_as (performer turn)
+
+-- what the ends did in a trace
+abbrev pub acts_of : List Turn → List Act
+acts_of [] = []
+acts_of (turn ∷ past) = onto (actor_of turn) (moves_of turn) (acts_of past)
+
+-- the numbers of the book's epochs belong to one end each, after these turns
+abbrev pub IsOwnedRun : List Turn → Book → Type 0
+IsOwnedRun past book = Owned (acts_of past) book
+
+-- what an end with these turns of its own holds of a counter of the association, and what it used of it
+abbrev pub told : ℕ → Counter → List Turn → Option Holding
+told spir c past = option_map (λ taken. record {
+    epoch = taken.epoch;
+    base = five_at taken.bases c;
+    high = high_of spir c taken.bases past;
+    numbers = filter_map (number_of spir c) (since spir past);
+  }) (found (grant_of spir) past)
