@@ -1,2 +1,5 @@
+mod Books
 mod Columns
+mod Entries
 mod Holdings
+mod Safety

@@ -1,0 +1,162 @@
+-- What the answer to a call shows of the book, and that every call keeps the numbers of each counter apart.
+use Rattle.std.proofs.Common.{◌≡◌, ℕ, ◌+◌, ◌≤◌, ◌==◌, ◌⊎◌, inl, inr, min, max, not, Bool, true, false, Option, Some, None, List, [], ◌∷◌, length, map, ⊎_elim, refl, ap, sym, ◌∙◌, subst, arith, if◌then◌else◌}
+use Rattle.std.specs.Prelude.{nat_le}
+use Rattle.std.proofs.lemmas.Bool.{eqb-true, or_parts, eq-eqb}
+use Rattle.std.proofs.lemmas.List.{length-map}
+use Rattle.std.specs.List.{list_any}
+use Rattle.std.specs.Option.{option_map}
+use Rattle.keeper_book.specs.Book.{Answers, Book, Entry, after, cover_refusal, enter_refusal, entered, entry_of, fresh, raised, raised_at, refusal, shares_spi, taken_of, taken_over, unless_refused, when}
+use Rattle.keeper_book.specs.Counters.{end_of, five_at}
+use Rattle.keeper_book.specs.declared.TheConstants.{MAX_ASSOCIATIONS}
+use Rattle.keeper_book.specs.declared.calls.KeeperAnswer.{KeeperAnswer}
+use Rattle.keeper_book.specs.declared.calls.KeeperAnswer.TheVariants as answer
+use Rattle.keeper_book.specs.declared.calls.KeeperAsk.{KeeperAsk}
+use Rattle.keeper_book.specs.declared.calls.KeeperAsk.TheVariants as ask
+use Rattle.keeper_book.specs.declared.counters.Counter.{Counter}
+use Rattle.keeper_book.specs.declared.faults.KeeperFault.{KeeperFault}
+use Rattle.keeper_book.specs.declared.faults.KeeperFault.TheVariants as fault
+use Rattle.keeper_book.specs.declared.records.Record.{Record}
+use Rattle.keeper_book.specs.declared.records.Taken.{Taken}
+use Rattle.turn_laws.proofs.Columns.{goes_on-refl, mark-high}
+use Rattle.turn_laws.proofs.Entries.{entry_after, entry-entered, five_at-with_five, goes_on-ours, goes_on-theirs, is_counter-same, new-taken_over, new-theirs}
+use Rattle.turn_laws.proofs.Holdings.{IsNew}
+use Rattle.turn_laws.specs.Acts.{begun, begun_theirs}
+use Rattle.turn_laws.specs.Columns.{GoesOn, IsRising, mark}
+use Rattle.turn_laws.specs.Holdings.{Actor, Holding}
+use Rattle.turn_laws.specs.Places.{Ours, Place, Theirs, column, column_ours, column_theirs}
+use Rattle.turn_rules.specs.Held.{first_of}
+
+-- the book is as it was, or has the entry of a call that is not refused
+pub record HasEntry (old : Book) (asked : KeeperAsk) (new : Book) : Type 0 where
+  pub granted : refusal old asked ≡ None
+  pub is : new ≡ entered old asked
+
+after-cases : (old new : Book) (asked : KeeperAsk) (r : Option KeeperFault) → refusal old asked ≡ r → new ≡ unless_refused r (λ why. old) (entered old asked) → (new ≡ old) ⊎ HasEntry old asked new
+after-cases old new asked None e is = inr (record { granted = e; is = is })
+after-cases old new asked (Some why) e is = inl is
+
+after-entry : (old new : Book) (asked : KeeperAsk) → new ≡ after old asked → (new ≡ old) ⊎ HasEntry old asked new
+after-entry old new asked is = after-cases old new asked (refusal old asked) refl is
+
+pub answers-entry : (old new : Book) (asked : KeeperAsk) (answered : KeeperAnswer) → Answers old asked answered new → (new ≡ old) ⊎ HasEntry old asked new
+answers-entry old new asked (answer.Refused fault.Failed) a = ⊎_elim (λ same. inl same) (λ is. after-entry old new asked is) a
+answers-entry old new asked (answer.Refused fault.Memory) a = inl a.2
+answers-entry old new asked answered a = after-entry old new asked a.1
+
+module _ (old : Book) (asked : KeeperAsk) where
+  column-entered : (p : Place) → IsRising (column p old) → GoesOn (column p old) (column p (entered old asked))
+  column-entered (Ours spir c) rising = subst (λ o. GoesOn (column (Ours spir c) old) (column_ours c o)) (sym (entry-entered spir old asked)) (goes_on-ours c spir asked (entry_of spir old.entries) rising)
+  column-entered (Theirs spir c) rising = subst (λ o. GoesOn (column (Theirs spir c) old) (column_theirs c o)) (sym (entry-entered spir old asked)) (goes_on-theirs c spir asked (entry_of spir old.entries) rising)
+
+-- Whatever a call is answered, every column goes on.
+pub column-goes_on : (old new : Book) (asked : KeeperAsk) (answered : KeeperAnswer) → Answers old asked answered new → (p : Place) → IsRising (column p old) → GoesOn (column p old) (column p new)
+column-goes_on old new asked answered a p rising = ⊎_elim
+    (λ same. subst (λ b. GoesOn (column p old) (column p b)) (sym same) (goes_on-refl (column p old) rising))
+    (λ has. subst (λ b. GoesOn (column p old) (column p b)) (sym has.is) (column-entered old asked p rising))
+    (answers-entry old new asked answered a)
+
+-- what a takeover that was granted shows
+pub record ShowsTaken (taken : Taken) (x : Option Entry) (r : Option KeeperFault) : Type 0 where
+  pub entry : Entry
+  pub found : x ≡ Some entry
+  pub granted : r ≡ None
+  pub is : taken ≡ record { epoch = length entry.bases + 1; bases = entry.highs; sa = entry.sa }
+
+shows-taken : (taken : Taken) (x : Option Entry) (r : Option KeeperFault) → answer.Taken taken ≡ unless_refused r answer.Refused (taken_of x) → ShowsTaken taken x r
+shows-taken taken (Some e) None is = record { entry = e; found = refl; granted = refl; is = cc }
+shows-taken taken None None is = absurd (cc)
+shows-taken taken x (Some why) is = absurd (cc)
+
+shows-done : (r : Option KeeperFault) → answer.Done ≡ unless_refused r answer.Refused answer.Done → r ≡ None
+shows-done None is = refl
+shows-done (Some why) is = absurd (cc)
+
+-- what a cover that was granted shows
+pub record ShowsCovered (x : Option Entry) (c : Option Counter) (epoch : ℕ) : Type 0 where
+  pub entry : Entry
+  pub found : x ≡ Some entry
+  pub is_last : epoch ≡ length entry.bases
+
+pub shows-covered : (x : Option Entry) (c : Option Counter) (epoch : ℕ) → cover_refusal x c epoch ≡ None → ShowsCovered x c epoch
+shows-covered None c epoch none = absurd (cc)
+shows-covered (Some e) None epoch none = absurd (cc)
+shows-covered (Some e) (Some c) epoch none = by_test e.closed (epoch == length e.bases) refl none
+  where
+    by_test : (closed last : Bool) → (epoch == length e.bases) ≡ last → when closed fault.Closed (when (not last) (fault.Replaced (length e.bases)) None) ≡ None → ShowsCovered (Some e) (Some c) epoch
+    by_test true last t none = absurd (cc)
+    by_test false false t none = absurd (cc)
+    by_test false true t none = record { entry = e; found = refl; is_last = eqb-true epoch (length e.bases) t }
+
+-- where no association shares an SPI, none is found at the responder's
+none-shared : (sa : Record) (es : List Entry) → list_any (shares_spi sa) es ≡ false → entry_of sa.spir es ≡ None
+none-shared sa [] none = refl
+none-shared sa (e ∷ es) none = go (or_parts (shares_spi sa e) (list_any (shares_spi sa) es) none) (none-shared sa es)
+  where
+    go : (shares_spi sa e ≡ false) × (list_any (shares_spi sa) es ≡ false) → (list_any (shares_spi sa) es ≡ false → entry_of sa.spir es ≡ None) → (if e.sa.spir == sa.spir then Some e else entry_of sa.spir es) ≡ None
+    go parts rest =
+        let differs : (e.sa.spir == sa.spir) ≡ false = (or_parts (e.sa.spir == sa.spir) (e.sa.spi_in == sa.spi_in) parts.0).0 in
+        rw differs (rest parts.1)
+
+shows-entered : (sa : Record) (es : List Entry) → enter_refusal sa es ≡ None → entry_of sa.spir es ≡ None
+shows-entered sa es none = by_test (list_any (shares_spi sa) es) refl none
+  where
+    by_test : (b : Bool) → list_any (shares_spi sa) es ≡ b → when b fault.SpiInUse (when (nat_le MAX_ASSOCIATIONS (length es)) (fault.Full MAX_ASSOCIATIONS) None) ≡ None → entry_of sa.spir es ≡ None
+    by_test true t none = absurd (cc)
+    by_test false t none = none-shared sa es t
+
+-- the book has the entry where a call was granted
+after-granted : (old new : Book) (asked : KeeperAsk) → refusal old asked ≡ None → new ≡ after old asked → new ≡ entered old asked
+after-granted old new asked granted is = is ∙ ap (λ r. unless_refused r (λ why. old) (entered old asked)) granted
+
+module _ (old new : Book) (held : Actor → Option Holding) (w : Actor) where
+  -- a takeover that was granted begins a holding of a new epoch
+  pub keeps-taken : (spir : ℕ) (c : Counter) (member : ℕ) (taken : Taken) → Answers old (ask.TakeOver spir member) (answer.Taken taken) new → IsNew (column (Ours spir c) old) (column (Ours spir c) new) (begun c taken)
+  keeps-taken spir c member taken a = go (shows-taken taken (entry_of spir old.entries) (refusal old (ask.TakeOver spir member)) a.0)
+    where
+      go : ShowsTaken taken (entry_of spir old.entries) (refusal old (ask.TakeOver spir member)) → IsNew (column (Ours spir c) old) (column (Ours spir c) new) (begun c taken)
+      go shows =
+          let here : (spir == spir) ≡ true = eq-eqb spir spir refl in
+          let now : entry_of spir new.entries ≡ Some (taken_over member shows.entry) =
+              ap (λ (b : Book). entry_of spir b.entries) (after-granted old new (ask.TakeOver spir member) shows.granted a.1)
+              ∙ (entry-entered spir old (ask.TakeOver spir member)
+              ∙ (ap (λ b. if b then option_map (taken_over member) (entry_of spir old.entries) else entry_of spir old.entries) here
+              ∙ ap (option_map (taken_over member)) shows.found)) in
+          subst (λ o. IsNew (column (Ours spir c) old) (column_ours c o) (begun c taken)) (sym now)
+          (subst (λ o. IsNew (column_ours c o) (column_ours c (Some (taken_over member shows.entry))) (begun c taken)) (sym shows.found)
+          (subst (λ t. IsNew (column_ours c (Some shows.entry)) (column_ours c (Some (taken_over member shows.entry))) (begun c t)) (sym shows.is)
+          (new-taken_over c member shows.entry)))
+
+  -- an association that was entered begins what the peer holds
+  pub keeps-entered : (sa : Record) (c : Counter) → Answers old (ask.Enter sa) answer.Done new → IsNew (column (Theirs sa.spir c) old) (column (Theirs sa.spir c) new) (begun_theirs c sa)
+  keeps-entered sa c a =
+      let granted : refusal old (ask.Enter sa) ≡ None = shows-done (refusal old (ask.Enter sa)) a.0 in
+      let was : entry_of sa.spir old.entries ≡ None = shows-entered sa old.entries granted in
+      let here : (sa.spir == sa.spir) ≡ true = eq-eqb sa.spir sa.spir refl in
+      let now : entry_of sa.spir new.entries ≡ Some (fresh sa) =
+          ap (λ (b : Book). entry_of sa.spir b.entries) (after-granted old new (ask.Enter sa) granted a.1)
+          ∙ (entry-entered sa.spir old (ask.Enter sa)
+          ∙ (ap (λ o. first_of o (if sa.spir == sa.spir then Some (fresh sa) else None)) was
+          ∙ ap (λ b. if b then Some (fresh sa) else None) here)) in
+      subst (λ o. IsNew (column (Theirs sa.spir c) old) (column_theirs c o) (begun_theirs c sa)) (sym now)
+      (subst (λ o. IsNew (column_theirs c o) (column_theirs c (Some (fresh sa))) (begun_theirs c sa)) (sym was) (new-theirs c sa))
+
+  -- a cover that was granted leaves no lower high
+  pub keeps-covered : (spir : ℕ) (c : Counter) (asked : KeeperAsk) (named : Option Counter) (epoch upto : ℕ) → refusal old asked ≡ cover_refusal (entry_of spir old.entries) named epoch → named ≡ Some c → entry_after spir asked (entry_of spir old.entries) ≡ option_map (raised_at named upto) (entry_of spir old.entries) → upto ≤ end_of c → answer.Done ≡ unless_refused (refusal old asked) answer.Refused answer.Done → new ≡ after old asked → upto ≤ mark (column (Ours spir c) new) epoch
+  keeps-covered spir c asked named epoch upto refused is edits below answered enters =
+      let granted : refusal old asked ≡ None = shows-done (refusal old asked) answered in
+      go granted (shows-covered (entry_of spir old.entries) named epoch (sym refused ∙ granted))
+    where
+      go : refusal old asked ≡ None → ShowsCovered (entry_of spir old.entries) named epoch → upto ≤ mark (column (Ours spir c) new) epoch
+      go granted shows =
+          let now : entry_of spir new.entries ≡ Some (raised c upto shows.entry) =
+              ap (λ (b : Book). entry_of spir b.entries) (after-granted old new asked granted enters)
+              ∙ (entry-entered spir old asked
+              ∙ (edits
+              ∙ (ap (option_map (raised_at named upto)) shows.found
+              ∙ ap (λ d. Some (raised_at d upto shows.entry)) is))) in
+          let top : mark (column_ours c (Some (raised c upto shows.entry))) epoch ≡ five_at (raised c upto shows.entry).highs c =
+              mark-high (column_ours c (Some (raised c upto shows.entry))) epoch (let a : length (map (λ five. five_at five c) shows.entry.bases) ≡ length shows.entry.bases = length-map shows.entry.bases (λ five. five_at five c) in let b : epoch ≡ length shows.entry.bases = shows.is_last in omega arith) in
+          let high : five_at (raised c upto shows.entry).highs c ≡ max (five_at shows.entry.highs c) (min upto (end_of c)) =
+              five_at-with_five c c (max (five_at shows.entry.highs c) (min upto (end_of c))) shows.entry.highs
+              ∙ ap (λ b. if b then max (five_at shows.entry.highs c) (min upto (end_of c)) else five_at shows.entry.highs c) (is_counter-same c) in
+          subst (λ o. upto ≤ mark (column_ours c o) epoch) (sym now) (omega arith)
