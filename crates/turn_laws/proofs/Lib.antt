@@ -3,3 +3,6 @@ mod Columns
 mod Entries
 mod Holdings
 mod Safety
+mod Runs
+mod Plain
+mod Told
