@@ -62,7 +62,7 @@ pub record ShowsTaken (taken : Taken) (x : Option Entry) (r : Option KeeperFault
   pub granted : r ≡ None
   pub is : taken ≡ record { epoch = length entry.bases + 1; bases = entry.highs; sa = entry.sa }
 
-shows-taken : (taken : Taken) (x : Option Entry) (r : Option KeeperFault) → answer.Taken taken ≡ unless_refused r answer.Refused (taken_of x) → ShowsTaken taken x r
+pub shows-taken : (taken : Taken) (x : Option Entry) (r : Option KeeperFault) → answer.Taken taken ≡ unless_refused r answer.Refused (taken_of x) → ShowsTaken taken x r
 shows-taken taken (Some e) None is = record { entry = e; found = refl; granted = refl; is = cc }
 shows-taken taken None None is = absurd (cc)
 shows-taken taken x (Some why) is = absurd (cc)

@@ -6,3 +6,5 @@ mod Safety
 mod Runs
 mod Plain
 mod Told
+mod Records
+mod Well

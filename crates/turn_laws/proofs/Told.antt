@@ -136,7 +136,7 @@ is_end-false end None e = refl
 is_end-false end (Some other) e = is_performer-sym other end ∙ e
 
 -- no turn seals anything yet, so the moves of a turn are its calls and the numbers that its event used
-moves-quiet : (boxes : ℕ) (past : List Turn) (turn : Turn) → IsExplained boxes past turn → moves_of turn ≡ map Calls turn.calls ++ uses_of turn.event turn.step.verdict
+pub moves-quiet : (boxes : ℕ) (past : List Turn) (turn : Turn) → IsExplained boxes past turn → moves_of turn ≡ map Calls turn.calls ++ uses_of turn.event turn.step.verdict
 moves-quiet boxes past turn explained =
     ap (λ seals. map Calls turn.calls ++ (uses_of turn.event turn.step.verdict ++ map (λ seal. Seals (key_iv seal)) seals)) explained.quiet.seals
     ∙ ap (λ moves. map Calls turn.calls ++ moves) (append-nil (uses_of turn.event turn.step.verdict))
