@@ -8,3 +8,5 @@ mod Plain
 mod Told
 mod Records
 mod Well
+mod All
+mod Sealed

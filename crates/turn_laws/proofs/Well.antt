@@ -57,6 +57,7 @@ above-used base n (k ∷ ks) is =
 pub record Tells (mine : List Turn) (spir : ℕ) (c : Counter) (held : Held) (h : Holding) : Type 0 where
   pub told_so : told spir c mine ≡ Some h
   pub epoch : h.epoch ≡ held.epoch
+  pub base : h.base ≡ five_at held.bases c
   pub high : h.high ≡ five_at held.highs c
   pub may_base : h.base ≤ five_at held.nexts c
   pub unused : IsNotIn (five_at held.nexts c) h.numbers
@@ -69,6 +70,7 @@ tells mine spir c held is = go (found (grant_of spir) mine) refl is
     go (Some taken) e is = subst (λ (y : Held). (h : Holding) × Tells mine spir c y h) (same_Some (holding spir mine taken) held is) (of, record {
       told_so = ap (option_map {T = Taken} (λ t. record { epoch = t.epoch; base = five_at t.bases c; high = high_of spir c t.bases mine; numbers = filter_map (number_of spir c) (since spir mine) })) e;
       epoch = refl;
+      base = refl;
       high = sym (five_at-five_of (λ d. high_of spir d taken.bases mine) c);
       may_base = let at : five_at (holding spir mine taken).nexts c ≡ next_of spir c taken.bases mine = five_at-five_of (λ d. next_of spir d taken.bases mine) c in let low : five_at taken.bases c ≤ next_of spir c taken.bases mine = greatest-least (five_at taken.bases c) (map (λ n. n + 1) (filter_map (number_of spir c) (since spir mine))) in omega arith;
       unused = above-used (five_at taken.bases c) (five_at (holding spir mine taken).nexts c) (filter_map (number_of spir c) (since spir mine)) (five_at-five_of (λ d. next_of spir d taken.bases mine) c);

@@ -1,0 +1,150 @@
+-- No key and IV seals twice: an IV is a number of the key's counter.
+use Rattle.std.proofs.Common.{◌≡◌, ◌≢◌, ℕ, ◌==◌, true, Option, Some, None, MatchOption, List, [], ◌∷◌, ◌++◌, map, refl, ap, sym, ◌∙◌, subst, append_assoc, append-nil, if◌then◌else◌}
+use Rattle.std.proofs.lemmas.Bool.{eq-eqb}
+use Rattle.std.specs.List.{AllByRecursion}
+use Rattle.event_text.specs.declared.event.Event.{Event}
+use Rattle.event_text.specs.declared.event.Event.TheVariants as event
+use Rattle.event_text.specs.declared.seals.Seal.{Seal}
+use Rattle.event_text.specs.declared.turn.Turn.{Turn}
+use Rattle.event_text.specs.declared.verdict.Verdict.{Verdict}
+use Rattle.event_text.specs.declared.verdict.Verdict.TheVariants as out
+use Rattle.keeper_book.specs.Book.{Book}
+use Rattle.keeper_book.specs.declared.calls.Call.{Call}
+use Rattle.keeper_book.specs.declared.counters.Counter.TheVariants as counter
+use Rattle.turn_laws.proofs.All.{lawful-run, numbers_at}
+use Rattle.turn_laws.proofs.Entries.{is_counter-same}
+use Rattle.turn_laws.proofs.Safety.{owned-lawful}
+use Rattle.turn_laws.specs.Acts.{Act, Calls, Ends, HoldsFor, MayDo, Move, Seals, Uses, effect_of, effect_of_use, held_at, onto, uses_at}
+use Rattle.turn_laws.specs.Holdings.{Actor, Begins, Draws, Effect, Holding, IsNotIn, Nothing, Rises, Use, uses_after}
+use Rattle.turn_laws.specs.Owned.{Lawful, Owned}
+use Rattle.turn_laws.specs.Places.{Ours, Place, Theirs, is_place, place_of}
+use Rattle.turn_laws.specs.Turns.{actor_of, acts_of, key_iv, uses_of}
+use Rattle.turn_rules.specs.Local.{Local, Stands}
+use Rattle.turn_rules.specs.Safe.{IsEachOnce, KeyIv, key_ivs}
+
+pub is_place-same : (p : Place) → is_place p p ≡ true
+is_place-same (Ours spir c) = let a : (spir == spir) ≡ true = eq-eqb spir spir refl in let b : _ = is_counter-same c in rw (a, b)
+is_place-same (Theirs spir c) = let a : (spir == spir) ≡ true = eq-eqb spir spir refl in let b : _ = is_counter-same c in rw (a, b)
+
+-- the keys and IVs that a move, and that acts, sealed under
+abbrev pub sealed_by : Move → List KeyIv → List KeyIv
+sealed_by (Seals key) rest = key ∷ rest
+sealed_by move rest = rest
+
+abbrev pub sealed_in : List Act → List KeyIv
+sealed_in [] = []
+sealed_in (act ∷ acts) = sealed_by act.move (sealed_in acts)
+
+-- a number that is in no use of a place is the IV of no seal there
+module _ (p : Place) (n : ℕ) where
+  abbrev IsOther : KeyIv → Type 0
+  IsOther key = place_of key.name ≡ Some p → key.iv ≢ n
+
+  -- what was used before a move was used after it
+  fewer : (e : Effect) (held : Actor → Option Holding) (us : List Use) → IsNotIn n (map (λ u. u.number) (uses_after e held us)) → IsNotIn n (map (λ u. u.number) us)
+  fewer Nothing held us none = none
+  fewer (Begins w h) held us none = none
+  fewer (Rises w k) held us none = none
+  fewer (Draws w k) held us none = none.1
+
+  seal-used : (w : Actor) (key : KeyIv) (held : Actor → Option Holding) (us : List Use) → IsNotIn n (map (λ u. u.number) (uses_after (effect_of_use p (place_of key.name) w key.iv) held us)) → IsOther key
+  seal-used w key held us none is =
+      let here : is_place p p ≡ true = is_place-same p in
+      let effect : effect_of_use p (place_of key.name) w key.iv ≡ Draws w key.iv = ap (λ q. effect_of_use p q w key.iv) is ∙ ap (λ b. if b then Draws w key.iv else Nothing) here in
+      (subst (λ e. IsNotIn n (map (λ u. u.number) (uses_after e held us))) effect none).0
+
+  pub not-sealed : (acts : List Act) → IsNotIn n (numbers_at p acts) → AllByRecursion IsOther (sealed_in acts)
+  not-sealed [] none = tt
+  not-sealed (act ∷ acts) none = by_move act.move none (not-sealed acts (fewer (effect_of p act.by act.move) (held_at p acts) (uses_at p acts) none))
+    where
+      by_move : (move : Move) → IsNotIn n (map (λ u. u.number) (uses_after (effect_of p act.by move) (held_at p acts) (uses_at p acts))) → AllByRecursion IsOther (sealed_in acts) → AllByRecursion IsOther (sealed_by move (sealed_in acts))
+      by_move (Seals key) none rest = (seal-used act.by key (held_at p acts) (uses_at p acts) none, rest)
+      by_move move none rest = rest
+
+all-more : {X : Type 0} {P Q : X → Type 0} (xs : List X) → ((x : X) → P x → Q x) → AllByRecursion P xs → AllByRecursion Q xs
+all-more [] f all = tt
+all-more (x ∷ xs) f all = (f x all.0, all-more xs f all.1)
+
+-- no key and IV stands twice among the seals of acts, each of which may come after those before it
+pub sealed-once : (acts : List Act) (book : Book) → Lawful acts book → IsEachOnce (sealed_in acts)
+sealed-once [] book lawful = tt
+sealed-once (act ∷ acts) book lawful = by_move act.move refl (sealed-once acts lawful.0 lawful.1)
+  where
+    owned : Owned (act ∷ acts) book
+    owned = owned-lawful (act ∷ acts) book lawful
+
+    by_move : (move : Move) → act.move ≡ move → IsEachOnce (sealed_in acts) → IsEachOnce (sealed_by move (sealed_in acts))
+    by_move (Calls call) is rest = rest
+    by_move (Uses q n) is rest = rest
+    by_move Ends is rest = rest
+    by_move (Seals key) is rest = (new-key key (place_of key.name) refl (subst (λ move. MayDo acts act.by move) is lawful.2) is, rest)
+      where
+        new-key : (key : KeyIv) (q : Option Place) → place_of key.name ≡ q → MatchOption (place_of key.name) ⊥ (λ p. HoldsFor (held_at p acts act.by) key.iv) → act.move ≡ Seals key → AllByRecursion (λ y. y ≢ key) (sealed_in acts)
+        new-key key None e may is = absurd (rw e at may)
+        new-key key (Some p) e may is =
+            let here : is_place p p ≡ true = is_place-same p in
+            let effect : effect_of p act.by act.move ≡ Draws act.by key.iv =
+                ap (effect_of p act.by) is ∙ (ap (λ q. effect_of_use p q act.by key.iv) e ∙ ap (λ b. if b then Draws act.by key.iv else Nothing) here) in
+            let once : IsEachOnce (map (λ u. u.number) (uses_after (Draws act.by key.iv) (held_at p acts) (uses_at p acts))) =
+                subst (λ x. IsEachOnce (map (λ u. u.number) (uses_after x (held_at p acts) (uses_at p acts)))) effect (owned.numbers p).once in
+            all-more (sealed_in acts)
+            (λ y other same. other (ap (λ (k : KeyIv). place_of k.name) same ∙ e) (ap (λ (k : KeyIv). k.iv) same))
+            (not-sealed p key.iv acts once.0)
+
+-- a list in which nothing stands twice, with one thing moved to the front, or from there
+each_once-out : {X : Type 0} (xs : List X) (y : X) (ys : List X) → IsEachOnce (xs ++ y ∷ ys) → IsEachOnce (y ∷ (xs ++ ys))
+each_once-out [] y ys once = once
+each_once-out {X} (x ∷ xs) y ys once =
+    let rest : IsEachOnce (y ∷ (xs ++ ys)) = each_once-out xs y ys once.1 in
+    let apart : AllByRecursion (λ z. z ≢ x) (xs ++ ys) × (y ≢ x) = all-out (λ z. z ≢ x) xs once.0 in
+    (((λ same. apart.1 (sym same)), rest.0), (apart.0, rest.1))
+  where
+    all-out : (P : X → Type 0) (xs : List X) → AllByRecursion P (xs ++ y ∷ ys) → AllByRecursion P (xs ++ ys) × P y
+    all-out P [] all = (all.1, all.0)
+    all-out P (x ∷ xs) all = let rest : AllByRecursion P (xs ++ ys) × P y = all-out P xs all.1 in ((all.0, rest.0), rest.1)
+
+each_once-in : {X : Type 0} (xs : List X) (y : X) (ys : List X) → IsEachOnce (y ∷ (xs ++ ys)) → IsEachOnce (xs ++ y ∷ ys)
+each_once-in [] y ys once = once
+each_once-in {X} (x ∷ xs) y ys once = (all-in (λ z. z ≢ x) xs once.1.0 (λ same. once.0.0 (sym same)), each_once-in xs y ys (once.0.1, once.1.1))
+  where
+    all-in : (P : X → Type 0) (xs : List X) → AllByRecursion P (xs ++ ys) → P y → AllByRecursion P (xs ++ y ∷ ys)
+    all-in P [] all one = (one, all)
+    all-in P (x ∷ xs) all one = (all.0, all-in P xs all.1 one)
+
+-- what was sealed before some moves
+module _ (w : Actor) where
+  sealed-calls : (calls : List Call) (rest : List Move) (acts : List Act) → (now : List Act) × (onto w (map Calls calls ++ rest) acts ≡ onto w rest now) × (sealed_in now ≡ sealed_in acts)
+  sealed-calls [] rest acts = (acts, refl, refl)
+  sealed-calls (call ∷ calls) rest acts = sealed-calls calls rest (record { by = w; move = Calls call } ∷ acts)
+
+  sealed-uses : (event : Event) (verdict : Verdict) (rest : List Move) (acts : List Act) → (now : List Act) × (onto w (uses_of event verdict ++ rest) acts ≡ onto w rest now) × (sealed_in now ≡ sealed_in acts)
+  sealed-uses (event.Draw member spir) (out.Number n) rest acts = (record { by = w; move = Uses (Ours spir counter.EspOut) n } ∷ acts, refl, refl)
+  sealed-uses event verdict rest acts = (acts, refl, refl)
+
+  -- seals of a turn stand before those of earlier turns
+  sealed-seals : (seals : List Seal) (before : List KeyIv) (acts : List Act) → IsEachOnce (before ++ sealed_in (onto w (map (λ seal. Seals (key_iv seal)) seals) acts)) → IsEachOnce ((before ++ map key_iv seals) ++ sealed_in acts)
+  sealed-seals [] before acts once = subst (λ ks. IsEachOnce (ks ++ sealed_in acts)) (sym (append-nil before)) once
+  sealed-seals (seal ∷ seals) before acts once =
+      let rest : IsEachOnce ((before ++ map key_iv seals) ++ (key_iv seal ∷ sealed_in acts)) = sealed-seals seals before (record { by = w; move = Seals (key_iv seal) } ∷ acts) once in
+      let front : IsEachOnce (key_iv seal ∷ ((before ++ map key_iv seals) ++ sealed_in acts)) = each_once-out (before ++ map key_iv seals) (key_iv seal) (sealed_in acts) rest in
+      let inside : IsEachOnce (before ++ (key_iv seal ∷ (map key_iv seals ++ sealed_in acts))) =
+          each_once-in before (key_iv seal) (map key_iv seals ++ sealed_in acts) (subst (λ ks. IsEachOnce (key_iv seal ∷ ks)) (append_assoc before (map key_iv seals) (sealed_in acts)) front) in
+      subst (λ ks. IsEachOnce ks) (sym (append_assoc before (key_iv seal ∷ map key_iv seals) (sealed_in acts))) inside
+
+-- the keys and IVs of turns are those of their acts
+key_ivs-once : (past : List Turn) (before : List KeyIv) → IsEachOnce (before ++ sealed_in (acts_of past)) → IsEachOnce (before ++ key_ivs past)
+key_ivs-once [] before once = once
+key_ivs-once (turn ∷ past) before once =
+    let w : Actor = actor_of turn in
+    let seals : List Move = map (λ seal. Seals (key_iv seal)) turn.step.seals in
+    let one = sealed-calls w turn.calls (uses_of turn.event turn.step.verdict ++ seals) (acts_of past) in
+    let two = sealed-uses w turn.event turn.step.verdict seals one.0 in
+    let moved : IsEachOnce (before ++ sealed_in (onto w seals two.0)) = subst (λ acts. IsEachOnce (before ++ sealed_in acts)) (one.1 ∙ two.1) once in
+    let apart : IsEachOnce ((before ++ map key_iv turn.step.seals) ++ sealed_in (acts_of past)) =
+        subst (λ ks. IsEachOnce ((before ++ map key_iv turn.step.seals) ++ ks)) (two.2 ∙ one.2) (sealed-seals w turn.step.seals before two.0 moved) in
+    subst (λ ks. IsEachOnce ks) (append_assoc before (map key_iv turn.step.seals) (key_ivs past))
+    (key_ivs-once past (before ++ map key_iv turn.step.seals) apart)
+
+-- no key and IV seals two plaintexts
+pub no-nonce-reuse : (boxes : ℕ) (past : List Turn) (book : Book) → Local boxes past → Stands past book → IsEachOnce (key_ivs past)
+no-nonce-reuse boxes past book local stands = key_ivs-once past [] (sealed-once (acts_of past) book (lawful-run boxes past book local stands))
