@@ -19,7 +19,7 @@ use Rattle.turn_laws.proofs.Runs.{LeavesBook, enters_all-append, lawful-calls, l
 use Rattle.turn_laws.proofs.Safety.{owned-lawful}
 use Rattle.turn_laws.proofs.Told.{moves-quiet, told-held}
 use Rattle.turn_laws.proofs.Well.{Tells, fits-well, tells}
-use Rattle.turn_laws.specs.Acts.{Act, Calls, MayDoAll, Move, Seals, effect_ours, held_at, onto, uses_at}
+use Rattle.turn_laws.specs.Acts.{Act, Calls, MayDoAll, Move, Seals, effect_ours, held_at, numbers_at, onto, uses_at}
 use Rattle.turn_laws.specs.Holdings.{Actor, End, Holding, IsOwned, Use, uses_after}
 use Rattle.turn_laws.specs.Columns.{mark}
 use Rattle.turn_laws.specs.Owned.{Lawful, Owned}
@@ -55,20 +55,16 @@ lawful-run boxes (turn ∷ past) book local stands =
     let parts : (mid : Book) × EntersAll empty (calls_of past) mid × EntersAll mid turn.calls book = enters_all-append (calls_of past) turn.calls empty book stands in
     let rest : List Move = uses_of turn.event turn.step.verdict ++ map (λ seal. Seals (key_iv seal)) turn.step.seals in
     let may : MayDoAll (acts_of past) (actor_of turn) (map Calls turn.calls) × MayDoAll (onto (actor_of turn) (map Calls turn.calls) (acts_of past)) (actor_of turn) rest =
-        may_do-append (actor_of turn) (map Calls turn.calls) rest (acts_of past) (turn-well boxes past parts.0 turn local.0 local.1 parts.1) in
+    may_do-append (actor_of turn) (map Calls turn.calls) rest (acts_of past) (turn-well boxes past parts.0 turn local.0 local.1 parts.1) in
     subst (λ acts. Lawful acts book) (sym (onto-append (actor_of turn) (map Calls turn.calls) rest (acts_of past)))
     (lawful-quiet (actor_of turn) rest (onto (actor_of turn) (map Calls turn.calls) (acts_of past)) book
-        (all-append LeavesBook (uses_of turn.event turn.step.verdict) (map (λ seal. Seals (key_iv seal)) turn.step.seals) (uses-leave turn.event turn.step.verdict) (seals-leave turn.step.seals))
-        (lawful-calls (actor_of turn) turn.calls (acts_of past) parts.0 book (lawful-run boxes past parts.0 local.1 parts.1) parts.2 may.0)
-        may.1)
+    (all-append LeavesBook (uses_of turn.event turn.step.verdict) (map (λ seal. Seals (key_iv seal)) turn.step.seals) (uses-leave turn.event turn.step.verdict) (seals-leave turn.step.seals))
+    (lawful-calls (actor_of turn) turn.calls (acts_of past) parts.0 book (lawful-run boxes past parts.0 local.1 parts.1) parts.2 may.0)
+    may.1)
 
 -- all is owned
 pub owned-run : (boxes : ℕ) (past : List Turn) (book : Book) → Local boxes past → Stands past book → Owned (acts_of past) book
 owned-run boxes past book local stands = owned-lawful (acts_of past) book (lawful-run boxes past book local stands)
-
--- the numbers of a place that were used
-abbrev pub numbers_at : Place → List Act → List ℕ
-numbers_at p acts = map (λ u. u.number) (uses_at p acts)
 
 pub numbers-once : (boxes : ℕ) (past : List Turn) (book : Book) → Local boxes past → Stands past book → (p : Place) → IsEachOnce (numbers_at p (acts_of past))
 numbers-once boxes past book local stands p = ((owned-run boxes past book local stands).numbers p).once

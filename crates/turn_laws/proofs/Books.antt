@@ -19,10 +19,9 @@ use Rattle.keeper_book.specs.declared.records.Record.{Record}
 use Rattle.keeper_book.specs.declared.records.Taken.{Taken}
 use Rattle.turn_laws.proofs.Columns.{goes_on-refl, mark-high}
 use Rattle.turn_laws.proofs.Entries.{entry_after, entry-entered, five_at-with_five, goes_on-ours, goes_on-theirs, is_counter-same, new-taken_over, new-theirs}
-use Rattle.turn_laws.proofs.Holdings.{IsNew}
 use Rattle.turn_laws.specs.Acts.{begun, begun_theirs}
 use Rattle.turn_laws.specs.Columns.{GoesOn, IsRising, mark}
-use Rattle.turn_laws.specs.Holdings.{Actor, Holding}
+use Rattle.turn_laws.specs.Holdings.{Actor, Holding, IsNew}
 use Rattle.turn_laws.specs.Places.{Ours, Place, Theirs, column, column_ours, column_theirs}
 use Rattle.turn_rules.specs.Held.{first_of}
 
@@ -117,10 +116,10 @@ module _ (old new : Book) (held : Actor → Option Holding) (w : Actor) where
       go shows =
           let here : (spir == spir) ≡ true = eq-eqb spir spir refl in
           let now : entry_of spir new.entries ≡ Some (taken_over member shows.entry) =
-              ap (λ (b : Book). entry_of spir b.entries) (after-granted old new (ask.TakeOver spir member) shows.granted a.1)
-              ∙ (entry-entered spir old (ask.TakeOver spir member)
-              ∙ (ap (λ b. if b then option_map (taken_over member) (entry_of spir old.entries) else entry_of spir old.entries) here
-              ∙ ap (option_map (taken_over member)) shows.found)) in
+          ap (λ (b : Book). entry_of spir b.entries) (after-granted old new (ask.TakeOver spir member) shows.granted a.1)
+          ∙ (entry-entered spir old (ask.TakeOver spir member)
+          ∙ (ap (λ b. if b then option_map (taken_over member) (entry_of spir old.entries) else entry_of spir old.entries) here
+          ∙ ap (option_map (taken_over member)) shows.found)) in
           subst (λ o. IsNew (column (Ours spir c) old) (column_ours c o) (begun c taken)) (sym now)
           (subst (λ o. IsNew (column_ours c o) (column_ours c (Some (taken_over member shows.entry))) (begun c taken)) (sym shows.found)
           (subst (λ t. IsNew (column_ours c (Some shows.entry)) (column_ours c (Some (taken_over member shows.entry))) (begun c t)) (sym shows.is)
@@ -133,10 +132,10 @@ module _ (old new : Book) (held : Actor → Option Holding) (w : Actor) where
       let was : entry_of sa.spir old.entries ≡ None = shows-entered sa old.entries granted in
       let here : (sa.spir == sa.spir) ≡ true = eq-eqb sa.spir sa.spir refl in
       let now : entry_of sa.spir new.entries ≡ Some (fresh sa) =
-          ap (λ (b : Book). entry_of sa.spir b.entries) (after-granted old new (ask.Enter sa) granted a.1)
-          ∙ (entry-entered sa.spir old (ask.Enter sa)
-          ∙ (ap (λ o. first_of o (if sa.spir == sa.spir then Some (fresh sa) else None)) was
-          ∙ ap (λ b. if b then Some (fresh sa) else None) here)) in
+      ap (λ (b : Book). entry_of sa.spir b.entries) (after-granted old new (ask.Enter sa) granted a.1)
+      ∙ (entry-entered sa.spir old (ask.Enter sa)
+      ∙ (ap (λ o. first_of o (if sa.spir == sa.spir then Some (fresh sa) else None)) was
+      ∙ ap (λ b. if b then Some (fresh sa) else None) here)) in
       subst (λ o. IsNew (column (Theirs sa.spir c) old) (column_theirs c o) (begun_theirs c sa)) (sym now)
       (subst (λ o. IsNew (column_theirs c o) (column_theirs c (Some (fresh sa))) (begun_theirs c sa)) (sym was) (new-theirs c sa))
 
@@ -149,14 +148,14 @@ module _ (old new : Book) (held : Actor → Option Holding) (w : Actor) where
       go : refusal old asked ≡ None → ShowsCovered (entry_of spir old.entries) named epoch → upto ≤ mark (column (Ours spir c) new) epoch
       go granted shows =
           let now : entry_of spir new.entries ≡ Some (raised c upto shows.entry) =
-              ap (λ (b : Book). entry_of spir b.entries) (after-granted old new asked granted enters)
-              ∙ (entry-entered spir old asked
-              ∙ (edits
-              ∙ (ap (option_map (raised_at named upto)) shows.found
-              ∙ ap (λ d. Some (raised_at d upto shows.entry)) is))) in
+          ap (λ (b : Book). entry_of spir b.entries) (after-granted old new asked granted enters)
+          ∙ (entry-entered spir old asked
+          ∙ (edits
+          ∙ (ap (option_map (raised_at named upto)) shows.found
+          ∙ ap (λ d. Some (raised_at d upto shows.entry)) is))) in
           let top : mark (column_ours c (Some (raised c upto shows.entry))) epoch ≡ five_at (raised c upto shows.entry).highs c =
-              mark-high (column_ours c (Some (raised c upto shows.entry))) epoch (let a : length (map (λ five. five_at five c) shows.entry.bases) ≡ length shows.entry.bases = length-map shows.entry.bases (λ five. five_at five c) in let b : epoch ≡ length shows.entry.bases = shows.is_last in omega arith) in
+          mark-high (column_ours c (Some (raised c upto shows.entry))) epoch (let a : length (map (λ five. five_at five c) shows.entry.bases) ≡ length shows.entry.bases = length-map shows.entry.bases (λ five. five_at five c) in let b : epoch ≡ length shows.entry.bases = shows.is_last in omega arith) in
           let high : five_at (raised c upto shows.entry).highs c ≡ max (five_at shows.entry.highs c) (min upto (end_of c)) =
-              five_at-with_five c c (max (five_at shows.entry.highs c) (min upto (end_of c))) shows.entry.highs
-              ∙ ap (λ b. if b then max (five_at shows.entry.highs c) (min upto (end_of c)) else five_at shows.entry.highs c) (is_counter-same c) in
+          five_at-with_five c c (max (five_at shows.entry.highs c) (min upto (end_of c))) shows.entry.highs
+          ∙ ap (λ b. if b then max (five_at shows.entry.highs c) (min upto (end_of c)) else five_at shows.entry.highs c) (is_counter-same c) in
           subst (λ o. upto ≤ mark (column_ours c o) epoch) (sym now) (omega arith)

@@ -13,9 +13,9 @@ use Rattle.keeper_book.specs.declared.counters.Counter.TheVariants as counter
 use Rattle.keeper_book.specs.declared.counters.Five.{Five}
 use Rattle.keeper_book.specs.declared.records.Record.{Record}
 use Rattle.turn_laws.proofs.Columns.{goes_on-epoch, goes_on-first, goes_on-higher, goes_on-refl, length-append_one, mark-high, mark-with_epoch, rising-none, rising-one, with_epoch}
-use Rattle.turn_laws.proofs.Holdings.{IsNew}
 use Rattle.turn_laws.specs.Acts.{begun, begun_theirs}
 use Rattle.turn_laws.specs.Columns.{Column, GoesOn, IsRising, mark, nothing}
+use Rattle.turn_laws.specs.Holdings.{IsNew}
 use Rattle.turn_laws.specs.Places.{column_ours, column_theirs, mirrored, start_of}
 use Rattle.turn_rules.specs.Held.{first_of, is_counter}
 

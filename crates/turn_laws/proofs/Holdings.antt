@@ -6,7 +6,7 @@ use Rattle.std.specs.List.{AllByRecursion}
 use Rattle.std.specs.Option.{option_map}
 use Rattle.turn_laws.proofs.Columns.{mark-goes_on}
 use Rattle.turn_laws.specs.Columns.{Column, GoesOn, mark}
-use Rattle.turn_laws.specs.Holdings.{Actor, Begins, Draws, Effect, End, Holding, IsHoldingOf, IsNotIn, IsOwned, IsUseOf, MayUse, Nothing, Rises, Run, Use, drawn, epoch_of, held_after, is_actor, raised_to, uses_after}
+use Rattle.turn_laws.specs.Holdings.{Actor, Begins, Draws, Effect, End, Holding, IsHoldingOf, IsNew, IsNotIn, IsOwned, IsUseOf, MayUse, Nothing, Rises, Run, Use, drawn, epoch_of, held_after, is_actor, raised_to, uses_after}
 use Rattle.turn_rules.specs.Ends.{Member, Peer, Performer, is_performer}
 
 pub all-map : {X : Type 0} {P Q : X → Type 0} (xs : List X) → ((x : X) → P x → Q x) → AllByRecursion P xs → AllByRecursion Q xs
@@ -75,12 +75,6 @@ owned-agrees held now uses column owned same = record {
   once = owned.once;
 }
 
--- An epoch that nobody holds yet: it is the one that began last, and no number of it was used.
-pub record IsNew (old new : Column) (h : Holding) : Type 0 where
-  pub next_epoch : h.epoch ≡ length old.bases + 1
-  pub of_column : IsHoldingOf new h
-  pub unused : h.numbers ≡ []
-
 module _ (held : Actor → Option Holding) (uses : List Use) (column : Column) (owned : IsOwned held uses column) where
   -- no number of an epoch to come was used
   none_used : (epoch : ℕ) → length column.bases < epoch → (n : ℕ) → AllByRecursion (λ u. u.epoch ≡ epoch → u.number ≢ n) uses
@@ -107,11 +101,11 @@ owned-begins held uses old new w h owned goes fresh = record {
       (λ was. holding-goes_on old new g goes (owned.holdings v g was));
   alone = λ v u g k eg ek same. changed_cases held uses old owned w (Some h) v g eg
       (λ wv isg. changed_cases held uses old owned w (Some h) u k ek
-          (λ wu isk. sym wv ∙ wu)
-          (λ was. absurd (later u k was (sym same ∙ sym (ap (λ (x : Holding). x.epoch) (same_Some h g isg))))))
+      (λ wu isk. sym wv ∙ wu)
+      (λ was. absurd (later u k was (sym same ∙ sym (ap (λ (x : Holding). x.epoch) (same_Some h g isg))))))
       (λ wasg. changed_cases held uses old owned w (Some h) u k ek
-          (λ wu isk. absurd (later v g wasg (same ∙ sym (ap (λ (x : Holding). x.epoch) (same_Some h k isk)))))
-          (λ wask. owned.alone v u g k wasg wask same));
+      (λ wu isk. absurd (later v g wasg (same ∙ sym (ap (λ (x : Holding). x.epoch) (same_Some h k isk)))))
+      (λ wask. owned.alone v u g k wasg wask same));
   within = all-map uses (λ u. use-goes_on old new u goes) owned.within;
   known = λ v g e n none. changed_cases held uses old owned w (Some h) v g e
       (λ same is. subst (λ (x : Holding). AllByRecursion (λ u. u.epoch ≡ x.epoch → u.number ≢ n) uses) (same_Some h g is) (none_used held uses old owned h.epoch is_later n))
@@ -133,11 +127,11 @@ module _ (held : Actor → Option Holding) (uses : List Use) (column : Column) (
   alone-changed : (to : Holding) → to.epoch ≡ h.epoch → (v u : Actor) (g k : Holding) → changed held uses column owned w (Some to) v ≡ Some g → changed held uses column owned w (Some to) u ≡ Some k → g.epoch ≡ k.epoch → v ≡ u
   alone-changed to epoch v u g k eg ek same = changed_cases held uses column owned w (Some to) v g eg
       (λ wv isg. changed_cases held uses column owned w (Some to) u k ek
-          (λ wu isk. sym wv ∙ wu)
-          (λ wask. sym wv ∙ owned.alone w u h k holds wask (sym epoch ∙ (ap (λ (x : Holding). x.epoch) (same_Some to g isg) ∙ same))))
+      (λ wu isk. sym wv ∙ wu)
+      (λ wask. sym wv ∙ owned.alone w u h k holds wask (sym epoch ∙ (ap (λ (x : Holding). x.epoch) (same_Some to g isg) ∙ same))))
       (λ wasg. changed_cases held uses column owned w (Some to) u k ek
-          (λ wu isk. owned.alone v w g h wasg holds (same ∙ (sym (ap (λ (x : Holding). x.epoch) (same_Some to k isk)) ∙ epoch)) ∙ wu)
-          (λ wask. owned.alone v u g k wasg wask same))
+      (λ wu isk. owned.alone v w g h wasg holds (same ∙ (sym (ap (λ (x : Holding). x.epoch) (same_Some to k isk)) ∙ epoch)) ∙ wu)
+      (λ wask. owned.alone v u g k wasg wask same))
 
   holdings-changed : (to : Holding) → IsHoldingOf column to → (v : Actor) (g : Holding) → changed held uses column owned w (Some to) v ≡ Some g → IsHoldingOf column g
   holdings-changed to of v g e = changed_cases held uses column owned w (Some to) v g e
@@ -153,9 +147,9 @@ module _ (held : Actor → Option Holding) (uses : List Use) (column : Column) (
     within = owned.within;
     known = λ v g e n none. changed_cases held uses column owned w (Some (raised_to upto h)) v g e
         (λ same is.
-            let q : raised_to upto h ≡ g = same_Some (raised_to upto h) g is in
-            subst (λ (x : Holding). AllByRecursion (λ u. u.epoch ≡ x.epoch → u.number ≢ n) uses) q
-            (owned.known w h holds n (subst (λ (x : Holding). IsNotIn n x.numbers) (sym q) none)))
+        let q : raised_to upto h ≡ g = same_Some (raised_to upto h) g is in
+        subst (λ (x : Holding). AllByRecursion (λ u. u.epoch ≡ x.epoch → u.number ≢ n) uses) q
+        (owned.known w h holds n (subst (λ (x : Holding). IsNotIn n x.numbers) (sym q) none)))
         (λ was. owned.known v g was n none);
     once = owned.once;
   }
@@ -180,10 +174,10 @@ module _ (held : Actor → Option Holding) (uses : List Use) (column : Column) (
     within = (of, owned.within);
     known = λ v g e k none. changed_cases held uses column owned w (Some (drawn n h)) v g e
         (λ same is.
-            let q : drawn n h ≡ g = same_Some (drawn n h) g is in
-            let others : IsNotIn k (n ∷ h.numbers) = subst (λ (x : Holding). IsNotIn k x.numbers) (sym q) none in
-            subst (λ (x : Holding). AllByRecursion (λ u. u.epoch ≡ x.epoch → u.number ≢ k) (record { epoch = h.epoch; number = n } ∷ uses)) q
-            (((λ eq. others.0), owned.known w h holds k others.1)))
+        let q : drawn n h ≡ g = same_Some (drawn n h) g is in
+        let others : IsNotIn k (n ∷ h.numbers) = subst (λ (x : Holding). IsNotIn k x.numbers) (sym q) none in
+        subst (λ (x : Holding). AllByRecursion (λ u. u.epoch ≡ x.epoch → u.number ≢ k) (record { epoch = h.epoch; number = n } ∷ uses)) q
+        (((λ eq. others.0), owned.known w h holds k others.1)))
         (λ wasg. ((λ eq. other_epoch v g k e wasg none eq), owned.known v g wasg k none));
     once = (not_used uses owned.within (owned.known w h holds n may.unused), owned.once);
   }
@@ -268,7 +262,7 @@ owned-after held uses old new (Draws w n) owned keeps =
     let e : held w ≡ Some h = keeps.2 in
     subst (λ us. IsOwned (held_after (Draws w n) held) us new) (ap (λ x. record { epoch = epoch_of x; number = n } ∷ uses) (sym e))
     (owned-agrees (changed held uses new later w (Some (drawn n h))) (held_after (Draws w n) held) (record { epoch = h.epoch; number = n } ∷ uses) new
-        (owned-drawn held uses new later w h e n keeps.3) (λ v. same h e v (is_actor w v) refl))
+    (owned-drawn held uses new later w h e n keeps.3) (λ v. same h e v (is_actor w v) refl))
   where
     later : IsOwned held uses new
     later = owned-goes_on held uses old new owned keeps.0

@@ -10,3 +10,4 @@ mod Records
 mod Well
 mod All
 mod Sealed
+mod Safe

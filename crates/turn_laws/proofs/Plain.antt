@@ -44,10 +44,9 @@ unless_refusing false why calls verdict refused otherwise r = otherwise r
 
 -- calls that make a number ready are covers, and then come those that follow
 module _ (R : List Call → Type 0) (r : Reach) (at : ℕ) (stops : Stop → List Call → Type 0) (goes : ℕ → List Call → Type 0)
-  (step : (call : Call) (rest : List Call) → call.asked ≡ ask.Cover r.spir r.name.kind r.name.child r.epoch (cover_of r.counter at) → R rest → R (call ∷ rest))
-  (stopped : (why : Stop) (rest : List Call) → stops why rest → R rest)
-  (gone : (high : ℕ) (rest : List Call) → goes high rest → R rest) where
-
+    (step : (call : Call) (rest : List Call) → call.asked ≡ ask.Cover r.spir r.name.kind r.name.child r.epoch (cover_of r.counter at) → R rest → R (call ∷ rest))
+    (stopped : (why : Stop) (rest : List Call) → stops why rest → R rest)
+    (gone : (high : ℕ) (rest : List Call) → goes high rest → R rest) where
   answered-calls : (answered : KeeperAnswer) (rest : List Call) → Answered answered (λ why. stops why rest) (goes (cover_of r.counter at) rest) → R rest
   answered-calls answer.Done rest a = gone (cover_of r.counter at) rest a
   answered-calls (answer.Taken taken) rest a = absurd a

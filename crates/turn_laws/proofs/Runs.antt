@@ -171,6 +171,6 @@ module _ (spir : ℕ) (c : Counter) (w : Actor) where
   held-covers (call ∷ calls) acts none =
       held-covers calls (record { by = w; move = Calls call } ∷ acts) none.1
       ∙ (ap (option_map (covered_by calls))
-          (by_answers (held_at (Ours spir c) acts) (granted spir call.asked (seen call)) (covered spir c call.asked (seen call)) (held_at (Ours spir c) acts w) refl
-          ∙ ap (λ g. first_of (option_map (begun c) g) (option_map (raised_by (covered spir c call.asked (seen call))) (held_at (Ours spir c) acts w))) none.0)
+      (by_answers (held_at (Ours spir c) acts) (granted spir call.asked (seen call)) (covered spir c call.asked (seen call)) (held_at (Ours spir c) acts w) refl
+      ∙ ap (λ g. first_of (option_map (begun c) g) (option_map (raised_by (covered spir c call.asked (seen call))) (held_at (Ours spir c) acts w))) none.0)
       ∙ covered_more call calls (held_at (Ours spir c) acts w))

@@ -17,10 +17,10 @@ use Rattle.keeper_book.specs.declared.faults.KeeperFault.TheVariants as fault
 use Rattle.turn_laws.proofs.Books.{ShowsCovered, answers-entry, column-goes_on, keeps-covered, keeps-entered, keeps-taken, shows-covered}
 use Rattle.turn_laws.proofs.Columns.{goes_on-refl, rising-none}
 use Rattle.turn_laws.proofs.Entries.{entry_after, entry-entered, is_counter-true}
-use Rattle.turn_laws.proofs.Holdings.{IsNew, Keeps, owned-after}
+use Rattle.turn_laws.proofs.Holdings.{Keeps, owned-after}
 use Rattle.turn_laws.specs.Acts.{Act, Calls, Ends, HoldsFor, MayAsk, MayCover, MayDo, Move, Seals, Uses, begun_theirs, effect_of, effect_of_call, effect_of_use, held_at, uses_at}
 use Rattle.turn_laws.specs.Columns.{GoesOn, IsRising, mark, nothing}
-use Rattle.turn_laws.specs.Holdings.{Actor, Draws, Holding, IsOwned, Nothing}
+use Rattle.turn_laws.specs.Holdings.{Actor, Draws, Holding, IsNew, IsOwned, Nothing}
 use Rattle.turn_laws.specs.Owned.{Lawful, Owned, Writes}
 use Rattle.turn_laws.specs.Places.{Ours, Place, Theirs, column, is_place, place_of}
 use Rattle.turn_rules.specs.Held.{is_counter, is_named}
@@ -61,15 +61,15 @@ module _ (acts : List Act) (old new : Book) (w : Actor) where
             let same : asked ≡ spir = eqb-true asked spir t in
             let is : counter_named kind child ≡ Some c = named-counter c (counter_named kind child) named in
             let cover : MayCover (held_at (Ours spir c) acts w) c epoch upto =
-                subst (λ n. MayCover (held_at (Ours n c) acts w) c epoch upto) same
-                (subst (λ o. MatchOption o ⊥ (λ d. MayCover (held_at (Ours asked d) acts w) d epoch upto)) is may) in
+            subst (λ n. MayCover (held_at (Ours n c) acts w) c epoch upto) same
+            (subst (λ o. MatchOption o ⊥ (λ d. MayCover (held_at (Ours asked d) acts w) d epoch upto)) is may) in
             let held : h ≡ cover.holding = same_Some h cover.holding (sym holds ∙ cover.holds) in
             let at : h.epoch ≡ epoch = ap (λ (x : Holding). x.epoch) held ∙ cover.in_epoch in
             subst (λ e. upto ≤ mark (column (Ours spir c) new) e) (sym at)
             (keeps-covered old new (held_at (Ours spir c) acts) w spir c (ask.Cover asked kind child epoch upto) (counter_named kind child) epoch upto
-                (ap (λ n. cover_refusal (entry_of n old.entries) (counter_named kind child) epoch) same) is
-                (ap (λ b. if b then option_map (raised_at (counter_named kind child) upto) (entry_of spir old.entries) else entry_of spir old.entries) t)
-                cover.within_end a.0 a.1)
+            (ap (λ n. cover_refusal (entry_of n old.entries) (counter_named kind child) epoch) same) is
+            (ap (λ b. if b then option_map (raised_at (counter_named kind child) upto) (entry_of spir old.entries) else entry_of spir old.entries) t)
+            cover.within_end a.0 a.1)
 
         by_test : (b : Bool) → ((asked == spir) && is_named c (counter_named kind child)) ≡ b → Keeps (effect_of_call (Ours spir c) w (ask.Cover asked kind child epoch upto) answer.Done) (held_at (Ours spir c) acts) (column (Ours spir c) old) (column (Ours spir c) new)
         by_test true t = rw t (goes, raises (and_parts (asked == spir) (is_named c (counter_named kind child)) t).0 (and_parts (asked == spir) (is_named c (counter_named kind child)) t).1)
@@ -175,7 +175,7 @@ module _ (acts : List Act) (old new : Book) (w : Actor) where
     starts-call call may enters spir e found none = ⊎_elim
         (λ same. owned.starts spir e (sym (ap (λ (b : Book). entry_of spir b.entries) same) ∙ found) none)
         (λ has. starts-entry spir call.asked may has.granted (entry_of spir old.entries) refl e
-            (sym (entry-entered spir old call.asked) ∙ (sym (ap (λ (b : Book). entry_of spir b.entries) has.is) ∙ found)) none)
+        (sym (entry-entered spir old call.asked) ∙ (sym (ap (λ (b : Book). entry_of spir b.entries) has.is) ∙ found)) none)
         (answers-entry old new call.asked call.answer enters)
 
     starts-move : (move : Move) → MayDo acts w move → Writes old move new → (spir : ℕ) (e : Entry) → entry_of spir new.entries ≡ Some e → e.bases ≡ [] → e.highs ≡ e.sa.starts

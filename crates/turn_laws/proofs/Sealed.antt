@@ -11,10 +11,10 @@ use Rattle.event_text.specs.declared.verdict.Verdict.TheVariants as out
 use Rattle.keeper_book.specs.Book.{Book}
 use Rattle.keeper_book.specs.declared.calls.Call.{Call}
 use Rattle.keeper_book.specs.declared.counters.Counter.TheVariants as counter
-use Rattle.turn_laws.proofs.All.{lawful-run, numbers_at}
+use Rattle.turn_laws.proofs.All.{lawful-run}
 use Rattle.turn_laws.proofs.Entries.{is_counter-same}
 use Rattle.turn_laws.proofs.Safety.{owned-lawful}
-use Rattle.turn_laws.specs.Acts.{Act, Calls, Ends, HoldsFor, MayDo, Move, Seals, Uses, effect_of, effect_of_use, held_at, onto, uses_at}
+use Rattle.turn_laws.specs.Acts.{Act, Calls, Ends, HoldsFor, MayDo, Move, Seals, Uses, effect_of, effect_of_use, held_at, numbers_at, onto, uses_at}
 use Rattle.turn_laws.specs.Holdings.{Actor, Begins, Draws, Effect, Holding, IsNotIn, Nothing, Rises, Use, uses_after}
 use Rattle.turn_laws.specs.Owned.{Lawful, Owned}
 use Rattle.turn_laws.specs.Places.{Ours, Place, Theirs, is_place, place_of}
@@ -84,9 +84,9 @@ sealed-once (act ∷ acts) book lawful = by_move act.move refl (sealed-once acts
         new-key key (Some p) e may is =
             let here : is_place p p ≡ true = is_place-same p in
             let effect : effect_of p act.by act.move ≡ Draws act.by key.iv =
-                ap (effect_of p act.by) is ∙ (ap (λ q. effect_of_use p q act.by key.iv) e ∙ ap (λ b. if b then Draws act.by key.iv else Nothing) here) in
+            ap (effect_of p act.by) is ∙ (ap (λ q. effect_of_use p q act.by key.iv) e ∙ ap (λ b. if b then Draws act.by key.iv else Nothing) here) in
             let once : IsEachOnce (map (λ u. u.number) (uses_after (Draws act.by key.iv) (held_at p acts) (uses_at p acts))) =
-                subst (λ x. IsEachOnce (map (λ u. u.number) (uses_after x (held_at p acts) (uses_at p acts)))) effect (owned.numbers p).once in
+            subst (λ x. IsEachOnce (map (λ u. u.number) (uses_after x (held_at p acts) (uses_at p acts)))) effect (owned.numbers p).once in
             all-more (sealed_in acts)
             (λ y other same. other (ap (λ (k : KeyIv). place_of k.name) same ∙ e) (ap (λ (k : KeyIv). k.iv) same))
             (not-sealed p key.iv acts once.0)
@@ -128,7 +128,7 @@ module _ (w : Actor) where
       let rest : IsEachOnce ((before ++ map key_iv seals) ++ (key_iv seal ∷ sealed_in acts)) = sealed-seals seals before (record { by = w; move = Seals (key_iv seal) } ∷ acts) once in
       let front : IsEachOnce (key_iv seal ∷ ((before ++ map key_iv seals) ++ sealed_in acts)) = each_once-out (before ++ map key_iv seals) (key_iv seal) (sealed_in acts) rest in
       let inside : IsEachOnce (before ++ (key_iv seal ∷ (map key_iv seals ++ sealed_in acts))) =
-          each_once-in before (key_iv seal) (map key_iv seals ++ sealed_in acts) (subst (λ ks. IsEachOnce (key_iv seal ∷ ks)) (append_assoc before (map key_iv seals) (sealed_in acts)) front) in
+      each_once-in before (key_iv seal) (map key_iv seals ++ sealed_in acts) (subst (λ ks. IsEachOnce (key_iv seal ∷ ks)) (append_assoc before (map key_iv seals) (sealed_in acts)) front) in
       subst (λ ks. IsEachOnce ks) (sym (append_assoc before (key_iv seal ∷ map key_iv seals) (sealed_in acts))) inside
 
 -- the keys and IVs of turns are those of their acts
@@ -141,7 +141,7 @@ key_ivs-once (turn ∷ past) before once =
     let two = sealed-uses w turn.event turn.step.verdict seals one.0 in
     let moved : IsEachOnce (before ++ sealed_in (onto w seals two.0)) = subst (λ acts. IsEachOnce (before ++ sealed_in acts)) (one.1 ∙ two.1) once in
     let apart : IsEachOnce ((before ++ map key_iv turn.step.seals) ++ sealed_in (acts_of past)) =
-        subst (λ ks. IsEachOnce ((before ++ map key_iv turn.step.seals) ++ ks)) (two.2 ∙ one.2) (sealed-seals w turn.step.seals before two.0 moved) in
+    subst (λ ks. IsEachOnce ((before ++ map key_iv turn.step.seals) ++ ks)) (two.2 ∙ one.2) (sealed-seals w turn.step.seals before two.0 moved) in
     subst (λ ks. IsEachOnce ks) (append_assoc before (map key_iv turn.step.seals) (key_ivs past))
     (key_ivs-once past (before ++ map key_iv turn.step.seals) apart)
 

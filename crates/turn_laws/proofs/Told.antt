@@ -124,7 +124,7 @@ module _ (spir : ℕ) (c : Counter) (w : Actor) (event : Event) (calls : List Ca
       one : (call : Call) × (calls ≡ call ∷ []) × (used spir c event verdict ≡ None) → option_map (noted (used spir c event verdict)) (held_at (Ours spir c) (onto w (map Calls calls) acts) w) ≡ told_after spir c event calls verdict (held_at (Ours spir c) acts w)
       one is =
           ap (option_map (noted (used spir c event verdict)))
-              (subst (λ cs. held_at (Ours spir c) (onto w (map Calls cs) acts) w ≡ first_of (option_map (begun c) (grant_in spir cs)) (option_map (covered_by spir c w cs) (held_at (Ours spir c) acts w))) (sym is.1) (held-call spir c w is.0 acts))
+          (subst (λ cs. held_at (Ours spir c) (onto w (map Calls cs) acts) w ≡ first_of (option_map (begun c) (grant_in spir cs)) (option_map (covered_by spir c w cs) (held_at (Ours spir c) acts w))) (sym is.1) (held-call spir c w is.0 acts))
           ∙ told_once (held_at (Ours spir c) acts w) is.2
 
 is_end-true : (end : Performer) (x : Option Performer) → is_end end x ≡ true → x ≡ Some end

@@ -67,14 +67,17 @@ tells mine spir c held is = go (found (grant_of spir) mine) refl is
   where
     go : (x : Option Taken) → found (grant_of spir) mine ≡ x → option_map (holding spir mine) x ≡ Some held → (h : Holding) × Tells mine spir c held h
     go None e is = absurd (cc)
-    go (Some taken) e is = subst (λ (y : Held). (h : Holding) × Tells mine spir c y h) (same_Some (holding spir mine taken) held is) (of, record {
-      told_so = ap (option_map {T = Taken} (λ t. record { epoch = t.epoch; base = five_at t.bases c; high = high_of spir c t.bases mine; numbers = filter_map (number_of spir c) (since spir mine) })) e;
-      epoch = refl;
-      base = refl;
-      high = sym (five_at-five_of (λ d. high_of spir d taken.bases mine) c);
-      may_base = let at : five_at (holding spir mine taken).nexts c ≡ next_of spir c taken.bases mine = five_at-five_of (λ d. next_of spir d taken.bases mine) c in let low : five_at taken.bases c ≤ next_of spir c taken.bases mine = greatest-least (five_at taken.bases c) (map (λ n. n + 1) (filter_map (number_of spir c) (since spir mine))) in omega arith;
-      unused = above-used (five_at taken.bases c) (five_at (holding spir mine taken).nexts c) (filter_map (number_of spir c) (since spir mine)) (five_at-five_of (λ d. next_of spir d taken.bases mine) c);
-    })
+    go (Some taken) e is = subst (λ (y : Held). (h : Holding) × Tells mine spir c y h) (same_Some (holding spir mine taken) held is) (
+      of,
+      record {
+        told_so = ap (option_map {T = Taken} (λ t. record { epoch = t.epoch; base = five_at t.bases c; high = high_of spir c t.bases mine; numbers = filter_map (number_of spir c) (since spir mine) })) e;
+        epoch = refl;
+        base = refl;
+        high = sym (five_at-five_of (λ d. high_of spir d taken.bases mine) c);
+        may_base = let at : five_at (holding spir mine taken).nexts c ≡ next_of spir c taken.bases mine = five_at-five_of (λ d. next_of spir d taken.bases mine) c in let low : five_at taken.bases c ≤ next_of spir c taken.bases mine = greatest-least (five_at taken.bases c) (map (λ n. n + 1) (filter_map (number_of spir c) (since spir mine))) in omega arith;
+        unused = above-used (five_at taken.bases c) (five_at (holding spir mine taken).nexts c) (filter_map (number_of spir c) (since spir mine)) (five_at-five_of (λ d. next_of spir d taken.bases mine) c);
+      },
+    )
       where
         of : Holding
         of = record { epoch = taken.epoch; base = five_at taken.bases c; high = high_of spir c taken.bases mine; numbers = filter_map (number_of spir c) (since spir mine) }
@@ -95,11 +98,10 @@ pub record IsReadied (h now : Holding) (at : ℕ) : Type 0 where
 
 -- Calls that make a number ready may be made, and then those that follow them.
 module _ (w : Actor) (R : List Act → List Call → Type 0) (r : Reach) (at : ℕ) (stops : Stop → List Call → Type 0) (goes : ℕ → List Call → Type 0)
-  (step : (acts : List Act) (call : Call) (rest : List Call) → MayDo acts w (Calls call) → R (record { by = w; move = Calls call } ∷ acts) rest → R acts (call ∷ rest))
-  (stopped : (acts : List Act) (why : Stop) (rest : List Call) → stops why rest → R acts rest)
-  (acts : List Act) (h : Holding) (holds : held_at (Ours r.spir r.counter) acts w ≡ Some h) (epoch : h.epoch ≡ r.epoch) (high : h.high ≡ r.high) (named : counter_named r.name.kind r.name.child ≡ Some r.counter)
-  (gone : (acts : List Act) (now : Holding) (high : ℕ) (rest : List Call) → held_at (Ours r.spir r.counter) acts w ≡ Some now → IsReadied h now at → goes high rest → R acts rest) where
-
+    (step : (acts : List Act) (call : Call) (rest : List Call) → MayDo acts w (Calls call) → R (record { by = w; move = Calls call } ∷ acts) rest → R acts (call ∷ rest))
+    (stopped : (acts : List Act) (why : Stop) (rest : List Call) → stops why rest → R acts rest)
+    (acts : List Act) (h : Holding) (holds : held_at (Ours r.spir r.counter) acts w ≡ Some h) (epoch : h.epoch ≡ r.epoch) (high : h.high ≡ r.high) (named : counter_named r.name.kind r.name.child ≡ Some r.counter)
+    (gone : (acts : List Act) (now : Holding) (high : ℕ) (rest : List Call) → held_at (Ours r.spir r.counter) acts w ≡ Some now → IsReadied h now at → goes high rest → R acts rest) where
   module _ (call : Call) (asked : call.asked ≡ ask.Cover r.spir r.name.kind r.name.child r.epoch (cover_of r.counter at)) where
     may_cover : MayDo acts w (Calls call)
     may_cover = rw (asked, named) (record { holding = h; holds = holds; in_epoch = epoch; within_end = omega arith })
@@ -184,15 +186,18 @@ module _ (member spir : ℕ) (mine : List Turn) (held : Held) (verdict : Verdict
       (λ acts call rest may more. (may, more))
       (λ acts why rest c. refused-well acts w (event.Draw member spir) (refusal_of_stop why) rest verdict c)
       acts h (subst (λ n. held_at (Ours n counter.EspOut) acts w ≡ Some h) (sym of_spir) (sym agrees ∙ tells.told_so)) tells.epoch tells.high refl
-      (λ acts now high rest holds readied c. rw (c.no_more, c.said) (record {
-        holding = now;
-        holds = subst (λ n. held_at (Ours n counter.EspOut) acts w ≡ Some now) of_spir holds;
-        may = record {
-          from_base = let base : now.base ≡ h.base = readied.base in let low : h.base ≤ five_at held.nexts counter.EspOut = tells.may_base in omega arith;
-          below_high = readied.above;
-          unused = subst (λ ns. IsNotIn (five_at held.nexts counter.EspOut) ns) (sym readied.numbers) tells.unused;
-        };
-      }, tt))
+      (λ acts now high rest holds readied c. rw (c.no_more, c.said) (
+        record {
+          holding = now;
+          holds = subst (λ n. held_at (Ours n counter.EspOut) acts w ≡ Some now) of_spir holds;
+          may = record {
+            from_base = let base : now.base ≡ h.base = readied.base in let low : h.base ≤ five_at held.nexts counter.EspOut = tells.may_base in omega arith;
+            below_high = readied.above;
+            unused = subst (λ ns. IsNotIn (five_at held.nexts counter.EspOut) ns) (sym readied.numbers) tells.unused;
+          };
+        },
+        tt,
+      ))
       calls d
 
 module _ (boxes : ℕ) (past : List Turn) (acts : List Act) (agrees : (member spir : ℕ) (c : Counter) → told spir c (own (Member member) past) ≡ held_at (Ours spir c) acts (End (Member member))) (records : HaveTheirRecords past) where

@@ -1,5 +1,5 @@
 -- What ends do, as data, and what it does to the numbers of each counter. A list of acts has the newest first.
-use Rattle.std.specs.Prelude.{ℕ, ◌≡◌, ◌≤◌, ◌==◌, Option, Some, None, MatchOption, List, [], ◌∷◌, if◌then◌else◌}
+use Rattle.std.specs.Prelude.{ℕ, ◌≡◌, ◌≤◌, ◌==◌, Option, Some, None, MatchOption, List, [], ◌∷◌, map, if◌then◌else◌}
 use Rattle.keeper_book.specs.Counters.{counter_named, end_of, five_at}
 use Rattle.keeper_book.specs.Told.{seen}
 use Rattle.keeper_book.specs.declared.calls.Call.{Call}
@@ -77,6 +77,9 @@ held_at p (act ∷ acts) = held_after (effect_of p act.by act.move) (held_at p a
 abbrev pub uses_at : Place → List Act → List Use
 uses_at p [] = []
 uses_at p (act ∷ acts) = uses_after (effect_of p act.by act.move) (held_at p acts) (uses_at p acts)
+
+abbrev pub numbers_at : Place → List Act → List ℕ
+numbers_at p acts = map (λ u. u.number) (uses_at p acts)
 
 -- a number is used of what is held
 pub record HoldsFor (held : Option Holding) (n : ℕ) : Type 0 where

@@ -1,5 +1,5 @@
 -- Who holds which numbers of one counter, and what one move makes of it.
-use Rattle.std.specs.Prelude.{ℕ, ◌-◌, ◌<◌, ◌≤◌, ◌≡◌, ◌≢◌, max, Bool, true, false, Option, Some, None, List, ◌∷◌, length, map, if◌then◌else◌}
+use Rattle.std.specs.Prelude.{ℕ, ◌+◌, ◌-◌, ◌<◌, ◌≤◌, ◌≡◌, ◌≢◌, max, Bool, true, false, Option, Some, None, List, [], ◌∷◌, length, map, if◌then◌else◌}
 use Rattle.std.specs.List.{AllByRecursion}
 use Rattle.std.specs.Option.{option_map}
 use Rattle.turn_laws.specs.Columns.{Column, IsRising, mark}
@@ -83,6 +83,12 @@ pub record IsUseOf (column : Column) (u : Use) : Type 0 where
   pub begun : u.epoch ≤ length column.bases
   pub from_base : mark column (u.epoch - 1) ≤ u.number
   pub below : u.number < mark column u.epoch
+
+-- a holding of the epoch that begins as the column goes on: nobody holds it yet, and no number of it was used
+pub record IsNew (old new : Column) (h : Holding) : Type 0 where
+  pub next_epoch : h.epoch ≡ length old.bases + 1
+  pub of_column : IsHoldingOf new h
+  pub unused : h.numbers ≡ []
 
 -- The numbers of one counter belong to one end each: what each end holds of it, and the numbers that were used.
 pub record IsOwned (held : Actor → Option Holding) (uses : List Use) (column : Column) : Type 0 where

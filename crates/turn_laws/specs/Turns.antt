@@ -45,14 +45,14 @@ acts_of [] = []
 acts_of (turn ∷ past) = onto (actor_of turn) (moves_of turn) (acts_of past)
 
 -- the numbers of the book's epochs belong to one end each, after these turns
-abbrev pub IsOwnedRun : List Turn → Book → Type 0
-IsOwnedRun past book = Owned (acts_of past) book
+abbrev pub AreOwned : List Turn → Book → Type 0
+AreOwned past book = Owned (acts_of past) book
 
 -- what an end with these turns of its own holds of a counter of the association, and what it used of it
 abbrev pub told : ℕ → Counter → List Turn → Option Holding
 told spir c past = option_map (λ taken. record {
-    epoch = taken.epoch;
-    base = five_at taken.bases c;
-    high = high_of spir c taken.bases past;
-    numbers = filter_map (number_of spir c) (since spir past);
-  }) (found (grant_of spir) past)
+  epoch = taken.epoch;
+  base = five_at taken.bases c;
+  high = high_of spir c taken.bases past;
+  numbers = filter_map (number_of spir c) (since spir past);
+}) (found (grant_of spir) past)

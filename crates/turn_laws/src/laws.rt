@@ -1,0 +1,104 @@
+//! The laws. Each is the contract of a function that does nothing.
+
+ghost use Rattle.std.specs.Prelude.{◌≡◌, ◌≢◌, ◌<◌, ◌≤◌, ◌⊎◌, ℕ, Option, Some, List, [], ◌∷◌};
+ghost use Rattle.std.specs.List.{filter_map};
+ghost use Rattle.event_text.specs.declared.turn.Turn.{Turn};
+ghost use Rattle.keeper_book.specs.Book.{Book, Enters, after};
+ghost use Rattle.keeper_book.specs.Counters.{five_at};
+ghost use Rattle.keeper_book.specs.declared.calls.Call.{Call};
+ghost use Rattle.keeper_book.specs.declared.calls.KeeperAnswer.TheVariants as answer;
+ghost use Rattle.keeper_book.specs.declared.counters.Counter.{Counter};
+ghost use Rattle.keeper_book.specs.declared.faults.KeeperFault.TheVariants as fault;
+ghost use Rattle.turn_laws.specs.Acts.{Act, Calls, Ends, MayAsk, MayDoAll, Move, held_at, numbers_at, onto};
+ghost use Rattle.turn_laws.specs.Columns.{Column, GoesOn, mark};
+ghost use Rattle.turn_laws.specs.Holdings.{Actor, Begins, Draws, End, Holding, IsNew, IsOwned, MayUse, Rises, Use, held_after, uses_after};
+ghost use Rattle.turn_laws.specs.Owned.{Owned};
+ghost use Rattle.turn_laws.specs.Places.{Ours, Place};
+ghost use Rattle.turn_laws.specs.Turns.{AreOwned, actor_of, acts_of, moves_of, told};
+ghost use Rattle.turn_rules.specs.Ends.{Member, own};
+ghost use Rattle.turn_rules.specs.Held.{Held, held_by, number_of};
+ghost use Rattle.turn_rules.specs.Local.{Local, Stands};
+ghost use Rattle.turn_rules.specs.Safe.{IsEachOnce, Safe};
+
+/// A call of the keeper keeps what is owned: one that is answered or refused by name, its answer seen or hidden, and one
+/// that failed, whether the book took its entry or was left.
+pub fn calls_keep_owned()
+    ensures answered { (acts : List Act) (w : Actor) (call : Call) (old new : Book) → Owned acts old → MayAsk acts w call.asked
+        → call.answer ≢ answer.Refused fault.Failed → Enters old call new → Owned (onto w (Calls call ∷ []) acts) new }
+    ensures failed { (acts : List Act) (w : Actor) (call : Call) (old new : Book) → Owned acts old → MayAsk acts w call.asked
+        → call.answer ≡ answer.Refused fault.Failed → (new ≡ old) ⊎ (new ≡ after old call.asked) → Owned (onto w (Calls call ∷ []) acts) new }
+{}
+
+/// The beginning of a holding of a new epoch keeps the numbers of a counter apart, also in place of an earlier holding of the
+/// same end.
+pub fn beginnings_keep_owned()
+    ensures { (held : Actor → Option Holding) (uses : List Use) (old new : Column) (w : Actor) (h : Holding)
+        → IsOwned held uses old → GoesOn old new → IsNew old new h → IsOwned (held_after (Begins w h) held) uses new }
+{}
+
+/// The rise of a holding's high, as far as its epoch goes, keeps the numbers of a counter apart.
+pub fn rises_keep_owned()
+    ensures { (held : Actor → Option Holding) (uses : List Use) (column : Column) (w : Actor) (upto : ℕ) → IsOwned held uses column
+        → ((h : Holding) → held w ≡ Some h → upto ≤ mark column h.epoch) → IsOwned (held_after (Rises w upto) held) uses column }
+{}
+
+/// The use of a number from a holding's base on and below its high, which the holder did not use, keeps the numbers of a
+/// counter apart.
+pub fn uses_keep_owned()
+    ensures { (held : Actor → Option Holding) (uses : List Use) (column : Column) (w : Actor) (h : Holding) (n : ℕ)
+        → IsOwned held uses column → held w ≡ Some h → MayUse h n
+        → IsOwned (held_after (Draws w n) held) (uses_after (Draws w n) held uses) column }
+{}
+
+/// The end of a member keeps what is owned: what it holds is used by nobody any more.
+pub fn ends_keep_owned()
+    ensures { (acts : List Act) (w : Actor) (book : Book) → Owned acts book → Owned (onto w (Ends ∷ []) acts) book }
+{}
+
+/// Moves leave what every other end holds.
+pub fn others_change_nothing()
+    ensures { (p : Place) (w v : Actor) → w ≢ v → (moves : List Move) (acts : List Act) → held_at p (onto w moves acts) v ≡ held_at p acts v }
+{}
+
+/// What a member's own turns say that it holds of a counter is what the moves of all turns make of it.
+pub fn own_turns_tell_holdings()
+    ensures { (boxes : ℕ) (past : List Turn) → Local boxes past → (member spir : ℕ) (c : Counter)
+        → told spir c (own (Member member) past) ≡ held_at (Ours spir c) (acts_of past) (End (Member member)) }
+{}
+
+/// Each event that is handled is a list of moves that may be made one after another.
+pub fn turns_are_moves()
+    ensures { (boxes : ℕ) (past : List Turn) (book : Book) (turn : Turn) → Local boxes (turn ∷ past) → Stands past book
+        → MayDoAll (acts_of past) (actor_of turn) (moves_of turn) }
+{}
+
+/// Where each turn is explained by its end's own turns, and the book is the one that the calls lead to, the numbers of the
+/// book's epochs belong to one end each.
+pub fn all_is_owned()
+    ensures { (boxes : ℕ) (past : List Turn) (book : Book) → Local boxes past → Stands past book → AreOwned past book }
+{}
+
+/// No number of a counter is used twice, by whatever ends: of no counter of the cluster or the peer, and in particular of no
+/// counter that events of members used.
+pub fn no_number_twice()
+    ensures places { (boxes : ℕ) (past : List Turn) (book : Book) → Local boxes past → Stands past book
+        → (p : Place) → IsEachOnce (numbers_at p (acts_of past)) }
+    ensures counters { (boxes : ℕ) (past : List Turn) (book : Book) → Local boxes past → Stands past book
+        → (spir : ℕ) (c : Counter) → IsEachOnce (filter_map (number_of spir c) past) }
+{}
+
+/// Two members that hold an association, the replaced ones too, hold different epochs, and where an earlier epoch's highs
+/// end, the later one's bases have not begun.
+pub fn holdings_are_apart()
+    ensures epochs { (boxes : ℕ) (past : List Turn) (book : Book) → Local boxes past → Stands past book
+        → (m k spir : ℕ) (h g : Held) → held_by (own (Member m) past) spir ≡ Some h → held_by (own (Member k) past) spir ≡ Some g
+        → h.epoch ≡ g.epoch → m ≡ k }
+    ensures highs { (boxes : ℕ) (past : List Turn) (book : Book) → Local boxes past → Stands past book
+        → (m k spir : ℕ) (h g : Held) → held_by (own (Member m) past) spir ≡ Some h → held_by (own (Member k) past) spir ≡ Some g
+        → h.epoch < g.epoch → (c : Counter) → five_at h.highs c ≤ five_at g.bases c }
+{}
+
+/// What holds across the ends: no key and IV seals two plaintexts, since an IV is a number of its key's counter.
+pub fn runs_are_safe()
+    ensures { (boxes : ℕ) (past : List Turn) (book : Book) → Local boxes past → Stands past book → Safe past }
+{}
