@@ -10,16 +10,17 @@ use Rattle.ha_base.specs.declared.key_material.ChildKeys.{ChildKeys}
 use Rattle.ha_base.specs.declared.outside.Moment.{Moment}
 use Rattle.keeper_book.specs.declared.counters.Five.{Five}
 use Rattle.keeper_book.specs.Records.{sealing_key_octets}
-use Rattle.event_text.specs.declared.fault.LineFault.{LineFault}
-use Rattle.event_text.specs.declared.fault.LineReason.TheVariants as reasons
-use Rattle.event_text.specs.Words.{Spot, line_of, words_of}
-use Rattle.event_text.specs.Numbers.{number_of}
+use Rattle.line_fields.specs.declared.fault.LineFault.{LineFault}
+use Rattle.line_fields.specs.declared.fault.LineReason.TheVariants as reasons
+use Rattle.line_fields.specs.Words.{Spot, line_of, words_of}
+use Rattle.line_fields.specs.Numbers.{number_of}
 use Rattle.event_text.specs.Events.{PlainEvent, Import, Join, Own, Draw}
-use Rattle.event_text.specs.Reading.{◌>>=◌, behind, child_keys_at, draw_at, ended_at, end_in, event_at, fault_at, fields_at, import_at, join_at, line_at, moment_at, own_at, sa_keys_at, starts_at, told_at, word_at, word_in}
+use Rattle.line_fields.specs.Fields.{◌>>=◌, behind, ended_at, end_in, fault_at, word_at, word_in}
+use Rattle.event_text.specs.Reading.{child_keys_at, draw_at, event_at, fields_at, import_at, join_at, line_at, moment_at, own_at, sa_keys_at, starts_at, told_at}
 use Rattle.event_text.specs.Grammar.{AreChildKeys, AreSaKeys, AreStarts, EventLine, Fits, child_key_words, event_words, five_words, line_words, sa_key_words}
-use Rattle.event_text.proofs.WordLaws.{line-words, words-line}
+use Rattle.line_fields.proofs.WordLaws.{line-words, words-line}
 use Rattle.event_text.proofs.SpacelessLaws.{line_spaceless}
-use Rattle.event_text.proofs.FieldLaws.{IsField, IsReader, column_behind, esp_spi_field, field_again, identity_field, key_size_field, number_field, ok_is, pick, reader, sized_field, spi_field, then_word, then_words, walk}
+use Rattle.line_fields.proofs.FieldLaws.{IsField, IsReader, column_behind, esp_spi_field, field_again, identity_field, key_size_field, number_field, ok_is, pick, reader, sized_field, spi_field, then_word, then_words, walk}
 
 member_field : IsField (number_of 0 (2 ^ 63)) decimal (λ n. n < 2 ^ 63)
 member_field = number_field (2 ^ 63) (lit≤ tt)

@@ -7,18 +7,19 @@ use Rattle.std.proofs.lemmas.List.{length-append}
 use Rattle.std.proofs.lemmas.Slice.Eq.{bytes_eq-Decides}
 use Rattle.std.specs.Str.{bytes_eq}
 use Rattle.ha_base.specs.declared.outside.Moment.{Moment}
-use Rattle.event_text.specs.declared.fault.LineFault.{LineFault}
-use Rattle.event_text.specs.declared.fault.LineReason.TheVariants as reasons
+use Rattle.line_fields.specs.declared.fault.LineFault.{LineFault}
+use Rattle.line_fields.specs.declared.fault.LineReason.TheVariants as reasons
 use Rattle.event_text.specs.declared.place.Place.{Place}
-use Rattle.event_text.specs.Words.{onto}
+use Rattle.line_fields.specs.Words.{onto}
 use Rattle.event_text.specs.Lines.{IsFile, IsLine, fed, is_passed, is_said, lines_of, no_feed, unfed}
 use Rattle.event_text.specs.Events.{PlainEvent}
-use Rattle.event_text.specs.Reading.{fault_at, line_at}
+use Rattle.line_fields.specs.Fields.{fault_at}
+use Rattle.event_text.specs.Reading.{line_at}
 use Rattle.event_text.specs.Grammar.{EventLine}
 use Rattle.event_text.specs.Input.{behind_line, contents_at, contents_in, contents_of, event_in, on_line, on_version, overlong, second_line, some_event, unless, version_in}
 use Rattle.event_text.specs.EventFile.{EventText, SayEvents}
 use Rattle.event_text.proofs.EventLaws.{line_again, line_takes}
-use Rattle.event_text.proofs.FieldLaws.{pick}
+use Rattle.line_fields.proofs.FieldLaws.{pick}
 use Rattle.event_text.proofs.FrontLaws.{overlong_none, read_within, unless_ok, version_within}
 
 -- lines one after another

@@ -4,9 +4,9 @@ use Rattle.std.proofs.lemmas.Bool.{ne_eqb}
 use Rattle.std.proofs.Math.Seq.{drop-length}
 use Rattle.std.proofs.lemmas.List.{take_all, take_rest}
 use Rattle.std.specs.Prelude.{None}
-use Rattle.event_text.specs.declared.fault.LineReason.TheVariants as reasons
+use Rattle.line_fields.specs.declared.fault.LineReason.TheVariants as reasons
 use Rattle.event_text.specs.declared.place.Place.{Place}
-use Rattle.event_text.specs.Reading.{fault_at}
+use Rattle.line_fields.specs.Fields.{fault_at}
 use Rattle.event_text.specs.Lines.{lines_of, unfed}
 use Rattle.event_text.specs.Input.{contents_at, contents_of, faulty}
 

@@ -1,8 +1,3 @@
-pub mod WordLaws
-pub mod NumberLaws
-pub mod OctetLaws
-pub mod IdentityLaws
-pub mod FieldLaws
 pub mod SpacelessLaws
 pub mod EventLaws
 pub mod LineLaws

@@ -1,12 +1,12 @@
 -- A line says one event of one moment, or has a fault, and not both.
 use Rattle.std.proofs.Common.{◌≡◌, ℕ, List, Result, Ok, Err, sym, ap, ◌∙◌}
 use Rattle.ha_base.specs.declared.outside.Moment.{Moment}
-use Rattle.event_text.specs.declared.fault.LineFault.{LineFault}
+use Rattle.line_fields.specs.declared.fault.LineFault.{LineFault}
 use Rattle.event_text.specs.Events.{PlainEvent}
 use Rattle.event_text.specs.Reading.{line_at}
 use Rattle.event_text.specs.Grammar.{EventLine}
 use Rattle.event_text.proofs.EventLaws.{line_again}
-use Rattle.event_text.proofs.FieldLaws.{ok_is}
+use Rattle.line_fields.proofs.FieldLaws.{ok_is}
 
 pub one_event : (last : ℕ) (line : List ℕ) (m n : Moment) (e d : PlainEvent) → line_at last line ≡ Ok (m, e) → EventLine last line n d → (m ≡ n) × (e ≡ d)
 one_event last line m n e d read says =

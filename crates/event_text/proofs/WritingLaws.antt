@@ -6,7 +6,7 @@ use Rattle.std.proofs.lemmas.Grind.{flat_map-append}
 use Rattle.std.proofs.lemmas.List.{take_more}
 use Rattle.std.proofs.lemmas.List.Concat.{flat_map-cons}
 use Rattle.std.proofs.lemmas.Option.{get_or_from_slice_get, slice_get-get_or, slice_get_within}
-use Rattle.event_text.specs.Words.{spaced, line_of}
+use Rattle.line_fields.specs.Words.{spaced, line_of}
 use Rattle.std.specs.Fmt.{decimal}
 use Rattle.event_text.specs.declared.turn.Turn.{Turn}
 use Rattle.event_text.specs.Events.{plain}

@@ -2,20 +2,16 @@
 use Rattle.std.specs.Prelude.{◌≡◌, ℕ, ◌-◌, ◌^◌, ◌<◌, ◌≤◌, List, [], ◌∷◌, ◌++◌, length, codes}
 use Rattle.std.specs.Fmt.{decimal}
 use Rattle.ha_base.specs.declared.key_material.KeySize.{KeySize}
-use Rattle.ha_base.specs.declared.key_material.KeySize.TheVariants.{Bits128, Bits256}
 use Rattle.ha_base.specs.declared.key_material.SaKeys.{SaKeys}
 use Rattle.ha_base.specs.declared.key_material.ChildKeys.{ChildKeys}
 use Rattle.ha_base.specs.declared.outside.Moment.{Moment}
 use Rattle.keeper_book.specs.declared.counters.Five.{Five}
 use Rattle.keeper_book.specs.Records.{sealing_key_octets}
-use Rattle.event_text.specs.Words.{line_of}
-use Rattle.event_text.specs.Octets.{IsOctets, esp_spi_text, octets_text, spi_text}
-use Rattle.event_text.specs.Identities.{IsIdentity, identity_text}
+use Rattle.line_fields.specs.Words.{line_of}
+use Rattle.line_fields.specs.Fields.{size_text}
+use Rattle.line_fields.specs.Octets.{IsOctets, esp_spi_text, octets_text, spi_text}
+use Rattle.line_fields.specs.Identities.{IsIdentity, identity_text}
 use Rattle.event_text.specs.Events.{Association, PlainEvent, Import, Join, Own, Draw}
-
-abbrev pub size_text : KeySize → List ℕ
-size_text Bits128 = codes "128"
-size_text Bits256 = codes "256"
 
 abbrev pub sa_key_words : SaKeys → List (List ℕ)
 sa_key_words keys =

@@ -2,14 +2,15 @@
 use Rattle.std.specs.Prelude.{ℕ, ◌+◌, ◌-◌, ◌==◌, ◌&&◌, nat_lt, nat_le, List, [], ◌∷◌, length, codes, Option, Some, None, Result, Ok, Err, if◌then◌else◌}
 use Rattle.std.specs.Str.{bytes_eq}
 use Rattle.ha_base.specs.declared.outside.Moment.{Moment}
-use Rattle.event_text.specs.declared.fault.LineFault.{LineFault}
-use Rattle.event_text.specs.declared.fault.LineReason.TheVariants as reasons
+use Rattle.line_fields.specs.declared.fault.LineFault.{LineFault}
+use Rattle.line_fields.specs.declared.fault.LineReason.TheVariants as reasons
 use Rattle.event_text.specs.declared.place.InputFault.{InputFault}
 use Rattle.event_text.specs.declared.place.Place.{Place}
 use Rattle.event_text.specs.Lines.{is_passed, lines_of, unfed}
 use Rattle.event_text.specs.declared.event.Event.{Event}
 use Rattle.event_text.specs.Events.{PlainEvent, plain}
-use Rattle.event_text.specs.Reading.{fault_at, line_at}
+use Rattle.line_fields.specs.Fields.{fault_at}
+use Rattle.event_text.specs.Reading.{line_at}
 
 -- what an input says: its events up to its first fault, and the fault
 pub record Contents : Type 0 where

@@ -1,8 +1,4 @@
-pub mod Words
 pub mod Lines
-pub mod Numbers
-pub mod Octets
-pub mod Identities
 pub mod Events
 pub mod Reading
 pub mod Grammar

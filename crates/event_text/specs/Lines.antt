@@ -1,7 +1,7 @@
 -- The lines of a text.
 use Rattle.std.specs.Prelude.{◌≡◌, ℕ, ◌≤◌, ◌==◌, not, Bool, true, List, [], ◌∷◌, ◌++◌, length, ◌⊎◌, if◌then◌else◌}
 use Rattle.std.specs.List.{list_all}
-use Rattle.event_text.specs.Words.{onto}
+use Rattle.line_fields.specs.Words.{onto}
 
 -- lines, each with a line feed
 abbrev pub fed : List (List ℕ) → List ℕ

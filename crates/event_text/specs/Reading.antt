@@ -2,75 +2,22 @@
 use Rattle.std.specs.Prelude.{◌≡◌, ℕ, ◌+◌, ◌-◌, ◌^◌, nat_lt, List, [], ◌∷◌, length, codes, Result, Ok, Err, if◌then◌else◌}
 use Rattle.std.specs.Str.{bytes_eq}
 use Rattle.ha_base.specs.declared.key_material.KeySize.{KeySize}
-use Rattle.ha_base.specs.declared.key_material.KeySize.TheVariants.{Bits128, Bits256}
 use Rattle.ha_base.specs.declared.key_material.SaKeys.{SaKeys}
 use Rattle.ha_base.specs.declared.key_material.ChildKeys.{ChildKeys}
 use Rattle.ha_base.specs.declared.outside.Moment.{Moment}
 use Rattle.keeper_book.specs.declared.counters.Five.{Five}
 use Rattle.keeper_book.specs.Records.{sealing_key_octets}
-use Rattle.event_text.specs.declared.fault.LineReason.{LineReason}
-use Rattle.event_text.specs.declared.fault.LineReason.TheVariants as reasons
-use Rattle.event_text.specs.declared.fault.LineFault.{LineFault}
-use Rattle.event_text.specs.declared.fault.Failure.{Failure}
-use Rattle.event_text.specs.declared.fault.Failure.TheVariants.{OutOfMemory, At}
-use Rattle.event_text.specs.Words.{Spot, words_of}
-use Rattle.event_text.specs.Numbers.{number_of}
-use Rattle.event_text.specs.Octets.{esp_spi_of, sized, spi_of}
-use Rattle.event_text.specs.Identities.{identity_of}
+use Rattle.line_fields.specs.declared.fault.LineReason.{LineReason}
+use Rattle.line_fields.specs.declared.fault.LineReason.TheVariants as reasons
+use Rattle.line_fields.specs.declared.fault.LineFault.{LineFault}
+use Rattle.line_fields.specs.Words.{Spot, words_of}
+use Rattle.line_fields.specs.Numbers.{number_of}
+use Rattle.line_fields.specs.Octets.{esp_spi_of, sized, spi_of}
+use Rattle.line_fields.specs.Identities.{identity_of}
+use Rattle.line_fields.specs.Fields.{◌>>=◌, ended_at, fault_at, field, key_size_of, word_at}
 use Rattle.event_text.specs.Events.{PlainEvent, Import, Join, Own, Draw}
 
-infixl 10 ◌>>=◌
-abbrev pub ◌>>=◌ : {A B : Type 0} → Result A LineFault → (A → Result B LineFault) → Result B LineFault
-(Ok x) >>= f = f x
-(Err e) >>= f = Err e
-
-abbrev pub fault_at : ℕ → LineReason → LineFault
-fault_at c r = record { column = c; reason = r }
-
--- Why a reader gave nothing is why reading gives nothing, unless memory ran out.
-abbrev pub Fails : {Y : Type 0} → Failure → Result Y LineFault → Type 0
-Fails OutOfMemory read = Unit {0}
-Fails (At f) read = read ≡ Err f
-
--- What a reader gave, seen by view, and what it left are what reading gives, unless memory ran out.
-abbrev pub Gives : {X Y : Type 0} → (X → Y) → Result X Failure → Spot → Result (Y × Spot) LineFault → Type 0
-Gives view (Ok x) new read = read ≡ Ok (view x, new)
-Gives view (Err e) new read = Fails e read
-
--- what is left behind a word
-abbrev pub behind : ℕ → List ℕ → List (List ℕ) → Spot
-behind c w ws = record { column = c + length w + 1; words = ws }
-
-abbrev pub word_in : ℕ → List (List ℕ) → Result (List ℕ × Spot) LineFault
-word_in c [] = Err (fault_at c reasons.Missing)
-word_in c (w ∷ ws) = Ok (w, behind c w ws)
-
--- the next word
-abbrev pub word_at : Spot → Result (List ℕ × Spot) LineFault
-word_at s = word_in s.column s.words
-
-abbrev pub end_in : ℕ → List (List ℕ) → Result Unit LineFault
-end_in c [] = Ok tt
-end_in c (w ∷ ws) = Err (fault_at c reasons.Extra)
-
--- no word is left
-abbrev pub ended_at : Spot → Result Unit LineFault
-ended_at s = end_in s.column s.words
-
-abbrev pub located : {A : Type 0} → ℕ → Result A LineReason → Result A LineFault
-located c (Ok x) = Ok x
-located c (Err r) = Err (fault_at c r)
-
--- A field is one word.
-unfoldable pub field : {A : Type 0} → (List ℕ → Result A LineReason) → Spot → Result (A × Spot) LineFault
-field read s = do
-  w ← word_at s
-  x ← located s.column (read w.0)
-  Ok (x, w.1)
-
-abbrev pub key_size_of : List ℕ → Result KeySize LineReason
-key_size_of w = if bytes_eq w (codes "128") then Ok Bits128 else if bytes_eq w (codes "256") then Ok Bits256 else Err reasons.Word
-
+-- a sealing key: an AES key and four octets of salt (RFC 5282, section 7.1)
 abbrev pub sealing_key_of : KeySize → List ℕ → Result (List ℕ) LineReason
 sealing_key_of size = sized (sealing_key_octets size) (sealing_key_octets size)
 

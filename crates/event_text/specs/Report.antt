@@ -26,8 +26,8 @@ use Rattle.event_text.specs.declared.verdict.Refusal.{Refusal}
 use Rattle.event_text.specs.declared.verdict.Refusal.TheVariants as refusals
 use Rattle.event_text.specs.declared.verdict.Verdict.{Verdict}
 use Rattle.event_text.specs.declared.verdict.Verdict.TheVariants as verdicts
-use Rattle.event_text.specs.Words.{line_of}
-use Rattle.event_text.specs.Octets.{octets_text, spi_text}
+use Rattle.line_fields.specs.Words.{line_of}
+use Rattle.line_fields.specs.Octets.{octets_text, spi_text}
 use Rattle.event_text.specs.Events.{plain}
 use Rattle.event_text.specs.Grammar.{five_words, line_words}
 

@@ -4,14 +4,13 @@ ghost use Rattle.std.specs.Prelude.{◌≡◌, ◌≢◌, ◌≤◌, ◌<◌, �
 ghost use Rattle.event_text.specs.Events.{plain};
 ghost use Rattle.event_text.specs.Lines.{is_passed, lines_of, unfed};
 ghost use Rattle.event_text.specs.Input.{contents_of, event_in, faulty, left_contents, overlong, said, version_in, with_event};
-ghost use Rattle.event_text.specs.Reading.{fault_at};
+ghost use Rattle.line_fields.specs.Fields.{fault_at};
 
 use crate::event::Event;
-use crate::fault::{LineFault, LineReason};
 use crate::place::{InputFault, Place};
 use crate::reading::{LINE_OCTETS, read_line};
-use crate::split::octets_before;
 use ha_base::Moment;
+use line_fields::{LineFault, LineReason, octets_before};
 use std::alloc::Global;
 use std::marker::Model;
 

@@ -3,24 +3,17 @@
 #![tactic(auto)]
 
 mod event;
-mod fault;
-mod fields;
-mod identity;
 mod input;
+mod keys;
 mod laws;
-mod number;
-mod octets;
 mod place;
 mod reading;
 mod seals;
-mod split;
 mod turn;
 mod verdict;
-mod words;
 mod writing;
 
 pub use event::Event;
-pub use fault::{LineFault, LineReason};
 pub use input::EventReader;
 pub use laws::{front_tells_contents, inputs_are_texts, turns_repeat_their_lines};
 pub use place::{InputFault, Place};
@@ -28,6 +21,7 @@ pub use reading::read_line;
 pub use seals::{Seal, Seals};
 pub use turn::{Datagram, Medium, Served, Step, Turn};
 pub use verdict::{Refusal, Verdict};
+pub use line_fields::{LineFault, LineReason};
 pub use writing::{write_end, write_fault, write_head, write_turn};
 
 #[cfg(test)]

@@ -1,7 +1,7 @@
 //! Where a reader stands in an input, and the first fault of an input.
 
-use crate::fault::LineReason;
 use ha_base::Moment;
+use line_fields::LineReason;
 
 /// The first fault of an input, from its beginning.
 #[derive(Clone, Copy, Debug, PartialEq, Eq)]

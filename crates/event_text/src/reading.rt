@@ -6,14 +6,14 @@ ghost use Rattle.keeper_book.specs.Records.{sealing_key_octets};
 ghost use Rattle.event_text.specs.Events.{PlainEvent, plain};
 ghost use Rattle.event_text.specs.Grammar.{EventLine};
 ghost use Rattle.ha_base.specs.declared.outside.Moment.{Moment};
-ghost use Rattle.event_text.specs.Reading.{Gives, Fails, sa_keys_at, child_keys_at, starts_at, import_at, join_at, own_at, draw_at, event_at, moment_at, told_at, line_at};
+ghost use Rattle.line_fields.specs.Fields.{Gives, Fails};
+ghost use Rattle.event_text.specs.Reading.{sa_keys_at, child_keys_at, starts_at, import_at, join_at, own_at, draw_at, event_at, moment_at, told_at, line_at};
 
 use crate::event::Event;
-use crate::fault::{Failure, LineFault, LineReason};
-use crate::fields::{esp_spi, identity, key_size, number, octets, sealing_key, spi};
-use crate::words::Words;
+use crate::keys::sealing_key;
 use ha_base::{ChildKeys, KeySize, Moment, Origin, SaKeys};
 use keeper_book::{Five, Record};
+use line_fields::{Failure, LineFault, LineReason, Words, esp_spi, identity, key_size, number, octets, spi};
 use std::alloc::Global;
 
 /// How many octets a line may have.

@@ -1,9 +1,10 @@
 //! The words of an event.
 
 ghost use Rattle.std.specs.Prelude.{◌≡◌, ◌∷◌, ◌++◌, OnOk};
-ghost use Rattle.event_text.specs.Identities.{identity_text, prefix_of};
+ghost use Rattle.line_fields.specs.Identities.{identity_text, prefix_of};
 ghost use Rattle.event_text.specs.Events.{association, plain};
-ghost use Rattle.event_text.specs.Grammar.{association_words, child_key_words, event_words, five_words, sa_key_words, size_text};
+ghost use Rattle.line_fields.specs.Fields.{size_text};
+ghost use Rattle.event_text.specs.Grammar.{association_words, child_key_words, event_words, five_words, sa_key_words};
 ghost use Rattle.event_text.specs.Writing.{with_words};
 
 use super::words::{put_bare_octets, put_esp_spi, put_number, put_octets, put_spi, put_word};

@@ -1,0 +1,6 @@
+pub mod WordLaws
+pub mod NumberLaws
+pub mod OctetLaws
+pub mod IdentityLaws
+pub mod FieldLaws
+pub mod SpacelessLaws

@@ -1,0 +1,6 @@
+pub mod Words
+pub mod Numbers
+pub mod Octets
+pub mod Identities
+pub mod Fields
+pub mod Faults

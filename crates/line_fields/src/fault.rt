@@ -1,0 +1,99 @@
+//! What is wrong with a line.
+
+ghost use Rattle.std.specs.Prelude.{◌≡◌, MatchResult};
+ghost use Rattle.line_fields.specs.Faults.{reason_name};
+ghost use Rattle.line_fields.specs.Fields.{fault_at};
+ghost use Rattle.line_fields.specs.declared.fault.Failure.TheVariants.{OutOfMemory};
+
+use std::alloc::{AllocError, AllocFailed};
+use thiserror::Error;
+
+/// Why a line of an event file is refused. `Memory` is no fault of the line.
+#[derive(Clone, Copy, Debug, PartialEq, Eq)]
+pub enum LineReason {
+    /// None of the words that may stand there.
+    Word = 1,
+    /// No decimal number without leading zeros, or one out of the field's range.
+    Number = 2,
+    /// No lower-case hexadecimal of whole octets, or no prefix of an identity that may stand there.
+    Hex = 3,
+    /// The line ends where a word has to stand.
+    Missing = 4,
+    /// A word stands behind the event's last field.
+    Extra = 5,
+    /// The line's 16,385th octet.
+    LineTooLong = 6,
+    /// A moment before the one of the event before.
+    ClockBack = 7,
+    /// The 100,001st event.
+    TooMany = 8,
+    /// The file's 67,108,865th octet.
+    FileTooLong = 9,
+    /// Octets of a wrong number.
+    Size = 10,
+    /// Memory ran out while the line was read.
+    Memory = 11,
+}
+
+impl LineReason {
+    /// The reason in one word.
+    pub fn name(self) -> &'static str
+        ensures { result.now ≡ reason_name self }
+    {
+        match self {
+            LineReason::Word => "word",
+            LineReason::Number => "number",
+            LineReason::Hex => "hex",
+            LineReason::Missing => "missing",
+            LineReason::Extra => "extra",
+            LineReason::LineTooLong => "line-too-long",
+            LineReason::ClockBack => "clock-back",
+            LineReason::TooMany => "too-many",
+            LineReason::FileTooLong => "file-too-long",
+            LineReason::Size => "size",
+            LineReason::Memory => "memory",
+        }
+    }
+}
+
+/// The first fault of a line, from left to right.
+#[derive(Clone, Copy, Debug, PartialEq, Eq, Error)]
+#[error("column {column}: {reason:?}")]
+pub struct LineFault {
+    /// The place of the faulty word's first octet, counted from 1.
+    pub column: u32,
+    pub reason: LineReason,
+}
+
+/// Why a reader of fields gave nothing.
+#[derive(Debug, Drop)]
+pub enum Failure {
+    OutOfMemory,
+    At(LineFault),
+}
+
+impl From<AllocError> for Failure {
+    ghost from_gives = { λ _ e. e ≡ OutOfMemory };
+
+    fn from(_e: AllocError) -> Failure {
+        Failure::OutOfMemory
+    }
+}
+
+impl<T: Drop> From<AllocFailed<T>> for Failure {
+    ghost from_gives = { λ _ e. e ≡ OutOfMemory };
+
+    fn from(_e: AllocFailed<T>) -> Failure {
+        Failure::OutOfMemory
+    }
+}
+
+/// What a word's reader answered, or the fault at the word's column.
+pub fn at<T>(column: u32, read: Result<T, LineReason>) -> Result<T, Failure>
+    ensures { MatchResult read (λ x. result ≡ Ok x) (λ r. result ≡ Err (Failure.At (fault_at column r))) }
+{
+    match read {
+        Ok(value) => Ok(value),
+        Err(reason) => Err(Failure::At(LineFault { column, reason })),
+    }
+}

@@ -1,0 +1,103 @@
+//! The fields of a line, one reader for each kind.
+
+ghost use Rattle.std.specs.Prelude.{◌≡◌, ◌≤◌, ◌<◌, ◌^◌, length, IfOk};
+ghost use Rattle.line_fields.specs.Numbers.{number_of};
+ghost use Rattle.line_fields.specs.Octets.{esp_spi_of, sized, spi_of};
+ghost use Rattle.line_fields.specs.Identities.{identity_of};
+ghost use Rattle.line_fields.specs.Fields.{Gives, field, key_size_of};
+
+use crate::fault::{Failure, LineReason, at};
+use crate::identities::identity_word;
+use crate::numbers::number_below;
+use crate::octet_words::{array_word, esp_spi_word, list_word, spi_word};
+use crate::words::Words;
+use ha_base::{Identity, KeySize, OctetList};
+
+/// A number below a limit.
+#[tactic(auto, unfolding(crate::specs::Fields::field))]
+pub fn number(words: &mut Words<'_>, limit: u64) -> Result<u64, Failure>
+    ensures value { Gives (λ x. x) result words.new (field (number_of 0 limit) words.old) }
+    ensures below { IfOk result (λ number. number < limit) }
+{
+    let column = words.column();
+    let word = words.word()?;
+    at(column, number_below(word, limit))
+}
+
+/// An SPI of the IKE header.
+#[tactic(auto, unfolding(crate::specs::Fields::field))]
+pub fn spi(words: &mut Words<'_>) -> Result<u64, Failure>
+    ensures { Gives (λ x. x) result words.new (field spi_of words.old) }
+{
+    let column = words.column();
+    let word = words.word()?;
+    at(column, spi_word(word))
+}
+
+/// An SPI of ESP.
+#[tactic(auto, unfolding(crate::specs::Fields::field))]
+pub fn esp_spi(words: &mut Words<'_>) -> Result<u32, Failure>
+    ensures { Gives (λ x. x) result words.new (field esp_spi_of words.old) }
+{
+    let column = words.column();
+    let word = words.word()?;
+    at(column, esp_spi_word(word))
+}
+
+/// Octets of one number.
+#[tactic(auto, unfolding(crate::specs::Fields::field))]
+pub fn octets<const N: usize>(words: &mut Words<'_>) -> Result<[u8; N], Failure>
+    ensures { Gives (λ x. x) result words.new (field (sized N N) words.old) }
+{
+    let column = words.column();
+    let word = words.word()?;
+    at(column, array_word(word))
+}
+
+fn size_word(word: &[u8]) -> Result<KeySize, LineReason>
+    ensures { result ≡ key_size_of word.now }
+{
+    if word == b"128".as_slice() {
+        return Ok(KeySize::Bits128);
+    }
+    if word == b"256".as_slice() {
+        return Ok(KeySize::Bits256);
+    }
+    Err(LineReason::Word)
+}
+
+/// The size of an AES key.
+#[tactic(auto, unfolding(crate::specs::Fields::field))]
+pub fn key_size(words: &mut Words<'_>) -> Result<KeySize, Failure>
+    ensures { Gives (λ x. x) result words.new (field key_size_of words.old) }
+{
+    let column = words.column();
+    let word = words.word()?;
+    at(column, size_word(word))
+}
+
+/// Octets of a number from `least` to `most`.
+#[tactic(auto, unfolding(crate::specs::Fields::field))]
+pub fn octet_list<const N: usize>(
+    words: &mut Words<'_>,
+    least: usize,
+    most: usize,
+) -> Result<OctetList<N>, Failure>
+    requires { most ≤ N }
+    ensures value { Gives (λ x. x) result words.new (field (sized least most) words.old) }
+    ensures within { IfOk result (λ list. (least ≤ length list) × (length list ≤ most)) }
+{
+    let column = words.column();
+    let word = words.word()?;
+    at(column, list_word(word, least, most))
+}
+
+/// An identity.
+#[tactic(auto, unfolding(crate::specs::Fields::field))]
+pub fn identity(words: &mut Words<'_>) -> Result<Identity, Failure>
+    ensures { Gives (λ x. x) result words.new (field identity_of words.old) }
+{
+    let column = words.column();
+    let word = words.word()?;
+    at(column, identity_word(word))
+}
