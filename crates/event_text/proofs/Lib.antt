@@ -1,7 +1,6 @@
 pub mod SpacelessLaws
 pub mod EventLaws
 pub mod LineLaws
-pub mod WritingLaws
 pub mod InputLaws
 pub mod FrontLaws
 pub mod FileLaws

@@ -2,8 +2,5 @@ pub mod Lines
 pub mod Events
 pub mod Reading
 pub mod Grammar
-pub mod Faults
 pub mod Input
 pub mod EventFile
-pub mod Writing
-pub mod Report

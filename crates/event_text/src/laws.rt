@@ -1,14 +1,10 @@
 //! Laws of event files.
 
-ghost use Rattle.std.specs.Prelude.{◌≡◌, ℕ, ◌≤◌, List, ◌++◌, length, None, [], ◌∷◌, codes};
+ghost use Rattle.std.specs.Prelude.{◌≡◌, ℕ, ◌≤◌, List, ◌++◌, length, None};
 ghost use Rattle.event_text.specs.Input.{contents_of};
 ghost use Rattle.ha_base.specs.declared.outside.Moment.{Moment};
-ghost use Rattle.event_text.specs.Events.{PlainEvent, plain};
+ghost use Rattle.event_text.specs.Events.{PlainEvent};
 ghost use Rattle.event_text.specs.EventFile.{EventText};
-ghost use Rattle.event_text.specs.Grammar.{EventLine};
-ghost use Rattle.event_text.specs.Report.{line_text, title_words};
-ghost use Rattle.event_text.specs.declared.turn.Turn.{Turn};
-ghost use Rattle.std.specs.Fmt.{decimal};
 
 /// What an input says is told by as many of its octets as a file may have, and one more: whatever follows them.
 #[tactic(auto, using(crate::proofs::FrontLaws::contents_front))]
@@ -21,10 +17,4 @@ pub fn inputs_are_texts()
     ensures found { (octets : List ℕ) → (contents_of octets).fault ≡ None → EventText (contents_of octets).events octets }
     ensures only { (events : List (Moment × PlainEvent)) (octets : List ℕ) → EventText events octets
         → contents_of octets ≡ record { events = events; fault = None } }
-{}
-
-/// The event's line stands in the first line of its turn as it stands in the file.
-pub fn turns_repeat_their_lines()
-    ensures { (last number : ℕ) (line : List ℕ) (turn : Turn) → EventLine last line turn.moment (plain turn.event)
-        → line_text (codes "turn" ∷ title_words number turn) ≡ (codes "turn" ++ ((32 ∷ decimal number) ++ (32 ∷ line))) ++ 10 ∷ [] }
 {}

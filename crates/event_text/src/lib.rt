@@ -1,5 +1,4 @@
-//! Event files and reports: what an event and a turn are, the events that the lines of a file spell, and the text of a
-//! turn.
+//! Event files and runs: what an event and a turn are, and the events that the lines of a file spell.
 #![tactic(auto)]
 
 mod event;
@@ -11,18 +10,16 @@ mod reading;
 mod seals;
 mod turn;
 mod verdict;
-mod writing;
 
 pub use event::Event;
 pub use input::EventReader;
-pub use laws::{front_tells_contents, inputs_are_texts, turns_repeat_their_lines};
+pub use laws::{front_tells_contents, inputs_are_texts};
+pub use line_fields::{LineFault, LineReason};
 pub use place::{InputFault, Place};
 pub use reading::read_line;
 pub use seals::{Seal, Seals};
 pub use turn::{Datagram, Medium, Served, Step, Turn};
 pub use verdict::{Refusal, Verdict};
-pub use line_fields::{LineFault, LineReason};
-pub use writing::{write_end, write_fault, write_head, write_turn};
 
 #[cfg(test)]
 mod tests;

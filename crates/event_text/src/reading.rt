@@ -13,7 +13,9 @@ use crate::event::Event;
 use crate::keys::sealing_key;
 use ha_base::{ChildKeys, KeySize, Moment, Origin, SaKeys};
 use keeper_book::{Five, Record};
-use line_fields::{Failure, LineFault, LineReason, Words, esp_spi, identity, key_size, number, octets, spi};
+use line_fields::{
+    Failure, LineFault, LineReason, Words, esp_spi, identity, key_size, number, octets, spi,
+};
 use std::alloc::Global;
 
 /// How many octets a line may have.

@@ -1,4 +1,5 @@
 pub mod WordLaws
+pub mod WritingLaws
 pub mod NumberLaws
 pub mod OctetLaws
 pub mod IdentityLaws

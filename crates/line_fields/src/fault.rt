@@ -65,10 +65,12 @@ pub struct LineFault {
     pub reason: LineReason,
 }
 
-/// Why a reader of fields gave nothing.
+/// Why a reader of a line gave nothing.
 #[derive(Debug, Drop)]
 pub enum Failure {
+    /// Memory ran out.
     OutOfMemory,
+    /// The line is faulty there.
     At(LineFault),
 }
 
@@ -89,7 +91,7 @@ impl<T: Drop> From<AllocFailed<T>> for Failure {
 }
 
 /// What a word's reader answered, or the fault at the word's column.
-pub fn at<T>(column: u32, read: Result<T, LineReason>) -> Result<T, Failure>
+pub(crate) fn at<T>(column: u32, read: Result<T, LineReason>) -> Result<T, Failure>
     ensures { MatchResult read (λ x. result ≡ Ok x) (λ r. result ≡ Err (Failure.At (fault_at column r))) }
 {
     match read {

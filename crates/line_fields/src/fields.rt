@@ -1,4 +1,5 @@
-//! The fields of a line, one reader for each kind.
+//! The fields of a line, one reader for each kind. Each takes a word. An error is the fault at the word's column: what is wrong
+//! with the word, or that none is left.
 
 ghost use Rattle.std.specs.Prelude.{◌≡◌, ◌≤◌, ◌<◌, ◌^◌, length, IfOk};
 ghost use Rattle.line_fields.specs.Numbers.{number_of};
@@ -13,7 +14,7 @@ use crate::octet_words::{array_word, esp_spi_word, list_word, spi_word};
 use crate::words::Words;
 use ha_base::{Identity, KeySize, OctetList};
 
-/// A number below a limit.
+/// A decimal number below a limit.
 #[tactic(auto, unfolding(crate::specs::Fields::field))]
 pub fn number(words: &mut Words<'_>, limit: u64) -> Result<u64, Failure>
     ensures value { Gives (λ x. x) result words.new (field (number_of 0 limit) words.old) }
@@ -24,7 +25,7 @@ pub fn number(words: &mut Words<'_>, limit: u64) -> Result<u64, Failure>
     at(column, number_below(word, limit))
 }
 
-/// An SPI of the IKE header.
+/// An SPI of the IKE header (RFC 7296, section 3.1), in 16 digits.
 #[tactic(auto, unfolding(crate::specs::Fields::field))]
 pub fn spi(words: &mut Words<'_>) -> Result<u64, Failure>
     ensures { Gives (λ x. x) result words.new (field spi_of words.old) }
@@ -34,7 +35,7 @@ pub fn spi(words: &mut Words<'_>) -> Result<u64, Failure>
     at(column, spi_word(word))
 }
 
-/// An SPI of ESP.
+/// An SPI of ESP (RFC 4303, section 2.1), in 8 digits.
 #[tactic(auto, unfolding(crate::specs::Fields::field))]
 pub fn esp_spi(words: &mut Words<'_>) -> Result<u32, Failure>
     ensures { Gives (λ x. x) result words.new (field esp_spi_of words.old) }
@@ -66,7 +67,7 @@ fn size_word(word: &[u8]) -> Result<KeySize, LineReason>
     Err(LineReason::Word)
 }
 
-/// The size of an AES key.
+/// The size of an AES key, in bits.
 #[tactic(auto, unfolding(crate::specs::Fields::field))]
 pub fn key_size(words: &mut Words<'_>) -> Result<KeySize, Failure>
     ensures { Gives (λ x. x) result words.new (field key_size_of words.old) }
@@ -92,7 +93,7 @@ pub fn octet_list<const N: usize>(
     at(column, list_word(word, least, most))
 }
 
-/// An identity.
+/// An identity: the prefix of its type (RFC 7296, section 3.5), and octets.
 #[tactic(auto, unfolding(crate::specs::Fields::field))]
 pub fn identity(words: &mut Words<'_>) -> Result<Identity, Failure>
     ensures { Gives (λ x. x) result words.new (field identity_of words.old) }

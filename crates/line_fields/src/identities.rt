@@ -26,7 +26,7 @@ fn with_octets(kind: u8, least: usize, most: usize, octets: &[u8]) -> Result<Ide
 }
 
 /// An identity of one of the five types.
-pub fn identity_word(word: &[u8]) -> Result<Identity, LineReason>
+pub(crate) fn identity_word(word: &[u8]) -> Result<Identity, LineReason>
     ensures { result ≡ identity_of word.now }
 {
     if let Some(octets) = behind(b"ipv4:", word) {

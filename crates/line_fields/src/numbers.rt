@@ -47,7 +47,7 @@ fn numeral(word: &[u8]) -> Option<u64>
 }
 
 /// A number below a limit.
-pub fn number_below(word: &[u8], limit: u64) -> Result<u64, LineReason>
+pub(crate) fn number_below(word: &[u8], limit: u64) -> Result<u64, LineReason>
     ensures { result ≡ number_of 0 limit word.now }
 {
     match numeral(word) {

@@ -69,7 +69,7 @@ fn size_word(word: &[u8], least: usize, most: usize) -> Result<usize, LineReason
 }
 
 /// Octets of one number.
-pub fn array_word<const N: usize>(word: &[u8]) -> Result<[u8; N], LineReason>
+pub(crate) fn array_word<const N: usize>(word: &[u8]) -> Result<[u8; N], LineReason>
     ensures { result ≡ sized N N word.now }
 {
     size_word(word, N, N)?;
@@ -79,7 +79,7 @@ pub fn array_word<const N: usize>(word: &[u8]) -> Result<[u8; N], LineReason>
 }
 
 /// Octets of a number from `least` to `most`.
-pub fn list_word<const N: usize>(
+pub(crate) fn list_word<const N: usize>(
     word: &[u8],
     least: usize,
     most: usize,
@@ -95,7 +95,7 @@ pub fn list_word<const N: usize>(
 }
 
 /// The same, in a list that is copied.
-pub fn copied_word<const N: usize>(
+pub(crate) fn copied_word<const N: usize>(
     word: &[u8],
     least: usize,
     most: usize,
@@ -110,7 +110,7 @@ pub fn copied_word<const N: usize>(
 }
 
 /// An SPI of the IKE header, in 16 digits.
-pub fn spi_word(word: &[u8]) -> Result<u64, LineReason>
+pub(crate) fn spi_word(word: &[u8]) -> Result<u64, LineReason>
     ensures { result ≡ spi_of word.now }
 {
     if !is_hex(word) {
@@ -125,7 +125,7 @@ pub fn spi_word(word: &[u8]) -> Result<u64, LineReason>
 }
 
 /// An SPI of ESP, in 8 digits.
-pub fn esp_spi_word(word: &[u8]) -> Result<u32, LineReason>
+pub(crate) fn esp_spi_word(word: &[u8]) -> Result<u32, LineReason>
     ensures { result ≡ esp_spi_of word.now }
 {
     if !is_hex(word) {

@@ -4,8 +4,8 @@ use Rattle.std.specs.Prelude.{ℕ, List, [], ◌∷◌, ◌++◌, codes, Result,
 use Rattle.std.specs.Fmt.{decimal}
 use Rattle.std.specs.List.{flat_map}
 use Rattle.hex.specs.Hex.{encode_lower}
-use Rattle.event_text.specs.Octets.{octets_text, spi_text}
-use Rattle.event_text.specs.Report.{line_text}
+use Rattle.line_fields.specs.Octets.{octets_text, spi_text}
+use Rattle.line_fields.specs.Writing.{line_text}
 use Rattle.ike_encoding.specs.Messages.{flags_of}
 use Rattle.ike_grammar.specs.Messages.{message_at}
 use Rattle.ike_grammar.specs.declared.fault.Bad.{Bad}

@@ -2,8 +2,8 @@
 
 ghost use Rattle.std.specs.Prelude.{◌≡◌, ℕ, ◌∷◌, ◌++◌, OnOk, OnErr, IfOk, codes, false, map};
 ghost use Rattle.std.specs.List.{flat_map};
-ghost use Rattle.event_text.specs.Report.{line_text};
-ghost use Rattle.event_text.specs.Writing.{with_words};
+ghost use Rattle.line_fields.specs.Writing.{line_text};
+ghost use Rattle.line_fields.specs.Writing.{with_words};
 ghost use Rattle.ike_values.specs.Headers.{IsMessage};
 ghost use Rattle.ike_values.specs.PayloadView.{payload_value};
 ghost use Rattle.ike_values.specs.Writing.{AreValid};
@@ -31,7 +31,7 @@ fn put_header_words(alloc: Global, out: &mut Octets, header: &Header) -> Result<
     put_number(alloc, out, u64::from(header.id))
 }
 
-#[tactic(auto, using(event_text::proofs::WritingLaws::line_put))]
+#[tactic(auto, using(line_fields::proofs::WritingLaws::line_put))]
 fn put_header(alloc: Global, out: &mut Octets, header: &Header) -> Result<(), Memory>
     ensures { OnOk result (out.new.octets ≡ out.old.octets ++ line_text (codes "ok" ∷ header_words header.now)) }
 {
@@ -88,7 +88,7 @@ fn put_bad_words(alloc: Global, out: &mut Octets, bad: Bad) -> Result<(), Memory
     put_reason(alloc, out, bad.reason)
 }
 
-#[tactic(auto, using(event_text::proofs::WritingLaws::line_put))]
+#[tactic(auto, using(line_fields::proofs::WritingLaws::line_put))]
 fn bad_text(alloc: Global, bad: Bad) -> Result<Octets, Memory>
     ensures { IfOk result (λ text. text.octets ≡ bad_text bad.place bad.reason) }
 {

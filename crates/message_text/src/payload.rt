@@ -2,9 +2,9 @@
 
 ghost use Rattle.std.specs.Prelude.{◌≡◌, [], ◌∷◌, ◌++◌, OnOk, IfOk, codes};
 ghost use Rattle.std.specs.Fmt.{decimal};
-ghost use Rattle.event_text.specs.Octets.{octets_text};
-ghost use Rattle.event_text.specs.Report.{line_text};
-ghost use Rattle.event_text.specs.Writing.{with_words};
+ghost use Rattle.line_fields.specs.Octets.{octets_text};
+ghost use Rattle.line_fields.specs.Writing.{line_text};
+ghost use Rattle.line_fields.specs.Writing.{with_words};
 ghost use Rattle.ike_values.specs.PayloadView.{notify_value, payload_value, sk_value};
 ghost use Rattle.ike_values.specs.Values.{sk};
 ghost use Rattle.ike_values.specs.Writing.{body_written, FitsBody};
@@ -26,7 +26,7 @@ fn put_notify_words(alloc: Global, out: &mut Octets, notify: &NotifyBody) -> Res
     put_octets(alloc, out, notify.content.as_slice())
 }
 
-#[tactic(auto, using(event_text::proofs::WritingLaws::line_put))]
+#[tactic(auto, using(line_fields::proofs::WritingLaws::line_put))]
 fn put_notify(alloc: Global, out: &mut Octets, notify: &NotifyBody) -> Result<(), Memory>
     ensures { OnOk result (out.new.octets ≡ out.old.octets ++ line_text (codes "notify" ∷ notify_words (notify_value notify.now))) }
 {
@@ -54,7 +54,7 @@ fn put_body(alloc: Global, out: &mut Octets, number: u8, payload: &Payload) -> R
     put_octets(alloc, out, body.as_slice())
 }
 
-#[tactic(auto, unfolding(crate::specs::Shown::body_words, crate::specs::Shown::sk_words), using(event_text::proofs::WritingLaws::line_put))]
+#[tactic(auto, unfolding(crate::specs::Shown::body_words, crate::specs::Shown::sk_words), using(line_fields::proofs::WritingLaws::line_put))]
 fn put_other(
     alloc: Global,
     out: &mut Octets,

@@ -3,7 +3,7 @@
 ghost use Rattle.std.specs.Prelude.{◌≡◌, [], ◌∷◌, ◌++◌, IfOk, OnOk, string_bytes};
 ghost use Rattle.std.specs.Fmt.{decimal};
 ghost use Rattle.hex.specs.Hex.{encode_lower};
-ghost use Rattle.event_text.specs.Octets.{octets_text, spi_text};
+ghost use Rattle.line_fields.specs.Octets.{octets_text, spi_text};
 
 use ha_base::{Memory, Octets};
 use std::alloc::Global;

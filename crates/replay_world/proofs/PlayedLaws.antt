@@ -7,7 +7,7 @@ use Rattle.std.specs.Io.KnownBytes.{Appends}
 use Rattle.ha_base.specs.Faults.{AppendsFront}
 use Rattle.event_text.specs.Events.{PlainEvent, plain}
 use Rattle.event_text.specs.Input.{Contents, with_event}
-use Rattle.event_text.specs.Report.{given, gives_text, turn_text, turns_text}
+use Rattle.report_text.specs.Report.{given, gives_text, turn_text, turns_text}
 use Rattle.event_text.specs.declared.place.InputFault.{InputFault}
 use Rattle.event_text.specs.declared.turn.Served.{Served}
 use Rattle.event_text.specs.declared.turn.Turn.{Turn}

@@ -1,15 +1,16 @@
 ghost use Rattle.std.specs.Prelude.{◌≡◌, ℕ, List, [], ◌++◌, false, vec_len, IfOk, OnOk};
 ghost use Rattle.event_text.specs.Input.{contents_of, left_contents};
-ghost use Rattle.event_text.specs.Report.{report, turns_text};
+ghost use Rattle.report_text.specs.Report.{report, turns_text};
 ghost use Rattle.replay_world.specs.Played.{IsPlayed, prefixed, titles};
 ghost use Rattle.replay_world.specs.Runs.{CausedSince, StandsTold};
 ghost use Rattle.turn_rules.specs.Local.{Local};
 ghost use Rattle.turn_rules.specs.Services.{AreGiven, service_of};
 
 use crate::world::World;
-use event_text::{EventReader, InputFault, LineReason, write_end, write_head, write_turn};
+use event_text::{EventReader, InputFault, LineReason};
 use ha_base::{Memory, Octets, Service};
 use keeper_book::{Gate, Keeper};
+use report_text::{write_end, write_head, write_turn};
 use std::alloc::Global;
 
 /// A report, and the fault of the input at which it ends, if there is one.

@@ -3,10 +3,10 @@ use Rattle.std.proofs.Common.{◌≡◌, ℕ, ◌+◌, ◌-◌, ◌<◌, ◌≤�
 use Rattle.std.proofs.lemmas.Bool.{cases_lt, le-leb, lt-ltb}
 use Rattle.event_text.specs.Input.{overlong}
 use Rattle.event_text.specs.Lines.{lines_of}
-use Rattle.event_text.specs.Reading.{fault_at}
-use Rattle.event_text.specs.Words.{onto}
-use Rattle.event_text.specs.declared.fault.LineFault.{LineFault}
-use Rattle.event_text.specs.declared.fault.LineReason.TheVariants as reasons
+use Rattle.line_fields.specs.Fields.{fault_at}
+use Rattle.line_fields.specs.Words.{onto}
+use Rattle.line_fields.specs.declared.fault.LineFault.{LineFault}
+use Rattle.line_fields.specs.declared.fault.LineReason.TheVariants as reasons
 use Rattle.show_messages.specs.Messages.{messages_at}
 use Rattle.show_messages.specs.declared.reader.Place.{Place}
 

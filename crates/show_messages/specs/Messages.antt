@@ -2,10 +2,10 @@
 use Rattle.std.specs.Prelude.{ℕ, ◌+◌, ◌==◌, List, [], ◌∷◌, length, Option, Some, None, Result, Ok, Err, if◌then◌else◌}
 use Rattle.event_text.specs.Input.{overlong, unless}
 use Rattle.event_text.specs.Lines.{is_passed, lines_of, unfed}
-use Rattle.event_text.specs.Octets.{decoded, is_hex}
-use Rattle.event_text.specs.Reading.{fault_at}
-use Rattle.event_text.specs.declared.fault.LineFault.{LineFault}
-use Rattle.event_text.specs.declared.fault.LineReason.TheVariants as reasons
+use Rattle.line_fields.specs.Octets.{decoded, is_hex}
+use Rattle.line_fields.specs.Fields.{fault_at}
+use Rattle.line_fields.specs.declared.fault.LineFault.{LineFault}
+use Rattle.line_fields.specs.declared.fault.LineReason.TheVariants as reasons
 use Rattle.event_text.specs.declared.place.InputFault.{InputFault}
 use Rattle.show_messages.specs.declared.reader.Place.{Place}
 

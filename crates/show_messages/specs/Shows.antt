@@ -1,7 +1,7 @@
 -- The text of messages.
 use Rattle.std.specs.Prelude.{ℕ, List, ◌++◌, length}
 use Rattle.std.specs.List.{flat_map}
-use Rattle.event_text.specs.Report.{report_end}
+use Rattle.report_text.specs.Report.{report_end}
 use Rattle.message_text.specs.Shown.{shown}
 
 -- the text of each message, and the line of their number

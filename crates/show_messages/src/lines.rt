@@ -4,7 +4,7 @@ ghost use Rattle.std.specs.Prelude.{◌≡◌, ◌≢◌, ◌≤◌, ◌<◌, �
 ghost use Rattle.event_text.specs.Input.{overlong};
 ghost use Rattle.event_text.specs.Lines.{lines_of, unfed};
 
-use event_text::{LineFault, LineReason};
+use line_fields::{LineFault, LineReason};
 
 /// How many octets a line may have.
 const LINE_OCTETS: usize = 16_384;

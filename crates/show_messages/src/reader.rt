@@ -2,12 +2,13 @@
 
 ghost use Rattle.std.specs.Prelude.{◌≡◌, ◌≢◌, ◌≤◌, ◌<◌, ◌+◌, ◌^◌, [], length, true, false, IfErr, IfOk, IfNone, IfSome, OnErr, OnOk, OnSome, None, Some, Ok, Err};
 ghost use Rattle.std.specs.List.{list_all};
-ghost use Rattle.event_text.specs.Octets.{decoded, is_hex, is_lower};
+ghost use Rattle.line_fields.specs.Octets.{decoded, is_hex, is_lower};
 ghost use Rattle.event_text.specs.Lines.{is_passed};
 ghost use Rattle.show_messages.specs.Messages.{left_messages, line_in, messages_of, with_message};
 
 use crate::lines::{front_of, overlong};
-use event_text::{InputFault, LineFault, LineReason};
+use event_text::InputFault;
+use line_fields::{LineFault, LineReason};
 use std::marker::Model;
 
 /// How many messages an input may have.

@@ -2,15 +2,16 @@
 
 ghost use Rattle.std.specs.Prelude.{◌≡◌, ◌≤◌, ◌+◌, ◌/◌, ◌++◌, true, length, IfOk, OnOk};
 ghost use Rattle.std.specs.List.{flat_map};
-ghost use Rattle.event_text.specs.Octets.{decoded, is_hex};
+ghost use Rattle.line_fields.specs.Octets.{decoded, is_hex};
 ghost use Rattle.message_text.specs.Shown.{shown};
 ghost use Rattle.show_messages.specs.Messages.{left_messages, messages_of};
 ghost use Rattle.show_messages.specs.Shows.{shown_all};
 
 use crate::reader::MessageReader;
-use event_text::{InputFault, write_end};
+use event_text::InputFault;
 use ha_base::{Memory, Octets};
 use message_text::write_message;
+use report_text::write_end;
 use std::alloc::Global;
 
 /// How many octets a message may have, whose digits are one line.
@@ -24,7 +25,7 @@ pub struct Shown {
 }
 
 // Writes the octets of a word of hexadecimal.
-#[tactic(auto, using(event_text::proofs::OctetLaws::hex_sized))]
+#[tactic(auto, using(line_fields::proofs::OctetLaws::hex_sized))]
 fn fill(digits: &[u8], out: &mut [u8])
     requires hex { is_hex digits.now ≡ true }
     requires long { length digits.now / 2 ≡ length out.old }

@@ -1,6 +1,6 @@
 -- The first line, the turns' text, and the last line.
 use Rattle.std.proofs.Common.{◌≡◌, [], ◌++◌, ap, sym, ◌∙◌}
-use Rattle.event_text.specs.Report.{report_end, report_head, turns_text}
+use Rattle.report_text.specs.Report.{report_end, report_head, turns_text}
 use Rattle.replay_world.proofs.PlayedLaws.{turns_text-nil}
 use Rattle.replay_world.proofs.play.play.Goals as goal
 

@@ -1,6 +1,6 @@
 use Rattle.std.proofs.Common.{◌≡◌, ℕ, false, List, [], ◌++◌, length}
 use Rattle.event_text.specs.Input.{left_contents}
-use Rattle.event_text.specs.Report.{turns_text}
+use Rattle.report_text.specs.Report.{turns_text}
 use Rattle.replay_world.specs.Played.{prefixed, titles}
 use Rattle.replay_world.specs.Runs.{CausedSince, StandsTold}
 use Rattle.turn_rules.specs.Local.{Local}

@@ -26,7 +26,7 @@ fn hex_text(alloc: Global, octets: &[u8]) -> Result<String, Memory>
     }
 }
 
-pub(super) fn put_word(out: &mut Octets, word: &[u8]) -> Result<(), Memory>
+pub(crate) fn put_word(out: &mut Octets, word: &[u8]) -> Result<(), Memory>
     ensures { OnOk result (out.new.octets ≡ out.old.octets ++ (32 ∷ word.now)) }
 {
     out.push(b' ')?;
@@ -34,14 +34,14 @@ pub(super) fn put_word(out: &mut Octets, word: &[u8]) -> Result<(), Memory>
 }
 
 /// The number's word, with no space before it.
-pub(super) fn put_bare_number(alloc: Global, out: &mut Octets, number: u64) -> Result<(), Memory>
+pub(crate) fn put_bare_number(alloc: Global, out: &mut Octets, number: u64) -> Result<(), Memory>
     ensures { OnOk result (out.new.octets ≡ out.old.octets ++ decimal number) }
 {
     let text = number_text(alloc, number)?;
     out.extend(text.as_bytes())
 }
 
-pub(super) fn put_number(alloc: Global, out: &mut Octets, number: u64) -> Result<(), Memory>
+pub(crate) fn put_number(alloc: Global, out: &mut Octets, number: u64) -> Result<(), Memory>
     ensures { OnOk result (out.new.octets ≡ out.old.octets ++ (32 ∷ decimal number)) }
 {
     let text = number_text(alloc, number)?;
@@ -49,7 +49,7 @@ pub(super) fn put_number(alloc: Global, out: &mut Octets, number: u64) -> Result
 }
 
 /// The octets' word, with no space before it.
-pub(super) fn put_bare_octets(alloc: Global, out: &mut Octets, octets: &[u8]) -> Result<(), Memory>
+pub(crate) fn put_bare_octets(alloc: Global, out: &mut Octets, octets: &[u8]) -> Result<(), Memory>
     ensures { OnOk result (out.new.octets ≡ out.old.octets ++ octets_text octets.now) }
 {
     if octets.is_empty() {
@@ -59,7 +59,7 @@ pub(super) fn put_bare_octets(alloc: Global, out: &mut Octets, octets: &[u8]) ->
     out.extend(text.as_bytes())
 }
 
-pub(super) fn put_octets(alloc: Global, out: &mut Octets, octets: &[u8]) -> Result<(), Memory>
+pub(crate) fn put_octets(alloc: Global, out: &mut Octets, octets: &[u8]) -> Result<(), Memory>
     ensures { OnOk result (out.new.octets ≡ out.old.octets ++ (32 ∷ octets_text octets.now)) }
 {
     out.push(b' ')?;
@@ -67,21 +67,21 @@ pub(super) fn put_octets(alloc: Global, out: &mut Octets, octets: &[u8]) -> Resu
 }
 
 /// The SPI's word, with no space before it.
-pub(super) fn put_bare_spi(alloc: Global, out: &mut Octets, spi: u64) -> Result<(), Memory>
+pub(crate) fn put_bare_spi(alloc: Global, out: &mut Octets, spi: u64) -> Result<(), Memory>
     ensures { OnOk result (out.new.octets ≡ out.old.octets ++ spi_text spi) }
 {
     let text = hex_text(alloc, &spi.to_be_bytes())?;
     out.extend(text.as_bytes())
 }
 
-pub(super) fn put_spi(alloc: Global, out: &mut Octets, spi: u64) -> Result<(), Memory>
+pub(crate) fn put_spi(alloc: Global, out: &mut Octets, spi: u64) -> Result<(), Memory>
     ensures { OnOk result (out.new.octets ≡ out.old.octets ++ (32 ∷ spi_text spi)) }
 {
     out.push(b' ')?;
     put_bare_spi(alloc, out, spi)
 }
 
-pub(super) fn put_esp_spi(alloc: Global, out: &mut Octets, spi: u32) -> Result<(), Memory>
+pub(crate) fn put_esp_spi(alloc: Global, out: &mut Octets, spi: u32) -> Result<(), Memory>
     ensures { OnOk result (out.new.octets ≡ out.old.octets ++ (32 ∷ esp_spi_text spi)) }
 {
     let text = hex_text(alloc, &spi.to_be_bytes())?;

@@ -1,4 +1,4 @@
--- Words put one after another make a line.
+-- The texts of calls and seals one after another, and the line of an event.
 use Rattle.std.proofs.Common.{◌≡◌, ℕ, ◌+◌, ◌<◌, codes, List, [], ◌∷◌, ◌++◌, length, take, Some, None, refl, sym, ap, ◌∙◌, append_assoc, append-nil, arith}
 use Rattle.std.specs.Prelude.{slice_get}
 use Rattle.std.specs.List.{flat_map}
@@ -6,26 +6,12 @@ use Rattle.std.proofs.lemmas.Grind.{flat_map-append}
 use Rattle.std.proofs.lemmas.List.{take_more}
 use Rattle.std.proofs.lemmas.List.Concat.{flat_map-cons}
 use Rattle.std.proofs.lemmas.Option.{get_or_from_slice_get, slice_get-get_or, slice_get_within}
-use Rattle.line_fields.specs.Words.{spaced, line_of}
+use Rattle.line_fields.specs.Writing.{line_text}
 use Rattle.std.specs.Fmt.{decimal}
 use Rattle.event_text.specs.declared.turn.Turn.{Turn}
 use Rattle.event_text.specs.Events.{plain}
 use Rattle.event_text.specs.Grammar.{EventLine}
-use Rattle.event_text.specs.Report.{line_text, title_words}
-use Rattle.event_text.specs.Writing.{with_words}
-
-with_words_spaced : (text : List ℕ) (ws : List (List ℕ)) → with_words text ws ≡ text ++ spaced ws
-with_words_spaced text [] = sym (append-nil text)
-with_words_spaced text (w ∷ ws) = with_words_spaced (text ++ (32 ∷ w)) ws ∙ append_assoc text (32 ∷ w) (spaced ws)
-
-pub with_words_append : (text : List ℕ) (vs ws : List (List ℕ)) → with_words text (vs ++ ws) ≡ with_words (with_words text vs) ws
-with_words_append text [] ws = refl
-with_words_append text (v ∷ vs) ws = with_words_append (text ++ (32 ∷ v)) vs ws
-
--- a word, the words behind it, and a line feed are their line
-pub line_put : (text w : List ℕ) (ws : List (List ℕ)) → with_words (text ++ w) ws ++ (10 ∷ []) ≡ text ++ line_text (w ∷ ws)
-line_put text w ws =
-    ap (λ (t : List ℕ). t ++ (10 ∷ [])) (with_words_spaced (text ++ w) ws ∙ append_assoc text w (spaced ws)) ∙ append_assoc text (line_of (w ∷ ws)) (10 ∷ [])
+use Rattle.report_text.specs.Report.{title_words}
 
 -- the texts of one item more
 pub one_more : {X : Type 0} (f : X → List ℕ) (xs : List X) (i : ℕ) (x : X) → slice_get xs i ≡ Some x → flat_map f (take (i + 1) xs) ≡ flat_map f (take i xs) ++ f x

@@ -1,10 +1,10 @@
 //! The fault of an input in one line.
 
 ghost use Rattle.std.specs.Prelude.{◌≡◌, ◌++◌, OnOk};
-ghost use Rattle.event_text.specs.Faults.{fault_line};
+ghost use Rattle.report_text.specs.Faults.{fault_line};
 
-use super::words::put_bare_number;
-use crate::place::InputFault;
+use crate::words::put_bare_number;
+use event_text::InputFault;
 use ha_base::{Memory, Octets};
 use std::alloc::Global;
 

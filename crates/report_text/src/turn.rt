@@ -1,14 +1,15 @@
 //! A turn's text.
 
 ghost use Rattle.std.specs.Prelude.{◌≡◌, ◌∷◌, ◌++◌, OnOk, OnErr, IfOk, codes};
-ghost use Rattle.event_text.specs.Report.{line_text, report_end, report_head, title_words, turn_text};
-ghost use Rattle.event_text.specs.Writing.{with_words};
+ghost use Rattle.line_fields.specs.Writing.{line_text};
+ghost use Rattle.report_text.specs.Report.{report_end, report_head, title_words, turn_text};
+ghost use Rattle.line_fields.specs.Writing.{with_words};
 
-use super::calls::put_calls;
-use super::event::put_event;
-use super::outcome::{put_gives, put_out, put_seals, put_served};
-use super::words::put_number;
-use crate::turn::Turn;
+use crate::calls::put_calls;
+use crate::event::put_event;
+use crate::outcome::{put_gives, put_out, put_seals, put_served};
+use crate::words::put_number;
+use event_text::Turn;
 use ha_base::{Memory, Octets};
 use std::alloc::Global;
 
@@ -21,7 +22,7 @@ fn put_title(alloc: Global, out: &mut Octets, number: u64, turn: &Turn) -> Resul
     put_event(alloc, out, &turn.event)
 }
 
-#[tactic(auto, using(crate::proofs::WritingLaws::line_put))]
+#[tactic(auto, using(line_fields::proofs::WritingLaws::line_put))]
 fn put_head(alloc: Global, out: &mut Octets, number: u64, turn: &Turn) -> Result<(), Memory>
     ensures { OnOk result (out.new.octets ≡ out.old.octets ++ line_text (codes "turn" ∷ title_words number turn.now)) }
 {
@@ -68,7 +69,7 @@ pub fn write_head(out: &mut Octets) -> Result<(), Memory>
     out.extend(b"ha-report 1\n")
 }
 
-#[tactic(auto, using(crate::proofs::WritingLaws::line_put))]
+#[tactic(auto, using(line_fields::proofs::WritingLaws::line_put))]
 fn end_of(alloc: Global, turns: u64) -> Result<Octets, Memory>
     ensures { IfOk result (λ text. text.octets ≡ report_end turns) }
 {

@@ -26,14 +26,10 @@ use Rattle.event_text.specs.declared.verdict.Refusal.{Refusal}
 use Rattle.event_text.specs.declared.verdict.Refusal.TheVariants as refusals
 use Rattle.event_text.specs.declared.verdict.Verdict.{Verdict}
 use Rattle.event_text.specs.declared.verdict.Verdict.TheVariants as verdicts
-use Rattle.line_fields.specs.Words.{line_of}
+use Rattle.line_fields.specs.Writing.{line_text}
 use Rattle.line_fields.specs.Octets.{octets_text, spi_text}
 use Rattle.event_text.specs.Events.{plain}
 use Rattle.event_text.specs.Grammar.{five_words, line_words}
-
--- a line of some words, and its line feed
-abbrev pub line_text : List (List ℕ) → List ℕ
-line_text words = line_of words ++ 10 ∷ []
 
 -- ---- the keeper's calls
 

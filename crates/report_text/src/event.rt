@@ -5,10 +5,10 @@ ghost use Rattle.line_fields.specs.Identities.{identity_text, prefix_of};
 ghost use Rattle.event_text.specs.Events.{association, plain};
 ghost use Rattle.line_fields.specs.Fields.{size_text};
 ghost use Rattle.event_text.specs.Grammar.{association_words, child_key_words, event_words, five_words, sa_key_words};
-ghost use Rattle.event_text.specs.Writing.{with_words};
+ghost use Rattle.line_fields.specs.Writing.{with_words};
 
-use super::words::{put_bare_octets, put_esp_spi, put_number, put_octets, put_spi, put_word};
-use crate::event::Event;
+use crate::words::{put_bare_octets, put_esp_spi, put_number, put_octets, put_spi, put_word};
+use event_text::Event;
 use ha_base::{ChildKeys, Identity, KeySize, Memory, Octets, SaKeys};
 use keeper_book::{Five, Record};
 use std::alloc::Global;
@@ -58,7 +58,7 @@ fn put_child_keys(alloc: Global, out: &mut Octets, keys: &ChildKeys) -> Result<(
     put_octets(alloc, out, keys.to_peer.as_slice())
 }
 
-pub(super) fn put_five(alloc: Global, out: &mut Octets, five: &Five) -> Result<(), Memory>
+pub(crate) fn put_five(alloc: Global, out: &mut Octets, five: &Five) -> Result<(), Memory>
     ensures { OnOk result (out.new.octets ≡ with_words out.old.octets (five_words five.now)) }
 {
     put_number(alloc, out, five.esp_out)?;
@@ -82,7 +82,7 @@ fn put_association(alloc: Global, out: &mut Octets, sa: &Record) -> Result<(), M
     put_five(alloc, out, &sa.starts)
 }
 
-pub(super) fn put_event(alloc: Global, out: &mut Octets, event: &Event) -> Result<(), Memory>
+pub(crate) fn put_event(alloc: Global, out: &mut Octets, event: &Event) -> Result<(), Memory>
     ensures { OnOk result (out.new.octets ≡ with_words out.old.octets (event_words (plain event.now))) }
 {
     match event {

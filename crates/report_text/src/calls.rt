@@ -2,11 +2,11 @@
 
 ghost use Rattle.std.specs.Prelude.{◌≡◌, ◌∷◌, ◌++◌, OnOk};
 ghost use Rattle.std.specs.List.{flat_map};
-ghost use Rattle.event_text.specs.Report.{answer_words, ask_words, call_words, fault_words, hidden_words, keep_text, kind_word};
-ghost use Rattle.event_text.specs.Writing.{with_words};
+ghost use Rattle.report_text.specs.Report.{answer_words, ask_words, call_words, fault_words, hidden_words, keep_text, kind_word};
+ghost use Rattle.line_fields.specs.Writing.{with_words};
 
-use super::event::put_five;
-use super::words::{put_number, put_spi, put_word};
+use crate::event::put_five;
+use crate::words::{put_number, put_spi, put_word};
 use ha_base::{Kind, Memory, Octets};
 use keeper_book::{Call, Calls, KeeperAnswer, KeeperAsk, KeeperFault};
 use std::alloc::Global;
@@ -108,7 +108,7 @@ fn put_call(alloc: Global, out: &mut Octets, call: &Call) -> Result<(), Memory>
     put_answer(alloc, out, &call.answer)
 }
 
-#[tactic(auto, using(crate::proofs::WritingLaws::line_put))]
+#[tactic(auto, using(line_fields::proofs::WritingLaws::line_put))]
 fn put_keep(alloc: Global, out: &mut Octets, call: &Call) -> Result<(), Memory>
     ensures { OnOk result (out.new.octets ≡ out.old.octets ++ keep_text call.now) }
 {
@@ -119,7 +119,7 @@ fn put_keep(alloc: Global, out: &mut Octets, call: &Call) -> Result<(), Memory>
 
 /// A line for each call, in order.
 #[tactic(auto, using(crate::proofs::WritingLaws::one_more, crate::proofs::WritingLaws::item_there))]
-pub(super) fn put_calls(alloc: Global, out: &mut Octets, calls: &Calls) -> Result<(), Memory>
+pub(crate) fn put_calls(alloc: Global, out: &mut Octets, calls: &Calls) -> Result<(), Memory>
     ensures { OnOk result (out.new.octets ≡ out.old.octets ++ flat_map keep_text calls.now) }
 {
     for at in 0..calls.len() {

@@ -2,16 +2,15 @@
 
 ghost use Rattle.std.specs.Prelude.{◌≡◌, ◌∷◌, ◌++◌, OnOk, codes};
 ghost use Rattle.std.specs.List.{flat_map};
-ghost use Rattle.event_text.specs.Report.{derivation_text, gives_text, gives_words, line_text, medium_word, origin_text, part_word, refusal_words, seal_text, seal_words, served_text, served_words, verdict_words};
-ghost use Rattle.event_text.specs.Writing.{with_words};
+ghost use Rattle.line_fields.specs.Writing.{line_text};
+ghost use Rattle.report_text.specs.Report.{derivation_text, gives_text, gives_words, medium_word, origin_text, part_word, refusal_words, seal_text, seal_words, served_text, served_words, verdict_words};
+ghost use Rattle.line_fields.specs.Writing.{with_words};
 
-use super::event::put_five;
-use super::words::{
+use crate::event::put_five;
+use crate::words::{
     put_bare_number, put_bare_octets, put_bare_spi, put_number, put_octets, put_word,
 };
-use crate::seals::{Seal, Seals};
-use crate::turn::{Datagram, Medium, Served};
-use crate::verdict::{Refusal, Verdict};
+use event_text::{Datagram, Medium, Refusal, Seal, Seals, Served, Verdict};
 use ha_base::{Derivation, End, Kind, Memory, Octets, Origin};
 use std::alloc::Global;
 
@@ -24,8 +23,8 @@ fn put_served_words(alloc: Global, out: &mut Octets, served: &Served) -> Result<
 }
 
 /// A line where a service executed a request.
-#[tactic(auto, using(crate::proofs::WritingLaws::line_put))]
-pub(super) fn put_served(
+#[tactic(auto, using(line_fields::proofs::WritingLaws::line_put))]
+pub(crate) fn put_served(
     alloc: Global,
     out: &mut Octets,
     served: &Option<Served>,
@@ -100,7 +99,7 @@ fn put_seal_words(alloc: Global, out: &mut Octets, seal: &Seal) -> Result<(), Me
     put_octets(alloc, out, seal.sealed.as_slice())
 }
 
-#[tactic(auto, using(crate::proofs::WritingLaws::line_put))]
+#[tactic(auto, using(line_fields::proofs::WritingLaws::line_put))]
 fn put_seal(alloc: Global, out: &mut Octets, seal: &Seal) -> Result<(), Memory>
     ensures { OnOk result (out.new.octets ≡ out.old.octets ++ seal_text seal.now) }
 {
@@ -111,7 +110,7 @@ fn put_seal(alloc: Global, out: &mut Octets, seal: &Seal) -> Result<(), Memory>
 
 /// A line for each seal, in order.
 #[tactic(auto, using(crate::proofs::WritingLaws::one_more, crate::proofs::WritingLaws::item_there))]
-pub(super) fn put_seals(alloc: Global, out: &mut Octets, seals: &Seals) -> Result<(), Memory>
+pub(crate) fn put_seals(alloc: Global, out: &mut Octets, seals: &Seals) -> Result<(), Memory>
     ensures { OnOk result (out.new.octets ≡ out.old.octets ++ flat_map seal_text seals.now) }
 {
     for at in 0..seals.len() {
@@ -146,8 +145,8 @@ fn put_gives_words(
 }
 
 /// A line for the datagram that is given, by its number.
-#[tactic(auto, using(crate::proofs::WritingLaws::line_put))]
-pub(super) fn put_gives(
+#[tactic(auto, using(line_fields::proofs::WritingLaws::line_put))]
+pub(crate) fn put_gives(
     alloc: Global,
     out: &mut Octets,
     number: u64,
@@ -215,8 +214,8 @@ fn put_verdict(alloc: Global, out: &mut Octets, verdict: &Verdict) -> Result<(),
 }
 
 /// The line of the verdict.
-#[tactic(auto, using(crate::proofs::WritingLaws::line_put))]
-pub(super) fn put_out(alloc: Global, out: &mut Octets, verdict: &Verdict) -> Result<(), Memory>
+#[tactic(auto, using(line_fields::proofs::WritingLaws::line_put))]
+pub(crate) fn put_out(alloc: Global, out: &mut Octets, verdict: &Verdict) -> Result<(), Memory>
     ensures { OnOk result (out.new.octets ≡ out.old.octets ++ line_text (codes "out" ∷ verdict_words verdict.now)) }
 {
     out.extend(b"out")?;

@@ -1,5 +1,0 @@
-use Rattle.event_text.proofs.WritingLaws.{turn_line}
-use Rattle.event_text.proofs.laws.turns_repeat_their_lines.Goals as goal
-
-pub returns : goal.returns
-returns c = turn_line
