@@ -9,7 +9,7 @@ use Rattle.event_text.specs.declared.turn.Turn.{Turn}
 use Rattle.ha_base.specs.declared.outside.Moment.{Moment}
 use Rattle.keeper_book.specs.Book.{Book}
 use Rattle.ha_base.specs.Faults.{AppendsFront}
-use Rattle.replay_world.specs.Runs.{CausedSince, StandsTold}
+use Rattle.replay_world.specs.Runs.{CausedSince, OwnedTold, StandsTold}
 use Rattle.turn_rules.specs.Local.{Local}
 use Rattle.turn_rules.specs.Safe.{Safe}
 
@@ -38,6 +38,8 @@ pub record IsPlayed (given : List Turn → Type 0) (boxes : ℕ) (input : List �
   pub serves : given trace
   -- where the keeper told an empty book, it tells the one that the calls of the trace lead to
   pub stands : StandsTold [] book → StandsTold trace now_book
+  -- and the numbers of its epochs belong to one end each
+  pub owned : StandsTold [] book → OwnedTold trace now_book
   -- a call failed only where the keeper's count of faults rose
   pub caused : CausedSince faults now_faults trace
 

@@ -5,6 +5,7 @@ use Rattle.event_text.specs.declared.turn.Turn.{Turn}
 use Rattle.ha_base.specs.declared.outside.Moment.{Moment}
 use Rattle.keeper_book.specs.Book.{Book}
 use Rattle.keeper_book.specs.Told.{HaveCause}
+use Rattle.turn_laws.specs.Turns.{AreOwned}
 use Rattle.turn_rules.specs.Local.{Stands, calls_of}
 
 pub record Run : Type 0 where
@@ -23,6 +24,11 @@ pub record Grows (old : Run) (now : Moment) (event : Event) (new : Run) : Type 0
 abbrev pub StandsTold : List Turn → Option Book → Type 0
 StandsTold past None = Unit {0}
 StandsTold past (Some book) = Stands past book
+
+-- the numbers of the book's epochs, where the book is told, belong to one end each
+abbrev pub OwnedTold : List Turn → Option Book → Type 0
+OwnedTold past None = Unit {0}
+OwnedTold past (Some book) = AreOwned past book
 
 -- since the count of faults was this one, calls of the turns failed only where it rose
 abbrev pub CausedSince : ℕ → ℕ → List Turn → Type 0

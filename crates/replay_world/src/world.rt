@@ -1,7 +1,7 @@
 ghost use Rattle.std.specs.Prelude.{◌≡◌, ℕ, [], OnOk, OnErr, false, length, slice_get, vec_len};
 ghost use Rattle.std.specs.Option.{option_copied};
 ghost use Rattle.turn_rules.specs.Local.{Local};
-ghost use Rattle.replay_world.specs.Runs.{CausedSince, Grows, StandsTold};
+ghost use Rattle.replay_world.specs.Runs.{CausedSince, Grows, OwnedTold, StandsTold};
 
 use crate::ends::Ends;
 use event_text::{Event, Turn};
@@ -51,6 +51,10 @@ impl World {
         ensures local { Local self.new.ends.boxes self.new.ends.past }
         ensures stands { StandsTold self.old.ends.past (K.book keeper.old.keeper)
             → OnOk result (StandsTold self.new.ends.past (K.book keeper.new.keeper)) }
+        ensures owned_before { StandsTold self.old.ends.past (K.book keeper.old.keeper)
+            → OwnedTold self.old.ends.past (K.book keeper.old.keeper) }
+        ensures owned { StandsTold self.old.ends.past (K.book keeper.old.keeper)
+            → OnOk result (OwnedTold self.new.ends.past (K.book keeper.new.keeper)) }
         ensures caused { (start : ℕ) → CausedSince start (K.faults keeper.old.keeper) self.old.ends.past
             → OnOk result (CausedSince start (K.faults keeper.new.keeper) self.new.ends.past) }
         ensures empty { OnOk result (keeper.new.calls ≡ []) }

@@ -8,6 +8,6 @@ mod Plain
 mod Told
 mod Records
 mod Well
-mod All
+pub mod All
 mod Sealed
 mod Safe

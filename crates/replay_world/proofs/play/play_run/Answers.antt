@@ -2,6 +2,7 @@
 use Rattle.std.proofs.Common.{ap, subst, ◌∙◌}
 use Rattle.replay_world.specs.Runs.{Run}
 use Rattle.turn_rules.specs.Local.{Local}
+use Rattle.replay_world.proofs.OwnedLaws.{owned_told}
 use Rattle.replay_world.proofs.PlayedLaws.{local_is_safe, none_caused, none_given}
 use Rattle.replay_world.proofs.play.play_run.Goals as goal
 
@@ -18,5 +19,6 @@ returns-clause-played g c =
       safe = local_is_safe c.play.new.world.ends.boxes past p.local;
       serves = none_given _ _ c.play.new.world.ends.boxes past p.local;
       stands = p.stands;
+      owned = λ before. owned_told c.play.new.world.ends.boxes past _ p.local (p.stands before);
       caused = p.caused _ (none_caused _);
     }

@@ -1,0 +1,23 @@
+-- Where each turn is explained and the book stands for the calls, all is owned.
+use Rattle.std.proofs.Common.{◌≡◌, ℕ, Option, Some, None, List, Result, Ok, Err, OnOk, OnErr, subst}
+use Rattle.event_text.specs.declared.event.Event.{Event}
+use Rattle.event_text.specs.declared.turn.Turn.{Turn}
+use Rattle.ha_base.specs.declared.outside.Moment.{Moment}
+use Rattle.keeper_book.specs.Book.{Book}
+use Rattle.replay_world.specs.Runs.{Grows, OwnedTold, Run, StandsTold}
+use Rattle.turn_laws.proofs.All.{owned-run}
+use Rattle.turn_rules.specs.Local.{Local}
+
+pub owned_told : (boxes : ℕ) (past : List Turn) (book : Option Book) → Local boxes past → StandsTold past book → OwnedTold past book
+owned_told boxes past None local stands = tt
+owned_told boxes past (Some book) local stands = owned-run boxes past book local stands
+
+-- the turns before the newest one are explained too
+pub local_before : (old new : Run) (now : Moment) (event : Event) → Grows old now event new → Local new.boxes new.past → Local old.boxes old.past
+local_before old new now event grows local =
+    subst (λ boxes. Local boxes old.past) grows.boxes (subst (λ past. Local new.boxes past) grows.more local).1
+
+-- also where no turn came
+pub local_old : {T E : Type 0} (r : Result T E) (old new : Run) (now : Moment) (event : Event) → OnOk r (Grows old now event new) → OnErr r (new ≡ old) → Local new.boxes new.past → Local old.boxes old.past
+local_old (Ok x) old new now event grows err local = local_before old new now event grows local
+local_old (Err e) old new now event grows err local = subst (λ (run : Run). Local run.boxes run.past) err local
