@@ -99,7 +99,7 @@ fn put_hidden(out: &mut Octets, hidden: bool) -> Result<(), Memory>
     Ok(())
 }
 
-#[tactic(auto, unfolding(crate::specs::Report::call_words), using(crate::proofs::WritingLaws::with_words_append))]
+#[tactic(auto, unfolding(crate::specs::Report::call_words), using(line_fields::proofs::WritingLaws::with_words_append))]
 fn put_call(alloc: Global, out: &mut Octets, call: &Call) -> Result<(), Memory>
     ensures { OnOk result (out.new.octets ≡ with_words out.old.octets (call_words call.now)) }
 {
