@@ -1,10 +1,12 @@
 //! The messages of an input, one a line in hexadecimal, and their text.
 #![tactic(auto)]
 
+mod laws;
 mod lines;
 mod reader;
 mod text;
 
+pub use laws::front_tells_messages;
 pub use reader::Place;
 pub use text::{Shown, show};
 
