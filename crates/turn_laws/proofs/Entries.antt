@@ -74,7 +74,7 @@ is_counter-true counter.Ask counter.Ask e = refl
 is_counter-true counter.Answer counter.Answer e = refl
 is_counter-true c d e = absurd (cc)
 
-within_end : (five : Five) (c : Counter) → AreWithinEnds five → five_at five c ≤ end_of c
+pub within_end : (five : Five) (c : Counter) → AreWithinEnds five → five_at five c ≤ end_of c
 within_end five counter.EspOut w = w.esp_out
 within_end five counter.EspIn w = w.esp_in
 within_end five counter.Iv w = w.iv

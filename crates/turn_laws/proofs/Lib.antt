@@ -11,3 +11,4 @@ mod Well
 pub mod All
 mod Sealed
 mod Safe
+mod Ends

@@ -60,3 +60,8 @@ column_theirs c (Some e) = record { bases = start_of e.sa c ∷ []; high = end_o
 abbrev pub column : Place → Book → Column
 column (Ours spir c) book = column_ours c (entry_of spir book.entries)
 column (Theirs spir c) book = column_theirs c (entry_of spir book.entries)
+
+-- no number of a place reaches this end
+abbrev pub end_at : Place → ℕ
+end_at (Ours spir c) = end_of c
+end_at (Theirs spir c) = end_of c

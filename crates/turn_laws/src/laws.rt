@@ -1,10 +1,10 @@
 //! The laws. Each is the contract of a function that does nothing.
 
 ghost use Rattle.std.specs.Prelude.{◌≡◌, ◌≢◌, ◌<◌, ◌≤◌, ◌⊎◌, ℕ, Option, Some, List, [], ◌∷◌};
-ghost use Rattle.std.specs.List.{filter_map};
+ghost use Rattle.std.specs.List.{AllByRecursion, filter_map};
 ghost use Rattle.event_text.specs.declared.turn.Turn.{Turn};
 ghost use Rattle.keeper_book.specs.Book.{Book, Enters, after};
-ghost use Rattle.keeper_book.specs.Counters.{five_at};
+ghost use Rattle.keeper_book.specs.Counters.{end_of, five_at};
 ghost use Rattle.keeper_book.specs.declared.calls.Call.{Call};
 ghost use Rattle.keeper_book.specs.declared.calls.KeeperAnswer.TheVariants as answer;
 ghost use Rattle.keeper_book.specs.declared.counters.Counter.{Counter};
@@ -13,7 +13,7 @@ ghost use Rattle.turn_laws.specs.Acts.{Act, Calls, Ends, MayAsk, MayDoAll, Move,
 ghost use Rattle.turn_laws.specs.Columns.{Column, GoesOn, mark};
 ghost use Rattle.turn_laws.specs.Holdings.{Actor, Begins, Draws, End, Holding, IsNew, IsOwned, MayUse, Rises, Use, held_after, uses_after};
 ghost use Rattle.turn_laws.specs.Owned.{Owned};
-ghost use Rattle.turn_laws.specs.Places.{Ours, Place};
+ghost use Rattle.turn_laws.specs.Places.{Ours, Place, end_at};
 ghost use Rattle.turn_laws.specs.Turns.{AreOwned, actor_of, acts_of, moves_of, told};
 ghost use Rattle.turn_rules.specs.Ends.{Member, own};
 ghost use Rattle.turn_rules.specs.Held.{Held, held_by, number_of};
@@ -85,6 +85,14 @@ pub fn no_number_twice()
         → (p : Place) → IsEachOnce (numbers_at p (acts_of past)) }
     ensures counters { (boxes : ℕ) (past : List Turn) (book : Book) → Local boxes past → Stands past book
         → (spir : ℕ) (c : Counter) → IsEachOnce (filter_map (number_of spir c) past) }
+{}
+
+/// No number reaches its counter's end.
+pub fn no_number_past_its_end()
+    ensures places { (boxes : ℕ) (past : List Turn) (book : Book) → Local boxes past → Stands past book
+        → (p : Place) → AllByRecursion (λ n. n < end_at p) (numbers_at p (acts_of past)) }
+    ensures counters { (boxes : ℕ) (past : List Turn) (book : Book) → Local boxes past → Stands past book
+        → (spir : ℕ) (c : Counter) → AllByRecursion (λ n. n < end_of c) (filter_map (number_of spir c) past) }
 {}
 
 /// Two members that hold an association, the replaced ones too, hold different epochs, and where an earlier epoch's highs

@@ -6,6 +6,6 @@ mod laws;
 
 pub use laws::{
     all_is_owned, beginnings_keep_owned, calls_keep_owned, ends_keep_owned, holdings_are_apart,
-    no_number_twice, others_change_nothing, own_turns_tell_holdings, rises_keep_owned,
-    runs_are_safe, turns_are_moves, uses_keep_owned,
+    no_number_past_its_end, no_number_twice, others_change_nothing, own_turns_tell_holdings,
+    rises_keep_owned, runs_are_safe, turns_are_moves, uses_keep_owned,
 };
