@@ -1,27 +1,12 @@
 -- No word of an event has a space.
-use Rattle.std.proofs.Common.{◌≡◌, ℕ, ◌-◌, ◌^◌, ◌<◌, ◌≤◌, Bool, true, false, ◌&&◌, not, eqb, List, [], ◌∷◌, ◌++◌, refl, sym, ◌∙◌, arith, inl, inr, lit≤}
-use Rattle.std.proofs.lemmas.Bool.{and_parts, false≢true}
-use Rattle.std.proofs.lemmas.Bool.Decides.{eqb_tells}
-use Rattle.std.proofs.lemmas.Fmt.{digits_decimal}
-use Rattle.std.specs.Fmt.{decimal}
-use Rattle.std.specs.Int.{w32, w64, to_be_bytes}
+use Rattle.std.proofs.Common.{◌≡◌, ◌-◌, ◌^◌, ◌<◌, true, not, eqb, refl, lit≤}
+use Rattle.std.proofs.lemmas.Bool.{and_parts}
 use Rattle.std.specs.List.{list_all}
-use Rattle.hex.specs.Hex.{IsBytes, encode_lower}
-use Rattle.ha_base.specs.declared.identities.Identity.{Identity}
-use Rattle.ha_base.specs.declared.key_material.KeySize.{KeySize}
-use Rattle.ha_base.specs.declared.key_material.KeySize.TheVariants.{Bits128, Bits256}
 use Rattle.ha_base.specs.declared.outside.Moment.{Moment}
-use Rattle.line_fields.specs.Numbers.{is_digit}
-use Rattle.line_fields.specs.Octets.{IsOctets, esp_spi_text, is_lower, octets_text, spi_text}
-use Rattle.line_fields.specs.Identities.{IsIdentity, identity_text}
 use Rattle.event_text.specs.Events.{PlainEvent, Import, Join, Own, Draw}
-use Rattle.line_fields.specs.Fields.{size_text}
 use Rattle.event_text.specs.Grammar.{Fits, event_words, line_words}
-use Rattle.line_fields.specs.Words.{line_of, spaced}
 use Rattle.line_fields.proofs.WordLaws.{are_words, is_word, no_space}
-use Rattle.line_fields.proofs.NumberLaws.{own}
-use Rattle.line_fields.proofs.OctetLaws.{lower-encode}
-use Rattle.line_fields.proofs.SpacelessLaws.{all_also, is_plain, number_word, plain_octet, word_decimal, word_esp_spi, word_identity, word_octets, word_size, word_spi}
+use Rattle.line_fields.proofs.SpacelessLaws.{all_also, is_plain, number_word, plain_octet, word_esp_spi, word_identity, word_octets, word_size, word_spi}
 
 -- the words of an event
 pub event_plain : (e : PlainEvent) → Fits e → list_all is_plain (event_words e) ≡ true

@@ -1,5 +1,5 @@
 -- No word of a field has a space.
-use Rattle.std.proofs.Common.{◌≡◌, ℕ, ◌-◌, ◌^◌, ◌<◌, ◌≤◌, Bool, true, false, ◌&&◌, not, eqb, List, [], ◌∷◌, ◌++◌, refl, sym, ◌∙◌, arith, inl, inr, lit≤}
+use Rattle.std.proofs.Common.{◌≡◌, ℕ, ◌^◌, ◌<◌, ◌≤◌, Bool, true, false, ◌&&◌, not, eqb, List, [], ◌∷◌, refl, sym, ◌∙◌, arith, inl, inr}
 use Rattle.std.proofs.lemmas.Bool.{and_parts, false≢true}
 use Rattle.std.proofs.lemmas.Bool.Decides.{eqb_tells}
 use Rattle.std.proofs.lemmas.Fmt.{digits_decimal}
@@ -10,13 +10,10 @@ use Rattle.hex.specs.Hex.{IsBytes, encode_lower}
 use Rattle.ha_base.specs.declared.identities.Identity.{Identity}
 use Rattle.ha_base.specs.declared.key_material.KeySize.{KeySize}
 use Rattle.ha_base.specs.declared.key_material.KeySize.TheVariants.{Bits128, Bits256}
-use Rattle.ha_base.specs.declared.outside.Moment.{Moment}
 use Rattle.line_fields.specs.Numbers.{is_digit}
 use Rattle.line_fields.specs.Octets.{IsOctets, esp_spi_text, is_lower, octets_text, spi_text}
 use Rattle.line_fields.specs.Identities.{IsIdentity, identity_text}
 use Rattle.line_fields.specs.Fields.{size_text}
-use Rattle.line_fields.specs.Words.{line_of, spaced}
-use Rattle.line_fields.proofs.WordLaws.{are_words, is_word, no_space}
 use Rattle.line_fields.proofs.NumberLaws.{own}
 use Rattle.line_fields.proofs.OctetLaws.{lower-encode}
 use Rattle.line_fields.proofs.FieldLaws.{bytes_high}

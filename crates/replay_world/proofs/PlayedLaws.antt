@@ -1,13 +1,13 @@
 -- What one more turn makes of what is said of an input, and of the text of a report.
-use Rattle.std.proofs.Common.{◌≡◌, ℕ, ◌+◌, ◌<◌, List, [], ◌∷◌, ◌++◌, length, Option, Some, None, refl, ap, sym, subst, ◌∙◌, append_assoc, append-nil, add-one, arith}
+use Rattle.std.proofs.Common.{◌≡◌, ℕ, ◌+◌, List, [], ◌∷◌, ◌++◌, length, Option, Some, None, refl, ap, sym, subst, ◌∙◌, append_assoc, append-nil, add-one, arith}
 use Rattle.std.specs.Prelude.{is_some, slice_get, unwrap_or, true}
 use Rattle.std.specs.List.{AllByRecursion, filter_map}
 use Rattle.std.proofs.Math.Seq.{take-length}
 use Rattle.std.specs.Io.KnownBytes.{Appends}
 use Rattle.ha_base.specs.Faults.{AppendsFront}
-use Rattle.event_text.specs.Events.{PlainEvent, plain}
+use Rattle.event_text.specs.Events.{PlainEvent}
 use Rattle.event_text.specs.Input.{Contents, with_event}
-use Rattle.report_text.specs.Report.{given, gives_text, turn_text, turns_text}
+use Rattle.report_text.specs.Report.{given, turn_text, turns_text}
 use Rattle.event_text.specs.declared.place.InputFault.{InputFault}
 use Rattle.event_text.specs.declared.turn.Served.{Served}
 use Rattle.event_text.specs.declared.turn.Turn.{Turn}

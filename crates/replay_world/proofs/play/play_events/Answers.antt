@@ -1,5 +1,5 @@
 -- One more turn: the event that was read, and its text.
-use Rattle.std.proofs.Common.{◌≡◌, None, Some, rules, ap, subst, sym, ◌∙◌}
+use Rattle.std.proofs.Common.{◌≡◌, Some, rules, ap, subst, sym, ◌∙◌}
 use Rattle.std.specs.Prelude.{slice_get}
 use Rattle.event_text.specs.Events.{plain}
 use Rattle.event_text.specs.Input.{left_contents, with_event}
