@@ -1,6 +1,7 @@
 //! The peer of a cluster, at the other end of every association.
 #![tactic(auto)]
 
+mod association;
 mod peer;
 mod slots;
 

@@ -1,33 +1,67 @@
-ghost use Rattle.std.specs.Prelude.{◌≡◌, [], ◌∷◌, ◌++◌, true, false, IfOk, OnOk, OnErr};
+ghost use Rattle.std.specs.Prelude.{◌≡◌, ◌≤◌, [], ◌∷◌, ◌++◌, true, false, IfOk, OnErr, OnOk, length};
 ghost use Rattle.event_text.specs.declared.verdict.Refusal.TheVariants as refusal;
+ghost use Rattle.replay_set.specs.Window.{IsWindowSize};
+ghost use Rattle.turn_rules.specs.Packets.{LiesWithin};
 ghost use Rattle.turn_rules.specs.Peers.{admits};
+ghost use Rattle.turn_rules.specs.Slots.{PeerReceives, PeerSends, entered_slot, records};
 ghost use Rattle.turn_rules.specs.Steps.{Says};
 
 use crate::slots::Slots;
-use event_text::{Refusal, Step, Verdict};
-use ha_base::Memory;
+use esp_sas::Room;
+use event_text::{EspVerdict, Refusal, Step, Verdict};
+use ha_base::{GatewayId, Memory};
 use keeper_book::Record;
 use std::alloc::Global;
+use std::marker::Model;
 
-/// What the peer holds: its associations.
+/// What the peer holds: its gateway, the receive window of associations that come, and its associations.
 #[derive(Drop)]
 pub struct Peer {
+    alloc: Global,
+    gateway: GatewayId,
+    window: u32,
     slots: Slots,
 }
 
+impl Model for Peer {
+    ghost use Rattle.replay_set.specs.Window.{IsWindowSize};
+    ghost use Rattle.cluster_peer.specs.Slots.{PeerHeld};
+
+    ghost Value = { PeerHeld };
+
+    ghost view = { λ p. record { gateway = p.gateway; window = p.window; slots = p.slots.slots } };
+
+    ghost invariant = { λ p. IsWindowSize p.window };
+}
+
 impl Peer {
-    /// A peer with no association.
-    pub fn new(alloc: Global) -> Peer
-        ensures slots { result.slots.records ≡ [] }
+    /// A peer with no association, which talks to a gateway. The receive window of ESP has 64, 128, 256, 512 or 1,024
+    /// numbers.
+    pub fn new(alloc: Global, gateway: GatewayId, window: u32) -> Peer
+        requires { IsWindowSize window }
+        ensures { result ≡ record { gateway = gateway; window = window; slots = [] } }
     {
         Peer {
+            alloc,
+            gateway,
+            window,
             slots: Slots::new(alloc),
         }
     }
 
+    /// Sets the gateway and the receive window, before any association came. It takes no memory.
+    pub fn configure(&mut self, gateway: GatewayId, window: u32)
+        requires window { IsWindowSize window }
+        requires none { self.old.slots ≡ [] }
+        ensures { self.new ≡ record { gateway = gateway; window = window; slots = [] } }
+    {
+        self.gateway = gateway;
+        self.window = window;
+    }
+
     /// Whether the peer has no association with this responder's SPI, and receives nowhere at this one's SPI.
     pub fn admits(&self, sa: &Record) -> bool
-        ensures { result ≡ admits self.now.slots.records sa.now }
+        ensures { result ≡ admits (records self.now.slots) sa.now }
     {
         self.slots.admit(sa)
     }
@@ -35,17 +69,44 @@ impl Peer {
     /// Takes an association that was set up before the run. It is refused `SpiInUse` exactly where it is not admitted. An
     /// error is want of memory, and the peer is then as it was.
     pub fn enter(&mut self, sa: &Record) -> Result<Step, Memory>
-        ensures entered { admits self.old.slots.records sa.now ≡ true → IfOk result (Says Verdict.Entered) }
-        ensures slot { admits self.old.slots.records sa.now ≡ true → OnOk result (self.new.slots.records ≡ self.old.slots.records ++ sa.now ∷ []) }
-        ensures refused { admits self.old.slots.records sa.now ≡ false → IfOk result (Says (Verdict.Refused refusal.SpiInUse)) }
-        ensures unchanged { admits self.old.slots.records sa.now ≡ false → self.new.slots.records ≡ self.old.slots.records }
-        ensures err { OnErr result (self.new.slots.records ≡ self.old.slots.records) }
+        ensures entered { admits (records self.old.slots) sa.now ≡ true → IfOk result (Says Verdict.Entered) }
+        ensures slot { admits (records self.old.slots) sa.now ≡ true
+            → OnOk result (self.new ≡ record self.old { slots = self.old.slots ++ entered_slot self.old.window sa.now ∷ [] }) }
+        ensures refused { admits (records self.old.slots) sa.now ≡ false → IfOk result (Says (Verdict.Refused refusal.SpiInUse)) }
+        ensures unchanged { admits (records self.old.slots) sa.now ≡ false → self.new ≡ self.old }
+        ensures err { OnErr result (self.new ≡ self.old) }
     {
         if !self.slots.admit(sa) {
             return Ok(Step::quiet(Verdict::Refused(Refusal::SpiInUse)));
         }
         self.slots.reserve()?;
-        self.slots.push(sa.copied());
+        self.slots.push(sa.copied(), self.window);
         Ok(Step::quiet(Verdict::Entered))
+    }
+
+    /// Sends a payload of at most 1,400 octets in an ESP packet of an association. It is refused `Unknown` where there is no
+    /// such association, and `Exhausted` where its numbers are at their end. An error is want of memory, and the peer is
+    /// then as it was.
+    pub fn send_data(&mut self, spir: u64, payload: &[u8]) -> Result<Step, Memory>
+        requires { length payload.now ≤ 1400 }
+        ensures sends { IfOk result (λ step. PeerSends spir self.old.slots payload.now step self.new.slots) }
+        ensures gateway { self.new.gateway ≡ self.old.gateway }
+        ensures window { self.new.window ≡ self.old.window }
+        ensures err { OnErr result (self.new ≡ self.old) }
+    {
+        let room = Room::new(self.alloc)?;
+        Ok(self.slots.send(spir, room, payload))
+    }
+
+    /// Opens in place an ESP packet that came, and notes its number where it is accepted (RFC 4303, section 3.4). It takes no
+    /// memory.
+    pub fn receive_esp(&mut self, bytes: &mut [u8]) -> EspVerdict
+        requires { length bytes.old ≤ 2048 }
+        ensures receives { PeerReceives self.old.slots bytes.old result bytes.new self.new.slots }
+        ensures gateway { self.new.gateway ≡ self.old.gateway }
+        ensures window { self.new.window ≡ self.old.window }
+        ensures within { LiesWithin result (length bytes.new) }
+    {
+        self.slots.receive(bytes)
     }
 }

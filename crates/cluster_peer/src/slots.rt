@@ -1,7 +1,15 @@
-ghost use Rattle.std.specs.Prelude.{◌≡◌, ◌≤◌, ◌<◌, [], ◌∷◌, ◌++◌, OnOk, OnErr};
-ghost use Rattle.turn_rules.specs.Peers.{admits, clashes};
+ghost use Rattle.std.specs.Prelude.{◌≡◌, ◌≤◌, ◌<◌, [], ◌∷◌, ◌++◌, None, MatchOption, OnOk, length};
+ghost use Rattle.replay_set.specs.Window.{IsWindowSize};
+ghost use Rattle.turn_rules.specs.Packets.{Drops, LiesWithin};
+ghost use Rattle.turn_rules.specs.Peers.{admits};
+ghost use Rattle.turn_rules.specs.Slots.{PeerReceives, PeerSends, Slot, SlotReceives, entered_slot, first_slot, has_spir, receives_at, records, with_slot};
+ghost use Rattle.cluster_peer.specs.Slots.{IsFirst};
+ghost use Rattle.ha_base.specs.declared.esp_outcomes.EspDrop.TheVariants as drop;
 
-use ha_base::Memory;
+use crate::association::Association;
+use esp_sas::{Room, packet_spi};
+use event_text::{EspVerdict, Refusal, Step, Verdict};
+use ha_base::{EspDrop, Memory};
 use keeper_book::Record;
 use std::alloc::Global;
 use std::marker::Model;
@@ -9,40 +17,57 @@ use std::marker::Model;
 /// The associations of the peer, in the order in which they came.
 #[derive(Drop)]
 pub struct Slots {
-    records: Vec<Record>,
+    items: Vec<Association>,
 }
 
 impl Model for Slots {
-    ghost use Rattle.std.specs.Prelude.{◌-◌, vec_len, vec_capacity, List};
-    ghost use Rattle.keeper_book.specs.declared.records.Record.{Record};
+    ghost use Rattle.std.specs.Prelude.{◌-◌, vec_len, vec_capacity};
     ghost use Rattle.cluster_peer.specs.Slots.{Slotted};
 
     ghost Value = { Slotted };
 
-    ghost view = { λ s. record { records = s.records.items; spare = vec_capacity s.records - vec_len s.records } };
+    ghost view = { λ s. record { slots = s.items.items; spare = vec_capacity s.items - vec_len s.items } };
 }
 
-fn is_clash(sa: &Record, slot: &Record) -> bool
-    ensures { result ≡ clashes sa.now slot.now }
+/// Where the association of a responder's SPI stands.
+fn place_of(items: &[Association], spir: u64) -> Option<usize>
+    ensures { MatchOption result (first_slot (has_spir spir) items.now ≡ None) (λ place. IsFirst (has_spir spir) place items.now) }
 {
-    slot.spir == sa.spir || slot.spi_out == sa.spi_out
+    for (place, association) in items.iter().enumerate() {
+        if association.spir() == spir {
+            return Some(place);
+        }
+    }
+    None
+}
+
+/// Where the association stands that receives at an SPI.
+fn receiver_at(items: &[Association], spi: u32) -> Option<usize>
+    ensures { MatchOption result (first_slot (receives_at spi) items.now ≡ None) (λ place. IsFirst (receives_at spi) place items.now) }
+{
+    for (place, association) in items.iter().enumerate() {
+        if association.spi() == spi {
+            return Some(place);
+        }
+    }
+    None
 }
 
 impl Slots {
     pub fn new(alloc: Global) -> Slots
-        ensures { result.records ≡ [] }
+        ensures { result.slots ≡ [] }
     {
         Slots {
-            records: Vec::new(alloc),
+            items: Vec::new(alloc),
         }
     }
 
     /// No association stands in the way of this one.
     pub fn admit(&self, sa: &Record) -> bool
-        ensures { result ≡ admits self.now.records sa.now }
+        ensures { result ≡ admits (records self.now.slots) sa.now }
     {
-        for slot in &self.records {
-            if is_clash(sa, slot) {
+        for association in &self.items {
+            if association.is_clash(sa) {
                 return false;
             }
         }
@@ -51,20 +76,64 @@ impl Slots {
 
     /// Makes room for one more. An error is want of memory.
     pub fn reserve(&mut self) -> Result<(), Memory>
-        ensures records { self.new.records ≡ self.old.records }
+        ensures slots { self.new.slots ≡ self.old.slots }
         ensures room { OnOk result (0 < self.new.spare) }
     {
-        match self.records.reserve(1) {
+        match self.items.reserve(1) {
             Ok(()) => Ok(()),
             Err(_) => Err(Memory),
         }
     }
 
-    /// Adds an association where there is room for one.
-    pub fn push(&mut self, sa: Record)
-        requires { 0 < self.old.spare }
-        ensures { self.new.records ≡ self.old.records ++ sa ∷ [] }
+    /// Adds an association where there is room for one, with a receive window of this size.
+    pub fn push(&mut self, sa: Record, window: u32)
+        requires room { 0 < self.old.spare }
+        requires window { IsWindowSize window }
+        ensures { self.new.slots ≡ self.old.slots ++ entered_slot window sa ∷ [] }
     {
-        self.records.push_reserved(sa);
+        self.items.push_reserved(Association::new(sa, window));
+    }
+
+    /// Sends a payload of at most 1,400 octets in an association.
+    pub fn send(&mut self, spir: u64, room: Room, payload: &[u8]) -> Step
+        requires { length payload.now ≤ 1400 }
+        ensures { PeerSends spir self.old.slots payload.now result self.new.slots }
+    {
+        match place_of(&self.items, spir) {
+            Some(place) => {
+                let association = &mut self.items[place];
+                association.send(room, payload)
+            }
+            None => Step::quiet(Verdict::Refused(Refusal::Unknown)),
+        }
+    }
+
+    /// Hands a packet to the association that receives at its SPI.
+    pub fn receive(&mut self, bytes: &mut [u8]) -> EspVerdict
+        requires { length bytes.old ≤ 65536 }
+        ensures receives { PeerReceives self.old.slots bytes.old result bytes.new self.new.slots }
+        ensures within { LiesWithin result (length bytes.new) }
+    {
+        match packet_spi(bytes) {
+            Some(spi) => self.receive_at(spi, bytes),
+            None => EspVerdict::Dropped(EspDrop::Short),
+        }
+    }
+
+    // Hands a packet to the association that receives at this SPI.
+    fn receive_at(&mut self, spi: u32, bytes: &mut [u8]) -> EspVerdict
+        requires { length bytes.old ≤ 65536 }
+        ensures receives { MatchOption (first_slot (receives_at spi) self.old.slots)
+            (Drops drop.WrongSpi bytes.old result bytes.new × (self.new.slots ≡ self.old.slots))
+            (λ slot. (now : Slot) × SlotReceives slot bytes.old result bytes.new now × (self.new.slots ≡ with_slot (receives_at spi) now self.old.slots)) }
+        ensures within { LiesWithin result (length bytes.new) }
+    {
+        match receiver_at(&self.items, spi) {
+            Some(place) => {
+                let association = &mut self.items[place];
+                association.receive(bytes)
+            }
+            None => EspVerdict::Dropped(EspDrop::WrongSpi),
+        }
     }
 }

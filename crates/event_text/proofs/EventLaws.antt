@@ -14,7 +14,7 @@ use Rattle.line_fields.specs.declared.fault.LineFault.{LineFault}
 use Rattle.line_fields.specs.declared.fault.LineReason.TheVariants as reasons
 use Rattle.line_fields.specs.Words.{Spot, line_of, words_of}
 use Rattle.line_fields.specs.Numbers.{number_of}
-use Rattle.event_text.specs.Events.{PlainEvent, Import, Join, Own, Draw}
+use Rattle.event_text.specs.Events.{PlainEvent, Cluster, Import, Join, Own, Draw, Send, Deliver, Alter, Cut, Inject}
 use Rattle.line_fields.specs.Fields.{◌>>=◌, behind, ended_at, end_in, fault_at, word_at, word_in}
 use Rattle.event_text.specs.Reading.{child_keys_at, draw_at, event_at, fields_at, import_at, join_at, line_at, moment_at, own_at, sa_keys_at, starts_at, told_at}
 use Rattle.event_text.specs.Grammar.{AreChildKeys, AreSaKeys, AreStarts, EventLine, Fits, child_key_words, event_words, five_words, line_words, sa_key_words}
@@ -174,6 +174,12 @@ event_again (Import a) h c =
 event_again (Join fresh) h c = rw (field_again (sized_field 24 24) fresh h) refl
 event_again (Own member spir) h c = rw (field_again member_field member h.0, field_again spi_field spir h.1) refl
 event_again (Draw member spir) h c = rw (field_again member_field member h.0, field_again spi_field spir h.1) refl
+event_again (Cluster identity lifetime window ticket_key) h c = absurd h
+event_again (Send from spir payload) h c = absurd h
+event_again (Deliver which to) h c = absurd h
+event_again (Alter which to place octet) h c = absurd h
+event_again (Cut which to keep) h c = absurd h
+event_again (Inject to medium octets) h c = absurd h
 
 -- ---- a line
 

@@ -3,7 +3,7 @@ use Rattle.std.proofs.Common.{◌≡◌, ◌-◌, ◌^◌, ◌<◌, true, not, e
 use Rattle.std.proofs.lemmas.Bool.{and_parts}
 use Rattle.std.specs.List.{list_all}
 use Rattle.ha_base.specs.declared.outside.Moment.{Moment}
-use Rattle.event_text.specs.Events.{PlainEvent, Import, Join, Own, Draw}
+use Rattle.event_text.specs.Events.{PlainEvent, Cluster, Import, Join, Own, Draw, Send, Deliver, Alter, Cut, Inject}
 use Rattle.event_text.specs.Grammar.{Fits, event_words, line_words}
 use Rattle.line_fields.proofs.WordLaws.{are_words, is_word, no_space}
 use Rattle.line_fields.proofs.SpacelessLaws.{all_also, is_plain, number_word, plain_octet, word_esp_spi, word_identity, word_octets, word_size, word_spi}
@@ -34,6 +34,12 @@ event_plain (Import a) h =
 event_plain (Join fresh) h = rw (word_octets 24 24 fresh h) refl
 event_plain (Own member spir) h = rw (number_word member (2 ^ 63) h.0 (lit≤ tt), word_spi spir) refl
 event_plain (Draw member spir) h = rw (number_word member (2 ^ 63) h.0 (lit≤ tt), word_spi spir) refl
+event_plain (Cluster identity lifetime window ticket_key) h = absurd h
+event_plain (Send from spir payload) h = absurd h
+event_plain (Deliver which to) h = absurd h
+event_plain (Alter which to place octet) h = absurd h
+event_plain (Cut which to keep) h = absurd h
+event_plain (Inject to medium octets) h = absurd h
 
 line_plain : (m : Moment) (e : PlainEvent) → m.0 < 2 ^ 63 → Fits e → list_all is_plain (line_words m e) ≡ true
 line_plain m e lt h = rw (number_word m.0 (2 ^ 63) lt (lit≤ tt)) (event_plain e h)

@@ -1,6 +1,9 @@
 -- What a line says of an event.
 use Rattle.std.specs.Prelude.{ℕ, List}
 use Rattle.ha_base.specs.declared.identities.Identity.{Identity}
+use Rattle.event_text.specs.declared.event.Party.{Party}
+use Rattle.event_text.specs.declared.event.Which.{Which}
+use Rattle.event_text.specs.declared.turn.Medium.{Medium}
 use Rattle.ha_base.specs.declared.key_material.KeySize.{KeySize}
 use Rattle.ha_base.specs.declared.key_material.SaKeys.{SaKeys}
 use Rattle.ha_base.specs.declared.key_material.ChildKeys.{ChildKeys}
@@ -37,13 +40,25 @@ association sa =
 
 -- an event, by the fields of its line alone
 pub data PlainEvent : Type 0 where
+  Cluster : Identity → ℕ → ℕ → List ℕ → PlainEvent
   Import : Association → PlainEvent
   Join : List ℕ → PlainEvent
   Own : ℕ → ℕ → PlainEvent
   Draw : ℕ → ℕ → PlainEvent
+  Send : Party → ℕ → List ℕ → PlainEvent
+  Deliver : Which → Party → PlainEvent
+  Alter : Which → Party → ℕ → ℕ → PlainEvent
+  Cut : Which → Party → ℕ → PlainEvent
+  Inject : Party → Medium → List ℕ → PlainEvent
 
 abbrev pub plain : Event → PlainEvent
+plain (events.Cluster identity lifetime window ticket_key) = Cluster identity lifetime window ticket_key
 plain (events.Import sa) = Import (association sa)
 plain (events.Join fresh) = Join fresh
 plain (events.Own member spir) = Own member spir
 plain (events.Draw member spir) = Draw member spir
+plain (events.Send from spir payload) = Send from spir payload.octets
+plain (events.Deliver which to) = Deliver which to
+plain (events.Alter which to place octet) = Alter which to place octet
+plain (events.Cut which to keep) = Cut which to keep
+plain (events.Inject to medium octets) = Inject to medium octets.octets

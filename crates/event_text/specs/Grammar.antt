@@ -11,7 +11,13 @@ use Rattle.line_fields.specs.Words.{line_of}
 use Rattle.line_fields.specs.Fields.{size_text}
 use Rattle.line_fields.specs.Octets.{IsOctets, esp_spi_text, octets_text, spi_text}
 use Rattle.line_fields.specs.Identities.{IsIdentity, identity_text}
-use Rattle.event_text.specs.Events.{Association, PlainEvent, Import, Join, Own, Draw}
+use Rattle.event_text.specs.Events.{Association, PlainEvent, Cluster, Import, Join, Own, Draw, Send, Deliver, Alter, Cut, Inject}
+use Rattle.event_text.specs.declared.event.Party.{Party}
+use Rattle.event_text.specs.declared.event.Party.TheVariants as parties
+use Rattle.event_text.specs.declared.event.Which.{Which}
+use Rattle.event_text.specs.declared.event.Which.TheVariants as whiches
+use Rattle.event_text.specs.declared.turn.Medium.{Medium}
+use Rattle.event_text.specs.declared.turn.Medium.TheVariants as mediums
 
 abbrev pub sa_key_words : SaKeys → List (List ℕ)
 sa_key_words keys =
@@ -28,12 +34,31 @@ association_words a =
     spi_text a.spii ∷ spi_text a.spir ∷ size_text a.size ∷ identity_text a.identity
     ∷ (sa_key_words a.keys ++ (esp_spi_text a.spi_in ∷ esp_spi_text a.spi_out ∷ (child_key_words a.child ++ five_words a.starts)))
 
+abbrev pub party_text : Party → List ℕ
+party_text parties.Peer = codes "peer"
+party_text (parties.Member number) = decimal number
+
+abbrev pub which_text : Which → List ℕ
+which_text (whiches.Number number) = decimal number
+which_text whiches.Last = codes "last"
+
+abbrev pub medium_word : Medium → List ℕ
+medium_word mediums.Ike = codes "ike"
+medium_word mediums.Esp = codes "esp"
+
 -- the event's word and its fields
 abbrev pub event_words : PlainEvent → List (List ℕ)
+event_words (Cluster identity lifetime window ticket_key) =
+    codes "cluster" ∷ identity_text identity ∷ decimal lifetime ∷ decimal window ∷ octets_text ticket_key ∷ []
 event_words (Import a) = codes "import" ∷ association_words a
 event_words (Join fresh) = codes "join" ∷ octets_text fresh ∷ []
 event_words (Own member spir) = codes "own" ∷ decimal member ∷ spi_text spir ∷ []
 event_words (Draw member spir) = codes "draw" ∷ decimal member ∷ spi_text spir ∷ []
+event_words (Send from spir payload) = codes "send" ∷ party_text from ∷ spi_text spir ∷ octets_text payload ∷ []
+event_words (Deliver which to) = codes "deliver" ∷ which_text which ∷ party_text to ∷ []
+event_words (Alter which to place octet) = codes "alter" ∷ which_text which ∷ party_text to ∷ decimal place ∷ octets_text (octet ∷ []) ∷ []
+event_words (Cut which to keep) = codes "cut" ∷ which_text which ∷ party_text to ∷ decimal keep ∷ []
+event_words (Inject to medium octets) = codes "inject" ∷ party_text to ∷ medium_word medium ∷ octets_text octets ∷ []
 
 pub record AreSaKeys (size : KeySize) (keys : SaKeys) : Type 0 where
   pub sk_d : IsOctets 32 32 keys.sk_d
@@ -63,12 +88,13 @@ pub record IsAssociation (a : Association) : Type 0 where
   pub child : AreChildKeys a.size a.child
   pub starts : AreStarts a.starts
 
--- what the fields of a line may be
+-- what the fields of a line may be; no line says yet what configures the ends, or moves datagrams
 abbrev pub Fits : PlainEvent → Type 0
 Fits (Import a) = IsAssociation a
 Fits (Join fresh) = IsOctets 24 24 fresh
 Fits (Own member spir) = (member < 2 ^ 63) × (spir < 2 ^ 64)
 Fits (Draw member spir) = (member < 2 ^ 63) × (spir < 2 ^ 64)
+Fits event = ⊥
 
 -- the words of a line: the moment in seconds, and the event's
 abbrev pub line_words : Moment → PlainEvent → List (List ℕ)

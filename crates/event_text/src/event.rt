@@ -1,16 +1,81 @@
 //! What a line of an event file asks for.
 
+use crate::turn::Medium;
+use ha_base::{Identity, OctetList, Octets};
 use keeper_book::Record;
+
+/// An end of a run. Members are counted from 1, in the order in which they joined.
+#[derive(Clone, Copy, Debug, PartialEq, Eq)]
+pub enum Party {
+    Peer,
+    Member(u64),
+}
+
+/// Which datagram is meant: they are counted from 1, in the order in which they were given.
+#[derive(Clone, Copy, Debug, PartialEq, Eq)]
+pub enum Which {
+    Number(u32),
+    /// The newest.
+    Last,
+}
 
 /// An event, with the fields of its line.
 #[derive(Debug, Drop)]
 pub enum Event {
+    /// How the ends are configured: the cluster's identity, the lifetime of tickets in seconds, the receive window of ESP,
+    /// and the ticket key with its salt, of no octets where there is none.
+    Cluster {
+        identity: Identity,
+        lifetime: u32,
+        window: u32,
+        ticket_key: OctetList<36>,
+    },
     /// An association that both ends have from the beginning. Its origin is `Imported` of its SPIr.
-    Import { sa: Record },
+    Import {
+        sa: Record,
+    },
     /// A member joins, with fresh octets of its own.
-    Join { fresh: [u8; 24] },
+    Join {
+        fresh: [u8; 24],
+    },
     /// A member takes over the association with this SPIr. Members are counted from 1.
-    Own { member: u64, spir: u64 },
+    Own {
+        member: u64,
+        spir: u64,
+    },
     /// A member draws an ESP number of the association with this SPIr.
-    Draw { member: u64, spir: u64 },
+    Draw {
+        member: u64,
+        spir: u64,
+    },
+    /// An end sends a payload in an ESP packet of the association with this SPIr.
+    Send {
+        from: Party,
+        spir: u64,
+        payload: Octets,
+    },
+    /// A datagram is delivered to an end.
+    Deliver {
+        which: Which,
+        to: Party,
+    },
+    /// A datagram is delivered whose octet at this place, counted from 0, was changed by an exclusive or.
+    Alter {
+        which: Which,
+        to: Party,
+        place: u32,
+        octet: u8,
+    },
+    /// The first `keep` octets of a datagram are delivered.
+    Cut {
+        which: Which,
+        to: Party,
+        keep: u32,
+    },
+    /// Octets are delivered that no end sent.
+    Inject {
+        to: Party,
+        medium: Medium,
+        octets: Octets,
+    },
 }

@@ -11,7 +11,7 @@ mod seals;
 mod turn;
 mod verdict;
 
-pub use event::Event;
+pub use event::{Event, Party, Which};
 pub use input::EventReader;
 pub use laws::{front_tells_contents, inputs_are_texts};
 pub use line_fields::{LineFault, LineReason};
@@ -19,7 +19,7 @@ pub use place::{InputFault, Place};
 pub use reading::read_line;
 pub use seals::{Seal, Seals};
 pub use turn::{Datagram, Medium, Served, Step, Turn};
-pub use verdict::{Refusal, Verdict};
+pub use verdict::{EspVerdict, Refusal, Verdict};
 
 #[cfg(test)]
 mod tests;

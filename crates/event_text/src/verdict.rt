@@ -1,19 +1,49 @@
 //! How an event came out.
 
+use ha_base::{CounterName, EspDrop, EspOpened, Octets};
 use keeper_book::Five;
 
 /// How an event came out.
 #[derive(Debug, Drop)]
 pub enum Verdict {
+    /// The ends are configured.
+    Configured,
     /// An association was entered, at the keeper and at the peer.
     Entered,
     /// The number of the member that joined.
     Member(u32),
     /// A member took over: the epoch that began, and its bases.
-    Owned { epoch: u64, bases: Five },
+    Owned {
+        epoch: u64,
+        bases: Five,
+    },
     /// The number that was drawn.
     Number(u64),
+    /// The ESP number under which a payload was sent.
+    Sent(u64),
+    /// An ESP packet was accepted: the counter that received it, its number, its next header and its payload.
+    Accepted {
+        counter: CounterName,
+        number: u64,
+        next_header: u8,
+        payload: Octets,
+    },
+    /// An ESP packet was dropped.
+    DroppedEsp(EspDrop),
     /// Nothing was done, but for what the keeper recorded.
+    Refused(Refusal),
+}
+
+/// What an end does with an ESP packet.
+#[derive(Clone, Copy, Debug, PartialEq, Eq)]
+pub enum EspVerdict {
+    /// It is accepted: the counter that received it, and where its payload lies.
+    Accepted {
+        counter: CounterName,
+        packet: EspOpened,
+    },
+    Dropped(EspDrop),
+    /// Its number may not be taken.
     Refused(Refusal),
 }
 
@@ -38,6 +68,14 @@ pub enum Refusal {
     SpiInUse,
     /// There is no such member.
     NoMember,
+    /// There is no such datagram.
+    NoDatagram,
+    /// The datagram has no such octet.
+    NoOctet,
+    /// There are as many datagrams as a run has room for.
+    DatagramsFull,
+    /// Something happened before that has to come later.
+    Late,
     /// As many members joined as a run has room for: their number.
     NoRoom(u32),
     /// The SPIr is none that may be imported.

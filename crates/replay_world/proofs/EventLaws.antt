@@ -29,7 +29,7 @@ use Rattle.turn_rules.specs.Fits.{DrawFits, ImportFits, JoinFits, OwnFits}
 use Rattle.turn_rules.specs.Fits.{Fits, Refusing, has_import, has_joined, has_takeover, is_importable, is_takeover, joins}
 use Rattle.turn_rules.specs.Held.{held_after, held_at, held_by}
 use Rattle.turn_rules.specs.Peers.{admits, entered, slots_by}
-use Rattle.replay_world.specs.Casts.{AreKept, DrawsAs, DrawsAt, Owns, Plays, Rejecting, TakesOverAs, has_member, Imports, Joins, Mirrors, Standing, imported_as, joined_as, nobody}
+use Rattle.replay_world.specs.Casts.{AreKept, DrawsAs, DrawsAt, Owns, Plays, Rejecting, Rejects, TakesOverAs, has_member, Imports, Joins, Mirrors, Standing, imported_as, joined_as, nobody}
 use Rattle.replay_world.proofs.MirrorLaws.{Continues, continued}
 
 never : false ≡ true → ⊥
@@ -308,12 +308,29 @@ module _ (past : List Turn) (s : Standing) (m : Mirrors past s) (calls : List Ca
   fits (event.Join fresh) p = fits_join p
   fits (event.Own member spir) p = fits_own member spir p
   fits (event.Draw member spir) p = fits_draw member spir p
+  fits (event.Cluster identity lifetime window ticket_key) p = p.concludes
+  fits (event.Send from spir payload) p = p.concludes
+  fits (event.Deliver which to) p = p.concludes
+  fits (event.Alter which to place octet) p = p.concludes
+  fits (event.Cut which to keep) p = p.concludes
+  fits (event.Inject to medium octets) p = p.concludes
+
+  not_built : (now : Moment) (step : Step) (e : Event) → entered e (out.Refused refusal.NotBuilt) ≡ None → Rejects s refusal.NotBuilt calls v new → Continues s (turn_of now step e calls v) new
+  not_built now step e none r =
+      subst (λ u. Continues s (turn_of now step e calls u) new) (sym r.concludes.said)
+      (subst (λ n. Continues s (turn_of now step e calls (out.Refused refusal.NotBuilt)) n) (sym r.leaves) (rejected now step s m.numbers e calls refusal.NotBuilt none refl))
 
   continues : (now : Moment) (step : Step) (e : Event) → Plays s e calls v new → Continues s (turn_of now step e calls v) new
   continues now step (event.Import sa) p = continues-import now step s m.numbers sa calls v new p
   continues now step (event.Join fresh) p = continues-join now step s m.numbers fresh calls v new p
   continues now step (event.Own member spir) p = continues-own s m.numbers member spir calls v new now step p
   continues now step (event.Draw member spir) p = continues-draw s m.numbers member spir calls v new now step p
+  continues now step (event.Cluster identity lifetime window ticket_key) p = not_built now step (event.Cluster identity lifetime window ticket_key) refl p
+  continues now step (event.Send from spir payload) p = not_built now step (event.Send from spir payload) refl p
+  continues now step (event.Deliver which to) p = not_built now step (event.Deliver which to) refl p
+  continues now step (event.Alter which to place octet) p = not_built now step (event.Alter which to place octet) refl p
+  continues now step (event.Cut which to keep) p = not_built now step (event.Cut which to keep) refl p
+  continues now step (event.Inject to medium octets) p = not_built now step (event.Inject to medium octets) refl p
 
 module _ (s : Standing) where
   imported_boxes : (sa : Record) (v : Verdict) → (imported_as sa v s).boxes ≡ s.boxes
@@ -321,6 +338,10 @@ module _ (s : Standing) where
   imported_boxes sa (out.Member number) = refl
   imported_boxes sa (out.Owned epoch bases) = refl
   imported_boxes sa (out.Number n) = refl
+  imported_boxes sa out.Configured = refl
+  imported_boxes sa (out.Sent n) = refl
+  imported_boxes sa (out.Accepted counter number next_header payload) = refl
+  imported_boxes sa (out.DroppedEsp why) = refl
   imported_boxes sa (out.Refused why) = refl
 
   joined_boxes : (v : Verdict) → (joined_as v s).boxes ≡ s.boxes
@@ -328,6 +349,10 @@ module _ (s : Standing) where
   joined_boxes (out.Member number) = refl
   joined_boxes (out.Owned epoch bases) = refl
   joined_boxes (out.Number n) = refl
+  joined_boxes out.Configured = refl
+  joined_boxes (out.Sent n) = refl
+  joined_boxes (out.Accepted counter number next_header payload) = refl
+  joined_boxes (out.DroppedEsp why) = refl
   joined_boxes (out.Refused why) = refl
 
   module _ (calls : List Call) (v : Verdict) (new : Standing) where
@@ -343,6 +368,12 @@ module _ (s : Standing) where
         rejecting_elim (not (has_member member s.members)) s refusal.NoMember calls v new (λ n w l. ap (λ (x : Standing). x.boxes) l)
         (λ j d. ap (λ (x : Standing). x.boxes) d.leaves)
         p
+    boxes-stay (event.Cluster identity lifetime window ticket_key) p = ap (λ (x : Standing). x.boxes) p.leaves
+    boxes-stay (event.Send from spir payload) p = ap (λ (x : Standing). x.boxes) p.leaves
+    boxes-stay (event.Deliver which to) p = ap (λ (x : Standing). x.boxes) p.leaves
+    boxes-stay (event.Alter which to place octet) p = ap (λ (x : Standing). x.boxes) p.leaves
+    boxes-stay (event.Cut which to keep) p = ap (λ (x : Standing). x.boxes) p.leaves
+    boxes-stay (event.Inject to medium octets) p = ap (λ (x : Standing). x.boxes) p.leaves
 
 entered_few : (v : Verdict) (sa : Record) (cs : List Call) → Enters sa cs v → length cs ≤ 1
 entered_few v sa [] e = absurd e
@@ -376,6 +407,12 @@ few boxes past (event.Draw member spir) calls v p =
     refusing_elim (not (has_joined member past)) refusal.NoMember calls v (λ n e. omega (arith, ap length n))
     (λ a d. (option_drawn (held_by (own (Member member) past) spir) calls v d).few)
     p
+few boxes past (event.Cluster identity lifetime window ticket_key) calls v p = omega (arith, ap length p.no_more)
+few boxes past (event.Send from spir payload) calls v p = omega (arith, ap length p.no_more)
+few boxes past (event.Deliver which to) calls v p = omega (arith, ap length p.no_more)
+few boxes past (event.Alter which to place octet) calls v p = omega (arith, ap length p.no_more)
+few boxes past (event.Cut which to keep) calls v p = omega (arith, ap length p.no_more)
+few boxes past (event.Inject to medium octets) calls v p = omega (arith, ap length p.no_more)
 
 -- after an event the ends hold what the turns say, and each turn is explained
 pub kept : (past : List Turn) (s : Standing) (now : Moment) (e : Event) (calls : List Call) (step : Step) (new : Standing) → AreKept past s → Plays s e calls step.verdict new → AreShown calls → IsQuiet step → AreKept (record { moment = now; event = e; calls = calls; step = step } ∷ past) new

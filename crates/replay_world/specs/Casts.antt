@@ -106,6 +106,7 @@ Plays old (event.Import sa) calls verdict new = Imports old sa calls verdict new
 Plays old (event.Join fresh) calls verdict new = Joins old calls verdict new
 Plays old (event.Own member spir) calls verdict new = Owns old member spir calls verdict new
 Plays old (event.Draw member spir) calls verdict new = DrawsAt old member spir calls verdict new
+Plays old event calls verdict new = Rejects old refusal.NotBuilt calls verdict new
 
 -- what is held is what the turns say
 pub record Mirrors (past : List Turn) (s : Standing) : Type 0 where

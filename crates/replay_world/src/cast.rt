@@ -10,7 +10,7 @@ ghost use Rattle.replay_world.specs.Casts.{DrawsAt, Imports, IsPlaceOf, Joins, O
 use cluster_member::{Member, of_fault};
 use cluster_peer::Peer;
 use event_text::{Event, Refusal, Step, Verdict};
-use ha_base::Memory;
+use ha_base::{GatewayId, Memory, OctetArray};
 use keeper_book::{Keeper, Record};
 use std::alloc::Global;
 use std::marker::Model;
@@ -23,6 +23,17 @@ const LEAST_SPI: u64 = 1 << 48;
 
 /// The least ESP SPI that may be imported.
 const LEAST_ESP_SPI: u32 = 65_536;
+
+/// The receive window of ESP where nothing configures it.
+const DEFAULT_WINDOW: u32 = 64;
+
+// the gateway that the peer talks to where nothing configures the cluster: the name "cluster"
+fn default_gateway() -> GatewayId {
+    GatewayId {
+        kind: 3,
+        octets: OctetArray::from_slice(b"cluster"),
+    }
+}
 
 /// The peer, the members that joined, and how far a run has come.
 #[derive(Drop)]
@@ -37,13 +48,14 @@ pub(crate) struct Cast {
 }
 
 impl Model for Cast {
+    ghost use Rattle.turn_rules.specs.Slots.{records};
     ghost use Rattle.replay_world.specs.Casts.{Standing};
 
     ghost Value = { Standing };
 
     ghost view = { λ c. record {
       boxes = c.boxes;
-      slots = c.peer.slots.records;
+      slots = records c.peer.slots;
       members = c.members.items;
       imported = c.imported;
       owned = c.owned;
@@ -77,7 +89,7 @@ impl Cast {
         Cast {
             alloc,
             boxes,
-            peer: Peer::new(alloc),
+            peer: Peer::new(alloc, default_gateway(), DEFAULT_WINDOW),
             members: Vec::new(alloc),
             imported: false,
             owned: false,
@@ -97,6 +109,12 @@ impl Cast {
             Event::Join { fresh } => self.join(*fresh),
             Event::Own { member, spir } => self.own(keeper, *member, *spir),
             Event::Draw { member, spir } => Ok(Step::quiet(self.draw(keeper, *member, *spir))),
+            Event::Cluster { .. } => Ok(refused(Refusal::NotBuilt)),
+            Event::Send { .. } => Ok(refused(Refusal::NotBuilt)),
+            Event::Deliver { .. } => Ok(refused(Refusal::NotBuilt)),
+            Event::Alter { .. } => Ok(refused(Refusal::NotBuilt)),
+            Event::Cut { .. } => Ok(refused(Refusal::NotBuilt)),
+            Event::Inject { .. } => Ok(refused(Refusal::NotBuilt)),
         }
     }
 

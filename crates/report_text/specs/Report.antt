@@ -9,6 +9,8 @@ use Rattle.ha_base.specs.declared.counter_names.Kind.{Kind}
 use Rattle.ha_base.specs.declared.counter_names.Kind.TheVariants as kinds
 use Rattle.ha_base.specs.declared.counter_names.Origin.{Origin}
 use Rattle.ha_base.specs.declared.counter_names.Origin.TheVariants as origins
+use Rattle.ha_base.specs.declared.esp_outcomes.EspDrop.{EspDrop}
+use Rattle.ha_base.specs.declared.esp_outcomes.EspDrop.TheVariants as drops
 use Rattle.keeper_book.specs.declared.calls.Call.{Call}
 use Rattle.keeper_book.specs.declared.calls.KeeperAnswer.{KeeperAnswer}
 use Rattle.keeper_book.specs.declared.calls.KeeperAnswer.TheVariants as answers
@@ -18,8 +20,6 @@ use Rattle.keeper_book.specs.declared.faults.KeeperFault.{KeeperFault}
 use Rattle.keeper_book.specs.declared.faults.KeeperFault.TheVariants as faults
 use Rattle.event_text.specs.declared.seals.Seal.{Seal}
 use Rattle.event_text.specs.declared.turn.Datagram.{Datagram}
-use Rattle.event_text.specs.declared.turn.Medium.{Medium}
-use Rattle.event_text.specs.declared.turn.Medium.TheVariants.{Ike, Esp}
 use Rattle.event_text.specs.declared.turn.Served.{Served}
 use Rattle.event_text.specs.declared.turn.Turn.{Turn}
 use Rattle.event_text.specs.declared.verdict.Refusal.{Refusal}
@@ -29,7 +29,7 @@ use Rattle.event_text.specs.declared.verdict.Verdict.TheVariants as verdicts
 use Rattle.line_fields.specs.Writing.{line_text}
 use Rattle.line_fields.specs.Octets.{octets_text, spi_text}
 use Rattle.event_text.specs.Events.{plain}
-use Rattle.event_text.specs.Grammar.{five_words, line_words}
+use Rattle.event_text.specs.Grammar.{five_words, line_words, medium_word}
 
 -- ---- the keeper's calls
 
@@ -116,10 +116,6 @@ seal_words seal =
 abbrev pub seal_text : Seal → List ℕ
 seal_text seal = line_text (codes "seal" ∷ seal_words seal)
 
-abbrev pub medium_word : Medium → List ℕ
-medium_word Ike = codes "ike"
-medium_word Esp = codes "esp"
-
 unfoldable pub gives_words : ℕ → Datagram → List (List ℕ)
 gives_words number datagram = decimal number ∷ medium_word datagram.medium ∷ octets_text datagram.octets.octets ∷ []
 
@@ -140,15 +136,32 @@ refusal_words refusals.Unknown = codes "unknown" ∷ []
 refusal_words (refusals.Full limit) = codes "full" ∷ decimal limit ∷ []
 refusal_words refusals.SpiInUse = codes "spi-in-use" ∷ []
 refusal_words refusals.NoMember = codes "no-member" ∷ []
+refusal_words refusals.NoDatagram = codes "no-datagram" ∷ []
+refusal_words refusals.NoOctet = codes "no-octet" ∷ []
+refusal_words refusals.DatagramsFull = codes "datagrams-full" ∷ []
+refusal_words refusals.Late = codes "late" ∷ []
 refusal_words (refusals.NoRoom members) = codes "no-room" ∷ decimal members ∷ []
 refusal_words refusals.SpiRange = codes "spi-range" ∷ []
 refusal_words refusals.NotBuilt = codes "not-built" ∷ []
 
+abbrev pub drop_word : EspDrop → List ℕ
+drop_word drops.Short = codes "short"
+drop_word drops.WrongSpi = codes "wrong-spi"
+drop_word drops.Stale = codes "stale"
+drop_word drops.Seen = codes "seen"
+drop_word drops.NotOpened = codes "not-opened"
+drop_word drops.Padding = codes "padding"
+
 abbrev pub verdict_words : Verdict → List (List ℕ)
+verdict_words verdicts.Configured = codes "configured" ∷ []
 verdict_words verdicts.Entered = codes "entered" ∷ []
 verdict_words (verdicts.Member member) = codes "member" ∷ decimal member ∷ []
 verdict_words (verdicts.Owned epoch bases) = codes "owned" ∷ decimal epoch ∷ five_words bases
 verdict_words (verdicts.Number number) = codes "number" ∷ decimal number ∷ []
+verdict_words (verdicts.Sent number) = codes "sent" ∷ decimal number ∷ []
+verdict_words (verdicts.Accepted counter number next_header payload) =
+    codes "accepted" ∷ decimal number ∷ decimal next_header ∷ octets_text payload.octets ∷ []
+verdict_words (verdicts.DroppedEsp why) = codes "dropped" ∷ drop_word why ∷ []
 verdict_words (verdicts.Refused refusal) = codes "refused" ∷ refusal_words refusal
 
 -- ---- turns

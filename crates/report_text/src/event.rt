@@ -4,11 +4,11 @@ ghost use Rattle.std.specs.Prelude.{◌≡◌, ◌∷◌, ◌++◌, OnOk};
 ghost use Rattle.line_fields.specs.Identities.{identity_text, prefix_of};
 ghost use Rattle.event_text.specs.Events.{association, plain};
 ghost use Rattle.line_fields.specs.Fields.{size_text};
-ghost use Rattle.event_text.specs.Grammar.{association_words, child_key_words, event_words, five_words, sa_key_words};
+ghost use Rattle.event_text.specs.Grammar.{association_words, child_key_words, event_words, five_words, medium_word, party_text, sa_key_words, which_text};
 ghost use Rattle.line_fields.specs.Writing.{with_words};
 
 use crate::words::{put_bare_octets, put_esp_spi, put_number, put_octets, put_spi, put_word};
-use event_text::Event;
+use event_text::{Event, Medium, Party, Which};
 use ha_base::{ChildKeys, Identity, KeySize, Memory, Octets, SaKeys};
 use keeper_book::{Five, Record};
 use std::alloc::Global;
@@ -82,10 +82,49 @@ fn put_association(alloc: Global, out: &mut Octets, sa: &Record) -> Result<(), M
     put_five(alloc, out, &sa.starts)
 }
 
+pub(crate) fn medium_word(medium: Medium) -> &'static [u8]
+    ensures { result.now ≡ medium_word medium }
+{
+    match medium {
+        Medium::Ike => b"ike",
+        Medium::Esp => b"esp",
+    }
+}
+
+fn put_party(alloc: Global, out: &mut Octets, party: Party) -> Result<(), Memory>
+    ensures { OnOk result (out.new.octets ≡ out.old.octets ++ (32 ∷ party_text party)) }
+{
+    match party {
+        Party::Peer => put_word(out, b"peer"),
+        Party::Member(number) => put_number(alloc, out, number),
+    }
+}
+
+fn put_which(alloc: Global, out: &mut Octets, which: Which) -> Result<(), Memory>
+    ensures { OnOk result (out.new.octets ≡ out.old.octets ++ (32 ∷ which_text which)) }
+{
+    match which {
+        Which::Number(number) => put_number(alloc, out, u64::from(number)),
+        Which::Last => put_word(out, b"last"),
+    }
+}
+
 pub(crate) fn put_event(alloc: Global, out: &mut Octets, event: &Event) -> Result<(), Memory>
     ensures { OnOk result (out.new.octets ≡ with_words out.old.octets (event_words (plain event.now))) }
 {
     match event {
+        Event::Cluster {
+            identity,
+            lifetime,
+            window,
+            ticket_key,
+        } => {
+            put_word(out, b"cluster")?;
+            put_identity(alloc, out, identity)?;
+            put_number(alloc, out, u64::from(*lifetime))?;
+            put_number(alloc, out, u64::from(*window))?;
+            put_octets(alloc, out, ticket_key.as_slice())
+        }
         Event::Import { sa } => {
             put_word(out, b"import")?;
             put_association(alloc, out, sa)
@@ -103,6 +142,45 @@ pub(crate) fn put_event(alloc: Global, out: &mut Octets, event: &Event) -> Resul
             put_word(out, b"draw")?;
             put_number(alloc, out, *member)?;
             put_spi(alloc, out, *spir)
+        }
+        Event::Send {
+            from,
+            spir,
+            payload,
+        } => {
+            put_word(out, b"send")?;
+            put_party(alloc, out, *from)?;
+            put_spi(alloc, out, *spir)?;
+            put_octets(alloc, out, payload.as_slice())
+        }
+        Event::Deliver { which, to } => {
+            put_word(out, b"deliver")?;
+            put_which(alloc, out, *which)?;
+            put_party(alloc, out, *to)
+        }
+        Event::Alter {
+            which,
+            to,
+            place,
+            octet,
+        } => {
+            put_word(out, b"alter")?;
+            put_which(alloc, out, *which)?;
+            put_party(alloc, out, *to)?;
+            put_number(alloc, out, u64::from(*place))?;
+            put_octets(alloc, out, &[*octet])
+        }
+        Event::Cut { which, to, keep } => {
+            put_word(out, b"cut")?;
+            put_which(alloc, out, *which)?;
+            put_party(alloc, out, *to)?;
+            put_number(alloc, out, u64::from(*keep))
+        }
+        Event::Inject { to, medium, octets } => {
+            put_word(out, b"inject")?;
+            put_party(alloc, out, *to)?;
+            put_word(out, medium_word(*medium))?;
+            put_octets(alloc, out, octets.as_slice())
         }
     }
 }

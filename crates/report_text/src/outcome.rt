@@ -3,15 +3,15 @@
 ghost use Rattle.std.specs.Prelude.{◌≡◌, ◌∷◌, ◌++◌, OnOk, codes};
 ghost use Rattle.std.specs.List.{flat_map};
 ghost use Rattle.line_fields.specs.Writing.{line_text};
-ghost use Rattle.report_text.specs.Report.{derivation_text, gives_text, gives_words, medium_word, origin_text, part_word, refusal_words, seal_text, seal_words, served_text, served_words, verdict_words};
+ghost use Rattle.report_text.specs.Report.{derivation_text, drop_word, gives_text, gives_words, origin_text, part_word, refusal_words, seal_text, seal_words, served_text, served_words, verdict_words};
 ghost use Rattle.line_fields.specs.Writing.{with_words};
 
-use crate::event::put_five;
+use crate::event::{medium_word, put_five};
 use crate::words::{
     put_bare_number, put_bare_octets, put_bare_spi, put_number, put_octets, put_word,
 };
-use event_text::{Datagram, Medium, Refusal, Seal, Seals, Served, Verdict};
-use ha_base::{Derivation, End, Kind, Memory, Octets, Origin};
+use event_text::{Datagram, Refusal, Seal, Seals, Served, Verdict};
+use ha_base::{Derivation, End, EspDrop, Kind, Memory, Octets, Origin};
 use std::alloc::Global;
 
 #[tactic(auto, unfolding(crate::specs::Report::served_words))]
@@ -121,15 +121,6 @@ pub(crate) fn put_seals(alloc: Global, out: &mut Octets, seals: &Seals) -> Resul
     Ok(())
 }
 
-fn medium_word(medium: Medium) -> &'static [u8]
-    ensures { result.now ≡ medium_word medium }
-{
-    match medium {
-        Medium::Ike => b"ike",
-        Medium::Esp => b"esp",
-    }
-}
-
 #[tactic(auto, unfolding(crate::specs::Report::gives_words))]
 fn put_gives_words(
     alloc: Global,
@@ -179,6 +170,10 @@ fn put_refusal(alloc: Global, out: &mut Octets, refusal: Refusal) -> Result<(), 
         }
         Refusal::SpiInUse => put_word(out, b"spi-in-use"),
         Refusal::NoMember => put_word(out, b"no-member"),
+        Refusal::NoDatagram => put_word(out, b"no-datagram"),
+        Refusal::NoOctet => put_word(out, b"no-octet"),
+        Refusal::DatagramsFull => put_word(out, b"datagrams-full"),
+        Refusal::Late => put_word(out, b"late"),
         Refusal::NoRoom(members) => {
             put_word(out, b"no-room")?;
             put_number(alloc, out, u64::from(members))
@@ -188,10 +183,24 @@ fn put_refusal(alloc: Global, out: &mut Octets, refusal: Refusal) -> Result<(), 
     }
 }
 
+fn drop_word(why: EspDrop) -> &'static [u8]
+    ensures { result.now ≡ drop_word why }
+{
+    match why {
+        EspDrop::Short => b"short",
+        EspDrop::WrongSpi => b"wrong-spi",
+        EspDrop::Stale => b"stale",
+        EspDrop::Seen => b"seen",
+        EspDrop::NotOpened => b"not-opened",
+        EspDrop::Padding => b"padding",
+    }
+}
+
 fn put_verdict(alloc: Global, out: &mut Octets, verdict: &Verdict) -> Result<(), Memory>
     ensures { OnOk result (out.new.octets ≡ with_words out.old.octets (verdict_words verdict.now)) }
 {
     match verdict {
+        Verdict::Configured => put_word(out, b"configured"),
         Verdict::Entered => put_word(out, b"entered"),
         Verdict::Member(member) => {
             put_word(out, b"member")?;
@@ -205,6 +214,25 @@ fn put_verdict(alloc: Global, out: &mut Octets, verdict: &Verdict) -> Result<(),
         Verdict::Number(number) => {
             put_word(out, b"number")?;
             put_number(alloc, out, *number)
+        }
+        Verdict::Sent(number) => {
+            put_word(out, b"sent")?;
+            put_number(alloc, out, *number)
+        }
+        Verdict::Accepted {
+            counter: _,
+            number,
+            next_header,
+            payload,
+        } => {
+            put_word(out, b"accepted")?;
+            put_number(alloc, out, *number)?;
+            put_number(alloc, out, u64::from(*next_header))?;
+            put_octets(alloc, out, payload.as_slice())
+        }
+        Verdict::DroppedEsp(why) => {
+            put_word(out, b"dropped")?;
+            put_word(out, drop_word(*why))
         }
         Verdict::Refused(refusal) => {
             put_word(out, b"refused")?;

@@ -3,6 +3,8 @@ use Rattle.std.specs.Prelude.{ℕ, ◌==◌, Bool, true, false, Option, Some, No
 use Rattle.std.specs.List.{filter}
 use Rattle.event_text.specs.declared.event.Event.{Event}
 use Rattle.event_text.specs.declared.event.Event.TheVariants as event
+use Rattle.event_text.specs.declared.event.Party.{Party}
+use Rattle.event_text.specs.declared.event.Party.TheVariants as parties
 use Rattle.event_text.specs.declared.turn.Turn.{Turn}
 use Rattle.event_text.specs.declared.verdict.Refusal.{Refusal}
 use Rattle.event_text.specs.declared.verdict.Refusal.TheVariants as refusal
@@ -23,6 +25,10 @@ is_performer (Member a) (Member b) = a == b
 -- the refusals that the run itself makes, before any end sees the event
 abbrev pub is_of_run : Refusal → Bool
 is_of_run refusal.NoMember = true
+is_of_run refusal.NoDatagram = true
+is_of_run refusal.NoOctet = true
+is_of_run refusal.DatagramsFull = true
+is_of_run refusal.Late = true
 is_of_run (refusal.NoRoom joined) = true
 is_of_run refusal.SpiRange = true
 is_of_run refusal.NotBuilt = true
@@ -32,13 +38,23 @@ abbrev pub is_refused_by_run : Verdict → Bool
 is_refused_by_run (out.Refused why) = is_of_run why
 is_refused_by_run verdict = false
 
+abbrev pub end_of_party : Party → Performer
+end_of_party parties.Peer = Peer
+end_of_party (parties.Member number) = Member number
+
 -- who performs an event that the run does not refuse
 abbrev pub performer_of : Event → Verdict → Option Performer
+performer_of (event.Cluster identity lifetime window ticket_key) verdict = None
 performer_of (event.Import sa) verdict = Some Peer
 performer_of (event.Join fresh) (out.Member number) = Some (Member number)
 performer_of (event.Join fresh) verdict = None
 performer_of (event.Own member spir) verdict = Some (Member member)
 performer_of (event.Draw member spir) verdict = Some (Member member)
+performer_of (event.Send from spir payload) verdict = Some (end_of_party from)
+performer_of (event.Deliver which to) verdict = Some (end_of_party to)
+performer_of (event.Alter which to place octet) verdict = Some (end_of_party to)
+performer_of (event.Cut which to keep) verdict = Some (end_of_party to)
+performer_of (event.Inject to medium octets) verdict = Some (end_of_party to)
 
 abbrev pub performer : Turn → Option Performer
 performer turn = if is_refused_by_run turn.step.verdict then None else performer_of turn.event turn.step.verdict

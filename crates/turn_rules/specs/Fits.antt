@@ -1,9 +1,8 @@
 -- What each event does, by what the turns before it say.
-use Rattle.std.specs.Prelude.{ℕ, ◌+◌, ◌-◌, ◌^◌, ◌≡◌, ◌||◌, ◌&&◌, ◌==◌, Bool, true, false, not, nat_le, nat_lt, is_some, MatchOption, Option, Some, None, List, [], length}
+use Rattle.std.specs.Prelude.{ℕ, ◌+◌, ◌^◌, ◌||◌, ◌&&◌, Bool, true, false, not, nat_le, nat_lt, is_some, MatchOption, List, length}
 use Rattle.std.specs.List.{filter, list_any}
 use Rattle.event_text.specs.declared.event.Event.{Event}
 use Rattle.event_text.specs.declared.event.Event.TheVariants as event
-use Rattle.event_text.specs.declared.turn.Step.{Step}
 use Rattle.event_text.specs.declared.turn.Turn.{Turn}
 use Rattle.event_text.specs.declared.verdict.Refusal.{Refusal}
 use Rattle.event_text.specs.declared.verdict.Refusal.TheVariants as refusal
@@ -15,7 +14,6 @@ use Rattle.turn_rules.specs.Draws.{Concludes, Draws, Enters, TakesOver}
 use Rattle.turn_rules.specs.Ends.{Member, Peer, own}
 use Rattle.turn_rules.specs.Held.{held_by}
 use Rattle.turn_rules.specs.Peers.{admits, entered_in, slots_by}
-use Rattle.turn_rules.specs.Steps.{IsQuiet}
 
 -- the most members of a run
 abbrev pub MAX_MEMBERS : ℕ
@@ -88,3 +86,4 @@ Fits boxes past (event.Import sa) calls verdict = ImportFits past sa calls verdi
 Fits boxes past (event.Join fresh) calls verdict = JoinFits boxes past calls verdict
 Fits boxes past (event.Own member spir) calls verdict = OwnFits past member spir calls verdict
 Fits boxes past (event.Draw member spir) calls verdict = DrawFits past member spir calls verdict
+Fits boxes past event calls verdict = Concludes calls verdict (out.Refused refusal.NotBuilt)

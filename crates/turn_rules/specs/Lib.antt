@@ -3,7 +3,9 @@ pub mod Ends
 pub mod Fits
 pub mod Held
 pub mod Local
+pub mod Packets
 pub mod Peers
 pub mod Safe
 pub mod Services
+pub mod Slots
 pub mod Steps

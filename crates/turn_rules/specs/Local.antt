@@ -1,5 +1,5 @@
 -- Each end answers by its own turns and by what it was handed.
-use Rattle.std.specs.Prelude.{ℕ, ◌≡◌, ◌≤◌, Bool, false, List, [], ◌∷◌, ◌++◌}
+use Rattle.std.specs.Prelude.{ℕ, ◌≡◌, false, List, [], ◌∷◌, ◌++◌}
 use Rattle.std.specs.List.{AllByRecursion}
 use Rattle.event_text.specs.declared.turn.Turn.{Turn}
 use Rattle.keeper_book.specs.Book.{Book, StandsFor}

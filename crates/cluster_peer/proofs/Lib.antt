@@ -1,0 +1,2 @@
+pub mod KeySizes
+mod SlotLemmas

@@ -1,0 +1,49 @@
+-- The first slot that passes a test, by the place where it stands.
+use Rattle.std.proofs.Common.{◌≡◌, ℕ, zero, suc, ◌<◌, Bool, true, false, List, [], ◌∷◌, ◌++◌, length, take, Some, None, get_or, refl, ap, sym, ◌∙◌, arith, if◌then◌else◌}
+use Rattle.std.proofs.Math.ListN.{set}
+use Rattle.turn_rules.specs.Slots.{Slot, first_slot, with_slot}
+use Rattle.cluster_peer.specs.Slots.{IsFirst}
+
+module _ (test : Slot → Bool) where
+  here : (s : Slot) (ss : List Slot) → test s ≡ true → first_slot test (s ∷ ss) ≡ Some s
+  here s ss t = rw t
+
+  there : (s : Slot) (ss : List Slot) → test s ≡ false → first_slot test (s ∷ ss) ≡ first_slot test ss
+  there s ss t = rw t
+
+  not_here : (s : Slot) (ss : List Slot) → first_slot test (s ∷ ss) ≡ None → test s ≡ false
+  not_here s ss n = go (test s) refl
+    where
+      go : (b : Bool) → test s ≡ b → test s ≡ false
+      go false t = t
+      go true t = let found : first_slot test (s ∷ ss) ≡ Some s = here s ss t in absurd (cc)
+
+  -- where no slot passes, one more that does not changes nothing
+  pub none_more : (ss : List Slot) (s : Slot) → first_slot test ss ≡ None → test s ≡ false → first_slot test (ss ++ s ∷ []) ≡ None
+  none_more [] s n t = there s [] t
+  none_more (x ∷ xs) s n t =
+      let other = not_here x xs n in
+      there x (xs ++ s ∷ []) other ∙ none_more xs s (sym (there x xs other) ∙ n) t
+
+  first_within : (place : ℕ) (ss : List Slot) (s : Slot) → place < length ss → first_slot test (take place ss) ≡ None → test s ≡ true → s ≡ get_or ss place s → first_slot test ss ≡ Some s
+  first_within place [] s w n t at = absurd (omega arith)
+  first_within zero (x ∷ xs) s w n t at = here x xs (ap test (sym at) ∙ t) ∙ ap Some (sym at)
+  first_within (suc k) (x ∷ xs) s w n t at =
+      let other = not_here x (take k xs) n in
+      there x xs other ∙ first_within k xs s (omega arith) (sym (there x (take k xs) other) ∙ n) t at
+
+  put_within : (place : ℕ) (ss : List Slot) (s now : Slot) → place < length ss → first_slot test (take place ss) ≡ None → test s ≡ true → s ≡ get_or ss place s → with_slot test now ss ≡ set ss place now
+  put_within place [] s now w n t at = absurd (omega arith)
+  put_within zero (x ∷ xs) s now w n t at = let x_passes : test x ≡ true = ap test (sym at) ∙ t in rw x_passes
+  put_within (suc k) (x ∷ xs) s now w n t at =
+      let other = not_here x (take k xs) n in
+      let later : with_slot test now xs ≡ set xs k now = put_within k xs s now (omega arith) (sym (there x (take k xs) other) ∙ n) t at in
+      rw (other, later)
+
+  -- the first slot is found
+  pub first_at : (place : ℕ) (ss : List Slot) (s : Slot) → IsFirst test place ss → s ≡ get_or ss place s → first_slot test ss ≡ Some s
+  first_at place ss s is at = first_within place ss s is.within is.none_before (is.here s at) at
+
+  -- and it is the one that is put another in the place of
+  pub put_at : (place : ℕ) (ss : List Slot) (s now : Slot) → IsFirst test place ss → s ≡ get_or ss place s → with_slot test now ss ≡ set ss place now
+  put_at place ss s now is at = put_within place ss s now is.within is.none_before (is.here s at) at

@@ -1,0 +1,19 @@
+-- A payload is sent by the association at its place.
+use Rattle.std.proofs.Common.{◌≡◌, Some, ap, sym, ◌∙◌}
+use Rattle.std.proofs.Math.ListN.{set}
+use Rattle.turn_rules.specs.Slots.{Slot, first_slot, has_spir, with_slot}
+use Rattle.cluster_peer.specs.Slots.{IsFirst, Slotted}
+use Rattle.cluster_peer.proofs.SlotLemmas.{first_at, put_at}
+use Rattle.cluster_peer.proofs.slots.Slots.send.Goals as goal
+
+pub returns-in-Some : goal.returns-in-Some
+returns-in-Some c =
+    let items = c.self.inside.items.items in
+    let slot = c.index_mut-association.result.now in
+    let new = c.send.new.self in
+    let test = has_spir c.args.spir in
+    let place : IsFirst test c.in-Some.place items = rw c.deref.ensures.value at c.in-Some.ensures in
+    let old : items ≡ c.args.self.now.slots = ap (λ (v : Slotted). v.slots) c.self.view_is in
+    let found : first_slot test c.args.self.now.slots ≡ Some slot = ap (first_slot test) (sym old) ∙ first_at test c.in-Some.place items slot place c.index_mut-association.ensures.value in
+    let put : set items c.in-Some.place new ≡ with_slot test new c.args.self.now.slots = sym (put_at test c.in-Some.place items slot new place c.index_mut-association.ensures.value) ∙ ap (with_slot test new) old in
+    rw found (new, c.send.ensures, put)

@@ -1,0 +1,18 @@
+-- What the peer keeps of an association.
+use Rattle.std.specs.Prelude.{ℕ, ◌≡◌, ◌^◌}
+use Rattle.keeper_book.specs.declared.counters.Counter.TheVariants as counter
+use Rattle.keeper_book.specs.declared.records.Record.{Record}
+use Rattle.spend_once.specs.Lot.{Remaining}
+use Rattle.turn_rules.specs.Packets.{Inbound, Outbound}
+use Rattle.turn_rules.specs.Slots.{peer_counter}
+
+-- the numbers that are left, and what is sent and received with, are those of the record
+pub record IsOfRecord (sa : Record) (lot : Remaining) (outbound : Outbound) (inbound : Inbound) : Type 0 where
+  pub numbers : lot.name ≡ peer_counter sa counter.EspOut
+  pub end : lot.end ≡ 2 ^ 63
+  pub sent_name : outbound.key.name ≡ peer_counter sa counter.EspOut
+  pub sent_key : outbound.key.octets ≡ sa.child.to_cluster
+  pub sent_spi : outbound.spi ≡ sa.spi_in
+  pub received_counter : inbound.counter ≡ peer_counter sa counter.EspIn
+  pub received_key : inbound.key ≡ sa.child.to_peer
+  pub received_spi : inbound.spi ≡ sa.spi_out

@@ -1,0 +1,94 @@
+-- What the peer holds of its associations, and what it does with ESP packets.
+use Rattle.std.specs.Prelude.{ℕ, ◌+◌, ◌^◌, ◌≡◌, ◌<◌, ◌≤◌, ◌==◌, Bool, MatchOption, length, Option, Some, None, List, [], ◌∷◌, map, if◌then◌else◌, Result, Ok, Err}
+use Rattle.esp_packets.specs.Packet.{spi_of}
+use Rattle.event_text.specs.declared.turn.Step.{Step}
+use Rattle.event_text.specs.declared.verdict.EspVerdict.{EspVerdict}
+use Rattle.event_text.specs.declared.verdict.EspVerdict.TheVariants as esp
+use Rattle.event_text.specs.declared.verdict.Refusal.TheVariants as refusal
+use Rattle.event_text.specs.declared.verdict.Verdict.TheVariants as out
+use Rattle.ha_base.specs.declared.counter_names.CounterName.{CounterName}
+use Rattle.ha_base.specs.declared.counter_names.End.TheVariants as end
+use Rattle.ha_base.specs.declared.esp_outcomes.EspDrop.{EspDrop}
+use Rattle.ha_base.specs.declared.esp_outcomes.EspDrop.TheVariants as drop
+use Rattle.ha_base.specs.declared.esp_outcomes.EspOpened.{EspOpened}
+use Rattle.keeper_book.specs.declared.counters.Counter.{Counter}
+use Rattle.keeper_book.specs.declared.counters.Counter.TheVariants as counter
+use Rattle.keeper_book.specs.declared.records.Record.{Record}
+use Rattle.replay_set.specs.Window.{Window, window_of}
+use Rattle.turn_rules.specs.Draws.{child_of, kind_of}
+use Rattle.turn_rules.specs.Packets.{Drops, Inbound, Opens, Outbound, Sends, noted}
+use Rattle.turn_rules.specs.Steps.{Says}
+
+-- What the peer holds of an association: the record, the ESP number that it sends next, and which numbers it received.
+pub record Slot : Type 0 where
+  pub sa : Record
+  pub next : ℕ
+  pub window : Window
+
+-- the peer's counter of an association
+abbrev pub peer_counter : Record → Counter → CounterName
+peer_counter sa c = record { origin = sa.origin; kind = kind_of c; child = child_of c; end = end.Peer }
+
+-- Where the peer begins: its numbers are the cluster's, each end sending where the other one receives.
+abbrev pub entered_slot : ℕ → Record → Slot
+entered_slot size sa = record { sa = sa; next = sa.starts.esp_in; window = window_of size sa.starts.esp_out [] }
+
+abbrev pub slot_outbound : Slot → Outbound
+slot_outbound slot = record {
+  key = record { name = peer_counter slot.sa counter.EspOut; octets = slot.sa.child.to_cluster };
+  spi = slot.sa.spi_in;
+}
+
+abbrev pub slot_inbound : Slot → Inbound
+slot_inbound slot = record { counter = peer_counter slot.sa counter.EspIn; key = slot.sa.child.to_peer; spi = slot.sa.spi_out; window = slot.window }
+
+abbrev pub records : List Slot → List Record
+records slots = map (λ slot. slot.sa) slots
+
+-- the slot of a responder's SPI, and the one that receives at an SPI
+abbrev pub has_spir : ℕ → Slot → Bool
+has_spir spir slot = slot.sa.spir == spir
+
+abbrev pub receives_at : ℕ → Slot → Bool
+receives_at spi slot = slot.sa.spi_out == spi
+
+-- the first slot that passes a test
+abbrev pub first_slot : (Slot → Bool) → List Slot → Option Slot
+first_slot test [] = None
+first_slot test (slot ∷ slots) = if test slot then Some slot else first_slot test slots
+
+-- the slots with this one in the place of the first that passes a test
+abbrev pub with_slot : (Slot → Bool) → Slot → List Slot → List Slot
+with_slot test now [] = []
+with_slot test now (slot ∷ slots) = if test slot then now ∷ slots else slot ∷ with_slot test now slots
+
+-- a payload is sent under the next number, unless the counter is at its end, and what is held then
+pub record SlotSends (slot : Slot) (payload : List ℕ) (step : Step) (now : Slot) : Type 0 where
+  pub within : slot.next < 2 ^ 63 → Sends (slot_outbound slot) slot.next payload step × (now ≡ record slot { next = slot.next + 1 })
+  pub ended : 2 ^ 63 ≤ slot.next → Says (out.Refused refusal.Exhausted) step × (now ≡ slot)
+
+-- the peer sends a payload in an association, and what it holds then
+abbrev pub PeerSends : ℕ → List Slot → List ℕ → Step → List Slot → Type 0
+PeerSends spir old payload step new = MatchOption (first_slot (has_spir spir) old)
+    (Says (out.Refused refusal.Unknown) step × (new ≡ old))
+    (λ slot. (now : Slot) × SlotSends slot payload step now × (new ≡ with_slot (has_spir spir) now old))
+
+-- what a slot does with a packet that was opened or dropped, and what is held then
+abbrev pub SlotTakes : Slot → Result EspOpened EspDrop → EspVerdict → Slot → Type 0
+SlotTakes slot (Err why) answer now = (answer ≡ esp.Dropped why) × (now ≡ slot)
+SlotTakes slot (Ok packet) answer now =
+    (answer ≡ esp.Accepted (peer_counter slot.sa counter.EspIn) packet) × (now ≡ record slot { window = (noted packet.number (slot_inbound slot)).window })
+
+-- what a slot does with the octets of a packet
+pub record SlotReceives (slot : Slot) (octets : List ℕ) (answer : EspVerdict) (after : List ℕ) (now : Slot) : Type 0 where
+  pub opened : Result EspOpened EspDrop
+  pub opens : Opens (slot_inbound slot) octets opened after
+  pub takes : SlotTakes slot opened answer now
+
+-- What the peer does with the octets of a packet, what they are then, and what it holds then: they are too short, or
+-- nothing receives at their SPI, or the slot answers that does.
+pub record PeerReceives (old : List Slot) (octets : List ℕ) (answer : EspVerdict) (after : List ℕ) (new : List Slot) : Type 0 where
+  pub short : length octets < 34 → Drops drop.Short octets answer after × (new ≡ old)
+  pub long : 34 ≤ length octets → MatchOption (first_slot (receives_at (spi_of octets)) old)
+      (Drops drop.WrongSpi octets answer after × (new ≡ old))
+      (λ slot. (now : Slot) × SlotReceives slot octets answer after now × (new ≡ with_slot (receives_at (spi_of octets)) now old))
