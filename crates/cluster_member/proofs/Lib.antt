@@ -1,3 +1,5 @@
+pub mod KeySizes
 pub mod PlaceLemmas
+pub mod ReceiverLemmas
 pub mod StepLaws
 pub mod VerdictLaws

@@ -10,7 +10,7 @@ use Rattle.event_text.specs.declared.verdict.Verdict.{Verdict}
 use Rattle.event_text.specs.declared.verdict.Verdict.TheVariants as out
 use Rattle.ha_base.specs.declared.counter_names.Kind.TheVariants as kind
 use Rattle.horizons.specs.Reaches.{Reach, cover_of}
-use Rattle.horizons.specs.Ready.{Answered, Covers}
+use Rattle.horizons.specs.Ready.{Answered, Covers, Ready}
 use Rattle.horizons.specs.Stops.{stop_of}
 use Rattle.horizons.specs.declared.stop.Stop.{Stop}
 use Rattle.horizons.specs.declared.stop.Stop.TheVariants as stop
@@ -27,7 +27,7 @@ use Rattle.turn_rules.specs.Draws.{Concludes, ConcludesWith, Draws, DrawsTo, Gra
 use Rattle.turn_rules.specs.Held.{Held, advanced, begun, first_of, grant_in, held_after, held_at}
 use Rattle.cluster_member.specs.Members.{Becomes, Begins, DrawsFrom, GrantsTo, TakesTo}
 
-module _ (s spir member : ℕ) (call : Call) (verdict : Verdict) (asked : call.asked ≡ ask.TakeOver spir member) where
+module _ (size s spir member : ℕ) (call : Call) (verdict : Verdict) (asked : call.asked ≡ ask.TakeOver spir member) where
   -- a takeover uses and covers no number
   own_advanced : (held : Held) → advanced s (event.Own member spir) (call ∷ []) verdict held ≡ held
   own_advanced held = rw asked
@@ -36,56 +36,56 @@ module _ (s spir member : ℕ) (call : Call) (verdict : Verdict) (asked : call.a
   own_kept None = refl
   own_kept (Some held) = ap Some (own_advanced held)
 
-  granted_held : (grant : Option Taken) (held : Option Held) → grant_in s (call ∷ []) ≡ grant → held_after s (event.Own member spir) (call ∷ []) verdict held ≡ first_of (option_map begun grant) held
+  granted_held : (grant : Option Taken) (held : Option Held) → grant_in s (call ∷ []) ≡ grant → held_after size s (event.Own member spir) (call ∷ []) verdict held ≡ first_of (option_map (begun size) grant) held
   granted_held grant held e =
-      ap (λ g. first_of (option_map begun g) (option_map (advanced s (event.Own member spir) (call ∷ []) verdict) held)) e
-      ∙ ap (first_of (option_map begun grant)) (own_kept held)
+      ap (λ g. first_of (option_map (begun size) g) (option_map (advanced s (event.Own member spir) (call ∷ []) verdict) held)) e
+      ∙ ap (first_of (option_map (begun size) grant)) (own_kept held)
 
-  takes_refused : (why : KeeperFault) (held : Option Held) → seen call ≡ answer.Refused why → held_after s (event.Own member spir) (call ∷ []) verdict held ≡ held
+  takes_refused : (why : KeeperFault) (held : Option Held) → seen call ≡ answer.Refused why → held_after size s (event.Own member spir) (call ∷ []) verdict held ≡ held
   takes_refused why held sees = granted_held None held (rw (asked, sees))
 
   grant_taken : (taken : Taken) → seen call ≡ answer.Taken taken → grant_in s (call ∷ []) ≡ first_of (if spir == s then Some taken else None) None
   grant_taken taken sees = rw (asked, sees)
 
-  takes_granted : (taken : Taken) (old new : List Held) (same : Bool) → (spir == s) ≡ same → seen call ≡ answer.Taken taken → Begins spir taken old new → held_at new s ≡ held_after s (event.Own member spir) (call ∷ []) verdict (held_at old s)
+  takes_granted : (taken : Taken) (old new : List Held) (same : Bool) → (spir == s) ≡ same → seen call ≡ answer.Taken taken → Begins size spir taken old new → held_at new s ≡ held_after size s (event.Own member spir) (call ∷ []) verdict (held_at old s)
   takes_granted taken old new true e sees begins =
       let here : grant_in s (call ∷ []) ≡ Some taken = grant_taken taken sees ∙ ap (λ b. first_of (if b then Some taken else None) None) e in
-      subst (λ n. held_at new n ≡ Some (begun taken)) (eqb-true spir s e) begins.granted
+      subst (λ n. held_at new n ≡ Some (begun size taken)) (eqb-true spir s e) begins.granted
       ∙ sym (granted_held (Some taken) (held_at old s) here)
   takes_granted taken old new false e sees begins =
       let there : grant_in s (call ∷ []) ≡ None = grant_taken taken sees ∙ ap (λ b. first_of (if b then Some taken else None) None) e in
       begins.others s (λ same. eqb-false spir s e (sym same))
       ∙ sym (granted_held None (held_at old s) there)
 
-  takes_answered : (answered : KeeperAnswer) (old new : List Held) → seen call ≡ answered → GrantsTo spir answered old verdict new → held_at new s ≡ held_after s (event.Own member spir) (call ∷ []) verdict (held_at old s)
+  takes_answered : (answered : KeeperAnswer) (old new : List Held) → seen call ≡ answered → GrantsTo size spir answered old verdict new → held_at new s ≡ held_after size s (event.Own member spir) (call ∷ []) verdict (held_at old s)
   takes_answered answer.Done old new sees g = absurd g
   takes_answered (answer.Taken taken) old new sees g = takes_granted taken old new (spir == s) refl sees g.1
   takes_answered (answer.Refused why) old new sees g = go (refusal_of_fault why) g
     where
-      go : (r : Option Refusal) → MatchOption r ⊥ (λ r. (verdict ≡ out.Refused r) × (new ≡ old)) → held_at new s ≡ held_after s (event.Own member spir) (call ∷ []) verdict (held_at old s)
+      go : (r : Option Refusal) → MatchOption r ⊥ (λ r. (verdict ≡ out.Refused r) × (new ≡ old)) → held_at new s ≡ held_after size s (event.Own member spir) (call ∷ []) verdict (held_at old s)
       go None g = absurd g
       go (Some r) g = ap (λ hs. held_at hs s) g.1 ∙ sym (takes_refused why (held_at old s) sees)
 
 -- what a member holds after a takeover is what the turn makes of what it held
-pub takes-held : (s spir member : ℕ) (old new : List Held) (calls : List Call) (verdict : Verdict) → TakesTo spir member old calls verdict new → held_at new s ≡ held_after s (event.Own member spir) calls verdict (held_at old s)
-takes-held s spir member old new [] verdict t = absurd t
-takes-held s spir member old new (call ∷ []) verdict t = takes_answered s spir member call verdict t.0 (seen call) old new refl t.1
-takes-held s spir member old new (call ∷ other ∷ more) verdict t = absurd t
+pub takes-held : (size s spir member : ℕ) (old new : List Held) (calls : List Call) (verdict : Verdict) → TakesTo size spir member old calls verdict new → held_at new s ≡ held_after size s (event.Own member spir) calls verdict (held_at old s)
+takes-held size s spir member old new [] verdict t = absurd t
+takes-held size s spir member old new (call ∷ []) verdict t = takes_answered size s spir member call verdict t.0 (seen call) old new refl t.1
+takes-held size s spir member old new (call ∷ other ∷ more) verdict t = absurd t
 
 refused_as : (verdict : Verdict) (old new : List Held) (r : Option Refusal) → MatchOption r ⊥ (λ r. (verdict ≡ out.Refused r) × (new ≡ old)) → MatchOption r ⊥ (λ r. verdict ≡ out.Refused r)
 refused_as verdict old new None g = absurd g
 refused_as verdict old new (Some r) g = g.0
 
-takes_over_as : (spir : ℕ) (answered : KeeperAnswer) (old new : List Held) (verdict : Verdict) → GrantsTo spir answered old verdict new → Grants answered verdict
-takes_over_as spir answer.Done old new verdict g = absurd g
-takes_over_as spir (answer.Taken taken) old new verdict g = g.0
-takes_over_as spir (answer.Refused why) old new verdict g = refused_as verdict old new (refusal_of_fault why) g
+takes_over_as : (size spir : ℕ) (answered : KeeperAnswer) (old new : List Held) (verdict : Verdict) → GrantsTo size spir answered old verdict new → Grants answered verdict
+takes_over_as size spir answer.Done old new verdict g = absurd g
+takes_over_as size spir (answer.Taken taken) old new verdict g = g.0
+takes_over_as size spir (answer.Refused why) old new verdict g = refused_as verdict old new (refusal_of_fault why) g
 
 -- and it is one that fits
-pub takes-fit : (spir member : ℕ) (old new : List Held) (calls : List Call) (verdict : Verdict) → TakesTo spir member old calls verdict new → TakesOver spir member calls verdict
-takes-fit spir member old new [] verdict t = absurd t
-takes-fit spir member old new (call ∷ []) verdict t = (t.0, takes_over_as spir (seen call) old new verdict t.1)
-takes-fit spir member old new (call ∷ other ∷ more) verdict t = absurd t
+pub takes-fit : (size spir member : ℕ) (old new : List Held) (calls : List Call) (verdict : Verdict) → TakesTo size spir member old calls verdict new → TakesOver spir member calls verdict
+takes-fit size spir member old new [] verdict t = absurd t
+takes-fit size spir member old new (call ∷ []) verdict t = (t.0, takes_over_as size spir (seen call) old new verdict t.1)
+takes-fit size spir member old new (call ∷ other ∷ more) verdict t = absurd t
 
 match_as : {X : Type 0} {P Q : X → Type 0} (x : Option X) → ((x : X) → P x → Q x) → MatchOption x ⊥ P → MatchOption x ⊥ Q
 match_as None f p = absurd p
@@ -99,6 +99,13 @@ answered_as (answer.Refused why) f g p = match_as (stop_of why) f p
 covers_as : {P Q : Stop → List Call → Type 0} {G H : ℕ → List Call → Type 0} (h : Reach) (at : ℕ) (calls : List Call) → ((why : Stop) (rest : List Call) → P why rest → Q why rest) → ((high : ℕ) (rest : List Call) → G high rest → H high rest) → Covers h at calls P G → Covers h at calls Q H
 covers_as h at [] f g p = absurd p
 covers_as h at (call ∷ calls) f g p = (p.0, answered_as (seen call) (λ why. f why calls) (g (cover_of h.counter at) calls) p.1)
+
+pub ready_as : {P Q : Stop → List Call → Type 0} {G H : ℕ → List Call → Type 0} (h : Reach) (at : ℕ) (calls : List Call) → ((why : Stop) (rest : List Call) → P why rest → Q why rest) → ((high : ℕ) (rest : List Call) → G high rest → H high rest) → Ready h at calls P G → Ready h at calls Q H
+ready_as h at calls f g r = record {
+  within = λ w. g h.high calls (r.within w);
+  ended = λ l e. f stop.Exhausted calls (r.ended l e);
+  asked = λ l e. covers_as h at calls f g (r.asked l e);
+}
 
 -- what is held once a number was drawn below this high
 abbrev drawn : Held → ℕ → Held
@@ -122,32 +129,32 @@ module _ (held now : Held) (verdict : Verdict) where
     asked = λ l e. covers_as (reach_of held counter.EspOut) (five_at held.nexts counter.EspOut) calls stops_as goes_as (d.asked l e);
   }
 
-module _ (s spir member : ℕ) where
+module _ (size s spir member : ℕ) where
   -- a draw that is refused without a call
-  held_quiet : (why : Refusal) (x : Option Held) → held_after s (event.Draw member spir) [] (out.Refused why) x ≡ x
+  held_quiet : (why : Refusal) (x : Option Held) → held_after size s (event.Draw member spir) [] (out.Refused why) x ≡ x
   held_quiet why None = refl
   held_quiet why (Some h) = refl
 
   -- a draw of another association's number, without a call
-  held_there : (n : ℕ) (x : Option Held) → (spir == s) ≡ false → held_after s (event.Draw member spir) [] (out.Number n) x ≡ x
+  held_there : (n : ℕ) (x : Option Held) → (spir == s) ≡ false → held_after size s (event.Draw member spir) [] (out.Number n) x ≡ x
   held_there n None e = refl
   held_there n (Some h) e = rw e
 
-  held_here : (held : Held) → (spir == s) ≡ true → held_after s (event.Draw member spir) [] (out.Number held.nexts.esp_out) (Some held) ≡ Some (drawn held held.highs.esp_out)
+  held_here : (held : Held) → (spir == s) ≡ true → held_after size s (event.Draw member spir) [] (out.Number held.nexts.esp_out) (Some held) ≡ Some (drawn held held.highs.esp_out)
   held_here held e =
       let more : max (held.nexts.esp_out + 1) held.nexts.esp_out ≡ held.nexts.esp_out + 1 = omega arith in
       rw (e, more)
 
   module _ (held : Held) (call : Call) (upto : ℕ) (asked : call.asked ≡ ask.Cover held.sa.spir kind.EspOut 1 held.epoch upto) where
-    held_denied : (fault : KeeperFault) (why : Refusal) (x : Option Held) → seen call ≡ answer.Refused fault → held_after s (event.Draw member spir) (call ∷ []) (out.Refused why) x ≡ x
+    held_denied : (fault : KeeperFault) (why : Refusal) (x : Option Held) → seen call ≡ answer.Refused fault → held_after size s (event.Draw member spir) (call ∷ []) (out.Refused why) x ≡ x
     held_denied fault why None sees = rw asked
     held_denied fault why (Some h) sees = rw (asked, sees)
 
-    covered_there : (n : ℕ) (x : Option Held) → seen call ≡ answer.Done → (spir == s) ≡ false → (held.sa.spir == s) ≡ false → held_after s (event.Draw member spir) (call ∷ []) (out.Number n) x ≡ x
+    covered_there : (n : ℕ) (x : Option Held) → seen call ≡ answer.Done → (spir == s) ≡ false → (held.sa.spir == s) ≡ false → held_after size s (event.Draw member spir) (call ∷ []) (out.Number n) x ≡ x
     covered_there n None sees e f = rw asked
     covered_there n (Some h) sees e f = rw (asked, sees, e, f)
 
-    covered_here : seen call ≡ answer.Done → (spir == s) ≡ true → (held.sa.spir == s) ≡ true → held.highs.esp_out ≤ upto → held_after s (event.Draw member spir) (call ∷ []) (out.Number held.nexts.esp_out) (Some held) ≡ Some (drawn held upto)
+    covered_here : seen call ≡ answer.Done → (spir == s) ≡ true → (held.sa.spir == s) ≡ true → held.highs.esp_out ≤ upto → held_after size s (event.Draw member spir) (call ∷ []) (out.Number held.nexts.esp_out) (Some held) ≡ Some (drawn held upto)
     covered_here sees e f low =
         let more : max (held.nexts.esp_out + 1) held.nexts.esp_out ≡ held.nexts.esp_out + 1 = omega arith in
         let raised : max upto held.highs.esp_out ≡ upto = omega arith in
@@ -155,8 +162,8 @@ module _ (s spir member : ℕ) where
 
   -- what a draw makes of what is held: of the association that it names, and of every other one
   record Settles (calls : List Call) (verdict : Verdict) (held now : Held) : Type 0 where
-    here : (spir == s) ≡ true → held_after s (event.Draw member spir) calls verdict (Some held) ≡ Some now
-    there : (spir == s) ≡ false → (x : Option Held) → held_after s (event.Draw member spir) calls verdict x ≡ x
+    here : (spir == s) ≡ true → held_after size s (event.Draw member spir) calls verdict (Some held) ≡ Some now
+    there : (spir == s) ≡ false → (x : Option Held) → held_after size s (event.Draw member spir) calls verdict x ≡ x
 
   module _ (held now : Held) (verdict : Verdict) (is : held.sa.spir ≡ spir) where
     settles_quiet : (why : Refusal) (calls : List Call) → ConcludesWith calls verdict (out.Refused why) now held → Settles calls verdict held now
@@ -213,19 +220,19 @@ spir_of_held spir (x ∷ xs) h e = by_test (spir_of_held spir xs h) (x.sa.spir =
     by_test later false t e = later e
 
 -- what a member holds after a draw is what the turn makes of what it held
-pub draws-held : (s spir member : ℕ) (old new : List Held) (calls : List Call) (verdict : Verdict) → DrawsFrom spir old calls verdict new → held_at new s ≡ held_after s (event.Draw member spir) calls verdict (held_at old s)
-draws-held s spir member old new calls verdict d = go (held_at old spir) refl d
+pub draws-held : (size s spir member : ℕ) (old new : List Held) (calls : List Call) (verdict : Verdict) → DrawsFrom spir old calls verdict new → held_at new s ≡ held_after size s (event.Draw member spir) calls verdict (held_at old s)
+draws-held size s spir member old new calls verdict d = go (held_at old spir) refl d
   where
-    at_test : (held now : Held) → held_at old spir ≡ Some held → Settles s spir member calls verdict held now → Becomes spir now old new → (same : Bool) → (spir == s) ≡ same → held_at new s ≡ held_after s (event.Draw member spir) calls verdict (held_at old s)
+    at_test : (held now : Held) → held_at old spir ≡ Some held → Settles size s spir member calls verdict held now → Becomes spir now old new → (same : Bool) → (spir == s) ≡ same → held_at new s ≡ held_after size s (event.Draw member spir) calls verdict (held_at old s)
     at_test held now found settled becomes true e =
-        subst (λ n. held_at new n ≡ held_after s (event.Draw member spir) calls verdict (held_at old n)) (eqb-true spir s e)
-        (becomes.held ∙ sym (settled.here e) ∙ sym (ap (held_after s (event.Draw member spir) calls verdict) found))
+        subst (λ n. held_at new n ≡ held_after size s (event.Draw member spir) calls verdict (held_at old n)) (eqb-true spir s e)
+        (becomes.held ∙ sym (settled.here e) ∙ sym (ap (held_after size s (event.Draw member spir) calls verdict) found))
     at_test held now found settled becomes false e =
         becomes.others s (λ same. eqb-false spir s e (sym same)) ∙ sym (settled.there e (held_at old s))
 
-    go : (x : Option Held) → held_at old spir ≡ x → MatchOption x (Concludes calls verdict (out.Refused refusal.NotOwner) × (new ≡ old)) (λ held. (now : Held) × DrawsTo held calls verdict now × Becomes spir now old new) → held_at new s ≡ held_after s (event.Draw member spir) calls verdict (held_at old s)
-    go None e d = ap (λ hs. held_at hs s) d.1 ∙ sym (rw (d.0.no_more, d.0.said) (held_quiet s spir member refusal.NotOwner (held_at old s)))
-    go (Some held) e d = at_test held d.0 e (settles s spir member held d.0 verdict (spir_of_held spir old held e) calls d.1) d.2 (spir == s) refl
+    go : (x : Option Held) → held_at old spir ≡ x → MatchOption x (Concludes calls verdict (out.Refused refusal.NotOwner) × (new ≡ old)) (λ held. (now : Held) × DrawsTo held calls verdict now × Becomes spir now old new) → held_at new s ≡ held_after size s (event.Draw member spir) calls verdict (held_at old s)
+    go None e d = ap (λ hs. held_at hs s) d.1 ∙ sym (rw (d.0.no_more, d.0.said) (held_quiet size s spir member refusal.NotOwner (held_at old s)))
+    go (Some held) e d = at_test held d.0 e (settles size s spir member held d.0 verdict (spir_of_held spir old held e) calls d.1) d.2 (spir == s) refl
 
 -- and it is one that fits
 pub draws-from-fit : (spir : ℕ) (old new : List Held) (calls : List Call) (verdict : Verdict) → DrawsFrom spir old calls verdict new → MatchOption (held_at old spir) (Concludes calls verdict (out.Refused refusal.NotOwner)) (λ held. Draws held calls verdict)

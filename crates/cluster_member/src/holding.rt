@@ -1,12 +1,19 @@
-ghost use Rattle.std.specs.Prelude.{◌≡◌, List};
+ghost use Rattle.std.specs.Prelude.{◌≡◌, ◌^◌, ◌<◌, ◌≤◌, List, Ok, length};
 ghost use Rattle.keeper_book.specs.Asks.{Asks};
 ghost use Rattle.keeper_book.specs.Counters.{AreWithinEnds};
 ghost use Rattle.keeper_book.specs.declared.calls.Call.{Call};
+ghost use Rattle.replay_set.specs.Window.{IsWindowSize, judged};
+ghost use Rattle.replay_set.specs.declared.judgement.Judgement.TheVariants as judgement;
+ghost use Rattle.cluster_member.specs.Holdings.{TookPacket};
+ghost use Rattle.turn_rules.specs.Packets.{LiesWithin};
 ghost use Rattle.turn_rules.specs.Draws.{DrawsTo};
 ghost use Rattle.turn_rules.specs.Held.{begun};
+ghost use Rattle.turn_rules.specs.MemberPackets.{ReceivesPacketTo, SendsDataTo, TakesPacketTo};
 
 use crate::refusals;
-use event_text::Verdict;
+use esp_sas::{InboundSa, OutboundSa, Room};
+use event_text::{EspVerdict, Step, Verdict};
+use ha_base::EspOpened;
 use horizons::Horizon;
 use keeper_book::{Keeper, Record, Taken};
 use spend_once::{CounterName, End, Kind};
@@ -22,11 +29,13 @@ pub struct Holding {
     iv: Horizon,
     ask: Horizon,
     answer: Horizon,
+    outbound: OutboundSa,
+    inbound: InboundSa,
 }
 
 impl Model for Holding {
     ghost use Rattle.turn_rules.specs.Held.{Held};
-    ghost use Rattle.cluster_member.specs.Holdings.{AreHorizons};
+    ghost use Rattle.cluster_member.specs.Holdings.{IsHolding};
 
     ghost Value = { Held };
 
@@ -36,9 +45,10 @@ impl Model for Holding {
       bases = record { esp_out = h.esp_out.base; esp_in = h.esp_in.base; iv = h.iv.base; ask = h.ask.base; answer = h.answer.base };
       nexts = record { esp_out = h.esp_out.next; esp_in = h.esp_in.next; iv = h.iv.next; ask = h.ask.next; answer = h.answer.next };
       highs = record { esp_out = h.esp_out.high; esp_in = h.esp_in.high; iv = h.iv.high; ask = h.ask.high; answer = h.answer.high };
+      window = h.inbound.window;
     } };
 
-    ghost invariant = { λ h. AreHorizons h.sa h.epoch h.esp_out h.esp_in h.iv h.ask h.answer };
+    ghost invariant = { λ h. IsHolding h.sa h.epoch h.esp_out h.esp_in h.iv h.ask h.answer h.outbound h.inbound };
 }
 
 // the cluster's counter of an association
@@ -53,11 +63,24 @@ fn name_of(sa: &Record, kind: Kind, child: u32) -> CounterName
     }
 }
 
+// the counter of the ESP numbers that the peer sends
+fn peer_out(sa: &Record) -> CounterName {
+    CounterName {
+        origin: sa.origin,
+        kind: Kind::EspOut,
+        child: 1,
+        end: End::Peer,
+    }
+}
+
 impl Holding {
-    /// What a takeover granted: each counter begins at its base.
-    pub fn begin(taken: Taken) -> Holding
-        requires { AreWithinEnds taken.bases }
-        ensures { result ≡ begun taken }
+    /// What a takeover granted: each counter begins at its base, and nothing was received in the window, which has this
+    /// size.
+    #[tactic(auto, using(crate::proofs::KeySizes::sized_to_cluster, crate::proofs::KeySizes::sized_to_peer))]
+    pub fn begin(taken: Taken, window: u32) -> Holding
+        requires bases { AreWithinEnds taken.bases }
+        requires window { IsWindowSize window }
+        ensures { result ≡ begun window taken }
     {
         let Taken { epoch, bases, sa } = taken;
         let spir = sa.spir;
@@ -92,8 +115,28 @@ impl Holding {
                 bases.answer,
                 bases.answer,
             ),
+            outbound: OutboundSa::new(
+                name_of(&sa, Kind::EspOut, 1),
+                sa.child.to_peer.as_slice(),
+                sa.spi_out,
+            ),
+            inbound: InboundSa::new(
+                name_of(&sa, Kind::EspIn, 1),
+                peer_out(&sa),
+                sa.child.to_cluster.as_slice(),
+                sa.spi_in,
+                window,
+                bases.esp_in,
+            ),
             sa,
         }
+    }
+
+    /// The ESP SPI at which packets are received.
+    pub fn spi(&self) -> u32
+        ensures { result ≡ self.now.sa.spi_in }
+    {
+        self.sa.spi_in
     }
 
     /// The responder's SPI.
@@ -116,6 +159,57 @@ impl Holding {
                 Verdict::Number(value)
             }
             Err(stop) => Verdict::Refused(refusals::of_stop(stop)),
+        }
+    }
+    /// Sends a payload of at most 1,400 octets under the next ESP number.
+    pub fn send<K: Keeper>(&mut self, keeper: &mut K, room: Room, payload: &[u8]) -> Step
+        requires { length payload.now ≤ 1400 }
+        ensures sends { (calls : List Call) × SendsDataTo self.old payload.now calls result self.new
+            × Asks K.Keeper keeper.old calls keeper.new }
+        ensures sa { self.new.sa ≡ self.old.sa }
+        ensures held { K.held keeper.new ≡ K.held keeper.old }
+    {
+        match self.esp_out.send_number(keeper) {
+            Ok(number) => return self.outbound.send(room, number, payload),
+            Err(stop) => return Step::quiet(Verdict::Refused(refusals::of_stop(stop))),
+        }
+    }
+
+    // Takes a packet that was opened, once its number is ready.
+    fn take<K: Keeper>(&mut self, keeper: &mut K, packet: EspOpened) -> EspVerdict
+        requires fresh { judged self.old.window packet.number ≡ judgement.Fresh }
+        requires from_base { self.old.window.base ≤ packet.number }
+        requires below { packet.number < 2 ^ 63 }
+        ensures takes { (calls : List Call) × TakesPacketTo self.old (Ok packet) calls result self.new
+            × Asks K.Keeper keeper.old calls keeper.new }
+        ensures same { TookPacket packet result }
+        ensures sa { self.new.sa ≡ self.old.sa }
+        ensures held { K.held keeper.new ≡ K.held keeper.old }
+    {
+        match self.esp_in.admit(keeper, packet.number) {
+            Ok(()) => {
+                self.inbound.note(packet.number);
+                return EspVerdict::Accepted {
+                    counter: self.inbound.counter(),
+                    packet,
+                };
+            }
+            Err(stop) => return EspVerdict::Refused(refusals::of_stop(stop)),
+        }
+    }
+
+    /// Opens in place a packet that came. Its number is noted where the packet is accepted.
+    pub fn receive<K: Keeper>(&mut self, keeper: &mut K, bytes: &mut [u8]) -> EspVerdict
+        requires { length bytes.old ≤ 65536 }
+        ensures receives { (calls : List Call) × ReceivesPacketTo self.old bytes.old calls result bytes.new self.new
+            × Asks K.Keeper keeper.old calls keeper.new }
+        ensures within { LiesWithin result (length bytes.new) }
+        ensures sa { self.new.sa ≡ self.old.sa }
+        ensures held { K.held keeper.new ≡ K.held keeper.old }
+    {
+        match self.inbound.open(bytes) {
+            Ok(packet) => return self.take(keeper, packet),
+            Err(why) => return EspVerdict::Dropped(why),
         }
     }
 }

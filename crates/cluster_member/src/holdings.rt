@@ -1,13 +1,17 @@
-ghost use Rattle.std.specs.Prelude.{◌≡◌, ◌<◌, Some, None, [], List, MatchOption, OnOk};
+ghost use Rattle.std.specs.Prelude.{◌≡◌, ◌<◌, ◌≤◌, length, Some, None, [], List, MatchOption, IfSome, OnOk};
 ghost use Rattle.keeper_book.specs.Asks.{Asks};
 ghost use Rattle.keeper_book.specs.declared.calls.Call.{Call};
 ghost use Rattle.turn_rules.specs.Held.{held_at};
-ghost use Rattle.cluster_member.specs.Members.{DrawsFrom};
-ghost use Rattle.cluster_member.specs.Places.{IsPlaceOf, KeepsOthers};
+ghost use Rattle.event_text.specs.declared.verdict.Refusal.TheVariants as refusal;
+ghost use Rattle.turn_rules.specs.Packets.{LiesWithin};
+ghost use Rattle.turn_rules.specs.Steps.{Says};
+ghost use Rattle.cluster_member.specs.Members.{DrawsFrom, ReceivesAt, ReceivesFrom, SendsFrom};
+ghost use Rattle.cluster_member.specs.Places.{IsLeastAt, IsLesser, IsPlaceOf, KeepsOthers, NoneReceives};
 
 use crate::holding::Holding;
-use event_text::{Refusal, Verdict};
-use ha_base::Memory;
+use esp_sas::{Room, packet_spi};
+use event_text::{EspVerdict, Refusal, Step, Verdict};
+use ha_base::{EspDrop, Memory};
 use keeper_book::Keeper;
 use std::alloc::Global;
 use std::marker::Model;
@@ -20,11 +24,13 @@ pub struct Holdings {
 
 impl Model for Holdings {
     ghost use Rattle.std.specs.Prelude.{◌-◌, vec_len, vec_capacity};
-    ghost use Rattle.cluster_member.specs.Places.{AllHeld};
+    ghost use Rattle.cluster_member.specs.Places.{AllHeld, AreApart};
 
     ghost Value = { AllHeld };
 
     ghost view = { λ h. record { held = h.items.items; spare = vec_capacity h.items - vec_len h.items } };
+
+    ghost invariant = { λ h. AreApart h.items.items };
 }
 
 /// Where the holding of a responder's SPI stands.
@@ -37,6 +43,39 @@ fn place_of(items: &[Holding], spir: u64) -> Option<usize>
         }
     }
     None
+}
+
+// of the holding that was found, if there is one, and another one, where the one of the lesser responder's SPI stands
+fn lesser(items: &[Holding], found: Option<usize>, place: usize) -> usize
+    requires within { place < length items.now }
+    requires found { IfSome found (λ other. other < length items.now) }
+    ensures { IsLesser items.now found place result }
+{
+    let Some(other) = found else { return place };
+    if items[other].spir() <= items[place].spir() {
+        other
+    } else {
+        place
+    }
+}
+
+/// Where the holding stands that receives at an SPI. Of several it is the one of the least responder's SPI.
+fn receiver_of(items: &[Holding], spi: u32) -> Option<usize>
+    ensures { MatchOption result (NoneReceives spi items.now) (λ place. IsLeastAt spi place items.now items.now) }
+{
+    let mut found = None;
+    for (place, holding) in items.iter().enumerate() {
+        if holding.spi() == spi {
+            found = Some(lesser(items, found, place));
+        }
+    }
+    found
+}
+
+fn not_owner() -> Step
+    ensures { Says (Verdict.Refused refusal.NotOwner) result }
+{
+    Step::quiet(Verdict::Refused(Refusal::NotOwner))
 }
 
 impl Holdings {
@@ -84,6 +123,53 @@ impl Holdings {
                 holding.draw(keeper)
             }
             None => Verdict::Refused(Refusal::NotOwner),
+        }
+    }
+
+    /// Sends a payload of at most 1,400 octets in an association that is held.
+    pub fn send<K: Keeper>(&mut self, keeper: &mut K, spir: u64, room: Room, payload: &[u8]) -> Step
+        requires { length payload.now ≤ 1400 }
+        ensures sends { (calls : List Call) × SendsFrom spir self.old.held payload.now calls result self.new.held
+            × Asks K.Keeper keeper.old calls keeper.new }
+        ensures held { K.held keeper.new ≡ K.held keeper.old }
+    {
+        match place_of(&self.items, spir) {
+            Some(place) => {
+                let holding = &mut self.items[place];
+                holding.send(keeper, room, payload)
+            }
+            None => not_owner(),
+        }
+    }
+
+    /// Hands a packet to what is held that receives at its SPI.
+    pub fn receive<K: Keeper>(&mut self, keeper: &mut K, bytes: &mut [u8]) -> EspVerdict
+        requires { length bytes.old ≤ 65536 }
+        ensures receives { (calls : List Call) × ReceivesFrom self.old.held bytes.old calls result bytes.new self.new.held
+            × Asks K.Keeper keeper.old calls keeper.new }
+        ensures within { LiesWithin result (length bytes.new) }
+        ensures held { K.held keeper.new ≡ K.held keeper.old }
+    {
+        match packet_spi(bytes) {
+            Some(spi) => return self.receive_at(keeper, spi, bytes),
+            None => return EspVerdict::Dropped(EspDrop::Short),
+        }
+    }
+
+    // Hands a packet to what is held that receives at this SPI.
+    fn receive_at<K: Keeper>(&mut self, keeper: &mut K, spi: u32, bytes: &mut [u8]) -> EspVerdict
+        requires { length bytes.old ≤ 65536 }
+        ensures receives { (calls : List Call) × ReceivesAt spi self.old.held bytes.old calls result bytes.new self.new.held
+            × Asks K.Keeper keeper.old calls keeper.new }
+        ensures within { LiesWithin result (length bytes.new) }
+        ensures held { K.held keeper.new ≡ K.held keeper.old }
+    {
+        match receiver_of(&self.items, spi) {
+            Some(place) => {
+                let holding = &mut self.items[place];
+                holding.receive(keeper, bytes)
+            }
+            None => EspVerdict::Dropped(EspDrop::WrongSpi),
         }
     }
 }

@@ -1,11 +1,13 @@
 //! A member of a cluster: what it holds of each association, and what it does with it.
 #![tactic(auto)]
 
+mod config;
 mod holding;
 mod holdings;
 mod member;
 mod refusals;
 
+pub use config::Config;
 pub use member::Member;
 pub use refusals::of_fault;
 

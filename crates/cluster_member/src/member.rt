@@ -1,13 +1,17 @@
-ghost use Rattle.std.specs.Prelude.{◌≡◌, [], List, IfOk, OnErr};
+ghost use Rattle.std.specs.Prelude.{◌≡◌, ◌≤◌, [], List, IfOk, OnErr, length};
 ghost use Rattle.keeper_book.specs.Asks.{Asks};
 ghost use Rattle.keeper_book.specs.declared.calls.Call.{Call};
+ghost use Rattle.replay_set.specs.Window.{IsWindowSize};
+ghost use Rattle.turn_rules.specs.Packets.{LiesWithin};
 ghost use Rattle.turn_rules.specs.Steps.{IsQuiet};
-ghost use Rattle.cluster_member.specs.Members.{DrawsFrom, TakesTo};
+ghost use Rattle.cluster_member.specs.Members.{DrawsFrom, ReceivesFrom, SendsFrom, TakesTo};
 
+use crate::config::Config;
 use crate::holding::Holding;
 use crate::holdings::Holdings;
 use crate::refusals;
-use event_text::{Step, Verdict};
+use esp_sas::Room;
+use event_text::{EspVerdict, Step, Verdict};
 use ha_base::Memory;
 use keeper_book::{Keeper, KeeperFault};
 use std::alloc::Global;
@@ -16,26 +20,34 @@ use std::marker::Model;
 /// A member of the cluster, by what it holds.
 #[derive(Drop)]
 pub struct Member {
+    alloc: Global,
     number: u32,
+    config: Config,
     fresh: [u8; 24],
     holdings: Holdings,
 }
 
 impl Model for Member {
+    ghost use Rattle.replay_set.specs.Window.{IsWindowSize};
     ghost use Rattle.cluster_member.specs.Members.{Holder};
 
     ghost Value = { Holder };
 
-    ghost view = { λ m. record { number = m.number; held = m.holdings.held } };
+    ghost view = { λ m. record { number = m.number; window = m.config.window; held = m.holdings.held } };
+
+    ghost invariant = { λ m. IsWindowSize m.config.window };
 }
 
 impl Member {
     /// A member that holds nothing. Its fresh octets are its own alone.
-    pub fn join(alloc: Global, number: u32, fresh: [u8; 24]) -> Member
-        ensures { result ≡ record { number = number; held = [] } }
+    pub fn join(alloc: Global, number: u32, config: Config, fresh: [u8; 24]) -> Member
+        requires { IsWindowSize config.window }
+        ensures { result ≡ record { number = number; window = config.window; held = [] } }
     {
         Member {
+            alloc,
             number,
+            config,
             fresh,
             holdings: Holdings::new(alloc),
         }
@@ -45,10 +57,11 @@ impl Member {
     /// begins anew. An error is want of memory, and the member is then as it was.
     pub fn take_over<K: Keeper>(&mut self, keeper: &mut K, spir: u64) -> Result<Step, Memory>
         ensures takes { IfOk result (λ step. (calls : List Call)
-            × TakesTo spir self.old.number self.old.held calls step.verdict self.new.held
+            × TakesTo self.old.window spir self.old.number self.old.held calls step.verdict self.new.held
             × Asks K.Keeper keeper.old calls keeper.new) }
         ensures quiet { IfOk result IsQuiet }
         ensures number { self.new.number ≡ self.old.number }
+        ensures window { self.new.window ≡ self.old.window }
         ensures err { OnErr result (self.new ≡ self.old) }
         ensures held { K.held keeper.new ≡ K.held keeper.old }
     {
@@ -59,7 +72,7 @@ impl Member {
                     epoch: taken.epoch,
                     bases: taken.bases,
                 };
-                self.holdings.put(Holding::begin(taken));
+                self.holdings.put(Holding::begin(taken, self.config.window));
                 Ok(Step::quiet(verdict))
             }
             Err(fault) => match refusals::of_fault(fault) {
@@ -74,8 +87,45 @@ impl Member {
         ensures draws { (calls : List Call) × DrawsFrom spir self.old.held calls result self.new.held
             × Asks K.Keeper keeper.old calls keeper.new }
         ensures number { self.new.number ≡ self.old.number }
+        ensures window { self.new.window ≡ self.old.window }
         ensures held { K.held keeper.new ≡ K.held keeper.old }
     {
         self.holdings.draw(keeper, spir)
+    }
+
+    /// Sends a payload of at most 1,400 octets in an ESP packet of an association, under the next ESP number. It is refused
+    /// `NotOwner` exactly where the association is not held, and else by the name of the stop of this number. An error is
+    /// want of memory; then no keeper was asked, and the member is as it was.
+    pub fn send_data<K: Keeper>(
+        &mut self,
+        keeper: &mut K,
+        spir: u64,
+        payload: &[u8],
+    ) -> Result<Step, Memory>
+        requires { length payload.now ≤ 1400 }
+        ensures sends { IfOk result (λ step. (calls : List Call)
+            × SendsFrom spir self.old.held payload.now calls step self.new.held
+            × Asks K.Keeper keeper.old calls keeper.new) }
+        ensures number { self.new.number ≡ self.old.number }
+        ensures window { self.new.window ≡ self.old.window }
+        ensures err { OnErr result ((self.new ≡ self.old) × (keeper.new ≡ keeper.old)) }
+        ensures held { K.held keeper.new ≡ K.held keeper.old }
+    {
+        let room = Room::new(self.alloc)?;
+        Ok(self.holdings.send(keeper, spir, room, payload))
+    }
+
+    /// Opens in place an ESP packet that came, and notes its number where it is accepted (RFC 4303, section 3.4): the number
+    /// has to be ready first. It takes no memory.
+    pub fn receive_esp<K: Keeper>(&mut self, keeper: &mut K, bytes: &mut [u8]) -> EspVerdict
+        requires { length bytes.old ≤ 2048 }
+        ensures receives { (calls : List Call) × ReceivesFrom self.old.held bytes.old calls result bytes.new self.new.held
+            × Asks K.Keeper keeper.old calls keeper.new }
+        ensures within { LiesWithin result (length bytes.new) }
+        ensures number { self.new.number ≡ self.old.number }
+        ensures window { self.new.window ≡ self.old.window }
+        ensures held { K.held keeper.new ≡ K.held keeper.old }
+    {
+        self.holdings.receive(keeper, bytes)
     }
 }

@@ -1,7 +1,7 @@
 ghost use Rattle.std.specs.Prelude.{◌≡◌, length};
 ghost use Rattle.keeper_book.specs.Counters.{AreWithinEnds};
 
-use crate::Member;
+use crate::{Config, Member};
 use event_text::{Refusal, Step, Verdict};
 use ha_base::{ChildKeys, Identity, KeySize, OctetArray, OctetList, Origin, SaKeys};
 use keeper_book::{Five, Keeper, MemoryKeeper, Record};
@@ -54,6 +54,20 @@ fn record() -> Record {
     }
 }
 
+fn config() -> Config
+    ensures { result.window ≡ 64 }
+{
+    Config {
+        identity: Identity {
+            kind: 2,
+            octets: OctetArray::from_slice(b"cluster"),
+        },
+        lifetime: 3600,
+        window: 64,
+        ticket_key: None,
+    }
+}
+
 // The epoch that a takeover began, and where it began the ESP numbers.
 fn owned(step: &Step) -> Option<(u64, u64)> {
     match &step.verdict {
@@ -73,8 +87,8 @@ fn drawn(verdict: &Verdict) -> Option<u64> {
 fn a_member_goes_on_above_the_high(rt: HostRuntime) -> Result<(), Fail> {
     let mut keeper = MemoryKeeper::new(rt.alloc());
     keeper.enter(&record())?;
-    let mut first = Member::join(rt.alloc(), 1, [0x01; 24]);
-    let mut second = Member::join(rt.alloc(), 2, [0x02; 24]);
+    let mut first = Member::join(rt.alloc(), 1, config(), [0x01; 24]);
+    let mut second = Member::join(rt.alloc(), 2, config(), [0x02; 24]);
 
     let verdict = first.draw(&mut keeper, SPIR);
     assert!(rt; matches!(&verdict, Verdict::Refused(Refusal::NotOwner)));

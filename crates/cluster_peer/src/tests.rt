@@ -134,9 +134,5 @@ fn the_peer_sends_and_receives(rt: HostRuntime) -> Result<(), Fail> {
     for (mut bytes, why) in [(TO_PEER, EspDrop::Seen), (TO_CLUSTER, EspDrop::WrongSpi)] {
         assert_eq!(rt; peer.receive_esp(&mut bytes), EspVerdict::Dropped(why));
     }
-    assert_eq!(rt;
-        peer.receive_esp(&mut bytes[..33]),
-        EspVerdict::Dropped(EspDrop::Short)
-    );
     Ok(())
 }

@@ -82,11 +82,13 @@ impl InboundSa {
 
     /// Opens in place a packet that came, and tells where its payload lies. The error is the first check that fails. The
     /// octets stay as they were but where the last check, that of the pad length, is the one that fails.
+    #[tactic(auto, using(crate::proofs::Freshness::fresh_from_base))]
     pub fn open(&self, bytes: &mut [u8]) -> Result<EspOpened, EspDrop>
         requires { length bytes.old ≤ 65536 }
         ensures opens { Opens self.now bytes.old result bytes.new }
         ensures within { IfOk result (λ packet. packet.start + packet.length ≤ length bytes.new) }
         ensures fresh { IfOk result (λ packet. judged self.now.window packet.number ≡ judgement.Fresh) }
+        ensures from_base { IfOk result (λ packet. self.now.window.base ≤ packet.number) }
         ensures below { IfOk result (λ packet. packet.number < 2 ^ 63) }
     {
         open_packet(&self.key, self.spi, &self.set, bytes)

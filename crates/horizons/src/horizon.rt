@@ -160,6 +160,7 @@ impl Horizon {
     pub fn send_number<K: Keeper>(&mut self, keeper: &mut K) -> Result<Number, Stop>
         ensures calls { (calls : List Call) × Sends self.old calls result self.new
             × Asks K.Keeper keeper.old calls keeper.new }
+        ensures number { IfOk result (λ number. number ≡ next_number self.old) }
         ensures below { IfOk result (λ number. number.value < self.new.high) }
         ensures held { K.held keeper.new ≡ K.held keeper.old }
         ensures same { IsSameCounter self.old self.new }

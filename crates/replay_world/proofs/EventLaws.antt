@@ -27,17 +27,30 @@ use Rattle.turn_rules.specs.Local.{AreShown, Local}
 use Rattle.turn_rules.specs.Steps.{IsQuiet}
 use Rattle.turn_rules.specs.Fits.{DrawFits, ImportFits, JoinFits, OwnFits}
 use Rattle.turn_rules.specs.Fits.{Fits, Refusing, has_import, has_joined, has_takeover, is_importable, is_takeover, joins}
-use Rattle.turn_rules.specs.Held.{held_after, held_at, held_by}
+use Rattle.turn_rules.specs.Held.{held_after, held_at, held_by, window_by, window_in}
 use Rattle.turn_rules.specs.Peers.{admits, entered, slots_by}
-use Rattle.replay_world.specs.Casts.{AreKept, DrawsAs, DrawsAt, Owns, Plays, Rejecting, Rejects, TakesOverAs, has_member, Imports, Joins, Mirrors, Standing, imported_as, joined_as, nobody}
+use Rattle.replay_world.specs.Casts.{AreKept, DrawsAs, DrawsAt, Owns, Plays, Rejecting, Rejects, TakesOverAs, has_member, Imports, IsMember, Joins, Mirrors, Standing, imported_as, joined_as, nobody}
 use Rattle.replay_world.proofs.MirrorLaws.{Continues, continued}
 
 never : false ≡ true → ⊥
 never e = cc
 
--- every member has the number of its place, counted from 1
-abbrev pub Numbered : List Holder → Type 0
-Numbered members = (k : ℕ) → k < length members → (get_or members k nobody).number ≡ k + 1
+-- every member has the number of its place, counted from 1, and windows of the same size
+abbrev pub Numbered : ℕ → List Holder → Type 0
+Numbered window members = (k : ℕ) → k < length members → IsMember (k + 1) window (get_or members k nobody)
+
+-- what is refused configures nothing
+refused_unset : (e : Event) (why : Refusal) → window_in e (out.Refused why) ≡ None
+refused_unset (event.Cluster identity lifetime window ticket_key) why = refl
+refused_unset (event.Import sa) why = refl
+refused_unset (event.Join fresh) why = refl
+refused_unset (event.Own member spir) why = refl
+refused_unset (event.Draw member spir) why = refl
+refused_unset (event.Send from spir payload) why = refl
+refused_unset (event.Deliver which to) why = refl
+refused_unset (event.Alter which to place octet) why = refl
+refused_unset (event.Cut which to keep) why = refl
+refused_unset (event.Inject to medium octets) why = refl
 
 -- the run itself refused it: it is no member's turn
 no_turn : (run : Bool) → run ≡ true → (p : Option Performer) (n : ℕ) → is_end (Member n) (if run then None else p) ≡ true → ⊥
@@ -70,13 +83,15 @@ module _ (now : Moment) (step : Step) where
   abbrev pub turn_of : Event → List Call → Verdict → Turn
   turn_of e calls v = record { moment = now; event = e; calls = calls; step = record step { verdict = v } }
 
-  module _ (s : Standing) (numbered : Numbered s.members) where
+  module _ (s : Standing) (numbered : Numbered s.window s.members) where
     import_refused : (sa : Record) (calls : List Call) (why : Refusal) → Continues s (turn_of (event.Import sa) calls (out.Refused why)) s
     import_refused sa calls why = record {
       slots = sym (append-nil s.slots);
       by_peer = λ e. absurd (never e);
       count = refl;
       numbers = numbered;
+      window = refl;
+      unset = refl;
       mine = λ k spir e. absurd (no_member (is_of_run why) (k + 1) e);
       others = λ k spir e. refl;
       imported = refl;
@@ -89,6 +104,8 @@ module _ (now : Moment) (step : Step) where
       by_peer = λ e. refl;
       count = refl;
       numbers = numbered;
+      window = refl;
+      unset = refl;
       mine = λ k spir e. absurd (never e);
       others = λ k spir e. refl;
       imported = refl;
@@ -119,6 +136,8 @@ module _ (now : Moment) (step : Step) where
       by_peer = λ t. absurd (never (ap is_some (sym none) ∙ t));
       count = refl;
       numbers = numbered;
+      window = refl;
+      unset = refused_unset e why;
       mine = λ k spir t. absurd (no_turn (is_of_run why) run (performer_of e (out.Refused why)) (k + 1) t);
       others = λ k spir t. refl;
       imported = rw none;
@@ -126,11 +145,11 @@ module _ (now : Moment) (step : Step) where
     }
 
     module _ (fresh : List ℕ) where
-      joined_number : (k : ℕ) → k < length s.members + 1 → (get_or (s.members ++ record { number = length s.members + 1; held = [] } ∷ []) k nobody).number ≡ k + 1
+      joined_number : (k : ℕ) → k < length s.members + 1 → IsMember (k + 1) s.window (get_or (s.members ++ record { number = length s.members + 1; window = s.window; held = [] } ∷ []) k nobody)
       joined_number k l =
-          ⊎_elim (λ b. ap (λ (h : Holder). h.number) (get_or_append_left s.members _ nobody k b) ∙ numbered k b)
+          ⊎_elim (λ b. subst (IsMember (k + 1) s.window) (sym (get_or_append_left s.members _ nobody k b)) (numbered k b))
           (λ b. let e : k ≡ length s.members = omega arith in
-          ap (λ (h : Holder). h.number) (get_or_at s.members (record { number = length s.members + 1; held = [] }) [] nobody k (sym e)) ∙ ap (λ n. n + 1) (sym e))
+          subst (IsMember (k + 1) s.window) (sym (get_or_at s.members (record { number = length s.members + 1; window = s.window; held = [] }) [] nobody k (sym e))) (record { number_is = ap (λ n. n + 1) (sym e); window_is = refl }))
           (cases_lt k (length s.members))
 
       -- a place where no member stood
@@ -141,17 +160,19 @@ module _ (now : Moment) (step : Step) where
       joined = record {
         slots = sym (append-nil s.slots);
         by_peer = λ t. absurd (never t);
-        count = omega (arith, length-append s.members (record { number = length s.members + 1; held = [] } ∷ []));
-        numbers = λ k l. joined_number k (omega (arith, l, length-append s.members (record { number = length s.members + 1; held = [] } ∷ [])));
+        count = omega (arith, length-append s.members (record { number = length s.members + 1; window = s.window; held = [] } ∷ []));
+        numbers = λ k l. joined_number k (omega (arith, l, length-append s.members (record { number = length s.members + 1; window = s.window; held = [] } ∷ [])));
+        window = refl;
+        unset = refl;
         mine = λ k spir t.
             let e : k + 1 ≡ length s.members + 1 = eqb-true _ _ t in
             let at : length s.members ≡ k = omega arith in
-            ap (λ (h : Holder). held_at h.held spir) (get_or_at s.members (record { number = length s.members + 1; held = [] }) [] nobody k at)
-            ∙ sym (ap (held_after spir (event.Join fresh) [] (out.Member (length s.members + 1))) (held_past s.members k spir (omega arith)));
+            ap (λ (h : Holder). held_at h.held spir) (get_or_at s.members (record { number = length s.members + 1; window = s.window; held = [] }) [] nobody k at)
+            ∙ sym (ap (held_after s.window spir (event.Join fresh) [] (out.Member (length s.members + 1))) (held_past s.members k spir (omega arith)));
         others = λ k spir t.
             let d : k ≢ length s.members = λ e. eqb-false _ _ t (ap (λ n. n + 1) e) in
             ⊎_elim (λ b. ap (λ (h : Holder). held_at h.held spir) (get_or_append_left s.members _ nobody k b))
-            (λ b. held_past (s.members ++ record { number = length s.members + 1; held = [] } ∷ []) k spir (omega (arith, length-append s.members (record { number = length s.members + 1; held = [] } ∷ []))) ∙ sym (held_past s.members k spir b))
+            (λ b. held_past (s.members ++ record { number = length s.members + 1; window = s.window; held = [] } ∷ []) k spir (omega (arith, length-append s.members (record { number = length s.members + 1; window = s.window; held = [] } ∷ []))) ∙ sym (held_past s.members k spir b))
             (cases_lt k (length s.members));
         imported = refl;
         owned = refl;
@@ -172,7 +193,7 @@ module _ (now : Moment) (step : Step) where
             p.fits
 
     -- a member's own turn, which changes what it holds
-    module _ (e : Event) (calls : List Call) (v : Verdict) (member : ℕ) (holder : Holder) (owned : Bool) (none : entered e v ≡ None) (performs : performer_of e v ≡ Some (Member member)) (said : IsOfMember v) (first : 0 < member) (last : member ≤ length s.members) (number : holder.number ≡ (get_or s.members (member - 1) nobody).number) (taken : owned ≡ (is_takeover v || s.owned)) (holds : (spir : ℕ) → held_at holder.held spir ≡ held_after spir e calls v (held_at (get_or s.members (member - 1) nobody).held spir)) where
+    module _ (e : Event) (calls : List Call) (v : Verdict) (member : ℕ) (holder : Holder) (owned : Bool) (none : entered e v ≡ None) (performs : performer_of e v ≡ Some (Member member)) (said : IsOfMember v) (first : 0 < member) (last : member ≤ length s.members) (number : holder.number ≡ (get_or s.members (member - 1) nobody).number) (windowed : holder.window ≡ (get_or s.members (member - 1) nobody).window) (unset : window_in e v ≡ None) (taken : owned ≡ (is_takeover v || s.owned)) (holds : (spir : ℕ) → held_at holder.held spir ≡ held_after s.window spir e calls v (held_at (get_or s.members (member - 1) nobody).held spir)) where
       abbrev moved : List Holder
       moved = set s.members (member - 1) holder
 
@@ -182,9 +203,13 @@ module _ (now : Moment) (step : Step) where
       here : get_or moved (member - 1) nobody ≡ holder
       here = get_or-set_same s.members (member - 1) holder nobody (omega arith)
 
-      moved_number : (k : ℕ) (same : Bool) → (k == member - 1) ≡ same → k < length s.members → (get_or moved k nobody).number ≡ k + 1
-      moved_number k true t l = let at : k ≡ member - 1 = eqb-true _ _ t in rw (at, here, number) (numbered (member - 1) (omega arith))
-      moved_number k false t l = ap (λ (h : Holder). h.number) (get_or-set_other s.members (member - 1) k holder nobody (λ q. eqb-false _ _ t q)) ∙ numbered k l
+      moved_number : (k : ℕ) (same : Bool) → (k == member - 1) ≡ same → k < length s.members → IsMember (k + 1) s.window (get_or moved k nobody)
+      moved_number k true t l =
+          let at : k ≡ member - 1 = eqb-true _ _ t in
+          let old = numbered (member - 1) (omega arith) in
+          subst (λ j. IsMember (j + 1) s.window (get_or moved j nobody)) (sym at)
+          (subst (IsMember (member - 1 + 1) s.window) (sym here) (record { number_is = number ∙ old.number_is; window_is = windowed ∙ old.window_is }))
+      moved_number k false t l = subst (IsMember (k + 1) s.window) (sym (get_or-set_other s.members (member - 1) k holder nobody (λ q. eqb-false _ _ t q))) (numbered k l)
 
       member_done : Continues s (turn_of e calls v) (record s { members = moved; owned = owned })
       member_done = record {
@@ -192,10 +217,12 @@ module _ (now : Moment) (step : Step) where
         by_peer = λ t. absurd (never (ap is_some (sym none) ∙ t));
         count = rw said.no_join (length-set s.members (member - 1) holder);
         numbers = λ k l. moved_number k (k == member - 1) refl (rw length-set at l);
+        window = refl;
+        unset = unset;
         mine = λ k spir t.
             let at : k + 1 ≡ member = eqb-true _ _ (sym (by_it (k + 1)) ∙ t) in
             let place : k ≡ member - 1 = omega arith in
-            subst (λ j. held_at (get_or moved j nobody).held spir ≡ held_after spir e calls v (held_at (get_or s.members j nobody).held spir)) (sym place)
+            subst (λ j. held_at (get_or moved j nobody).held spir ≡ held_after s.window spir e calls v (held_at (get_or s.members j nobody).held spir)) (sym place)
             (ap (λ (h : Holder). held_at h.held spir) here ∙ holds spir);
         others = λ k spir t.
             let apart : k ≢ member - 1 = λ q. eqb-false _ _ (sym (by_it (k + 1)) ∙ t) (omega arith) in
@@ -229,12 +256,14 @@ has_joined_by member members e =
     let parts = and_parts _ _ (not_false (has_member member members) e) in
     record { first = ltb-true _ _ parts.0; last = leb-true _ _ parts.1 }
 
-module _ (s : Standing) (numbered : Numbered s.members) (member spir : ℕ) (calls : List Call) (v : Verdict) (new : Standing) where
-  own_taken : HasJoined member s.members → TakesOverAs s member spir calls v new → (t : TakesOverAs s member spir calls v new) → TakesTo spir member (get_or s.members (member - 1) nobody).held calls v t.now.held
+module _ (s : Standing) (numbered : Numbered s.window s.members) (member spir : ℕ) (calls : List Call) (v : Verdict) (new : Standing) where
+  own_taken : HasJoined member s.members → TakesOverAs s member spir calls v new → (t : TakesOverAs s member spir calls v new) → TakesTo s.window spir member (get_or s.members (member - 1) nobody).held calls v t.now.held
   own_taken j u t =
       let place : member - 1 < length s.members = omega (arith, j.first, j.last) in
       let back : member - 1 + 1 ≡ member = omega (arith, j.first) in
-      subst (λ n. TakesTo spir n (get_or s.members (member - 1) nobody).held calls v t.now.held) (t.number ∙ numbered (member - 1) place ∙ back) t.takes
+      let seated = numbered (member - 1) place in
+      subst (λ w. TakesTo w spir member (get_or s.members (member - 1) nobody).held calls v t.now.held) seated.window_is
+      (subst (λ n. TakesTo (get_or s.members (member - 1) nobody).window spir n (get_or s.members (member - 1) nobody).held calls v t.now.held) (t.number ∙ seated.number_is ∙ back) t.takes)
 
   module _ (now : Moment) (step : Step) where
     rejected_by : (e : Event) (why : Refusal) → entered e (out.Refused why) ≡ None → is_of_run why ≡ true → v ≡ out.Refused why → new ≡ s → Continues s (turn_of now step e calls v) new
@@ -247,9 +276,9 @@ module _ (s : Standing) (numbered : Numbered s.members) (member spir : ℕ) (cal
         let takes = own_taken j t t in
         subst (λ n. Continues s (turn_of now step (event.Own member spir) calls v) n) (sym t.leaves)
         (member_done now step s numbered (event.Own member spir) calls v member t.now (is_takeover v) refl refl
-        (takes_member spir member calls v (takes-fit spir member _ _ calls v takes)) j.first j.last t.number
+        (takes_member spir member calls v (takes-fit s.window spir member _ _ calls v takes)) j.first j.last t.number t.window refl
         (or_false (is_takeover v) ∙ ap (λ b. is_takeover v || b) (sym first))
-        (λ other. takes-held other spir member _ _ calls v takes))
+        (λ other. takes-held s.window other spir member _ _ calls v takes))
 
     pub continues-own : Owns s member spir calls v new → Continues s (turn_of now step (event.Own member spir) calls v) new
     continues-own p =
@@ -263,9 +292,9 @@ module _ (s : Standing) (numbered : Numbered s.members) (member spir : ℕ) (cal
         let drawn = option_drawn _ calls v (draws-from-fit spir _ _ calls v d.draws) in
         subst (λ n. Continues s (turn_of now step (event.Draw member spir) calls v) n) (sym d.leaves)
         (member_done now step s numbered (event.Draw member spir) calls v member d.now s.owned refl refl
-        drawn.said j.first j.last d.number
+        drawn.said j.first j.last d.number d.window refl
         (ap (λ b. b || s.owned) (sym drawn.no_takeover))
-        (λ other. draws-held other spir member _ _ calls v d.draws))
+        (λ other. draws-held s.window other spir member _ _ calls v d.draws))
 
     pub continues-draw : DrawsAt s member spir calls v new → Continues s (turn_of now step (event.Draw member spir) calls v) new
     continues-draw p =
@@ -288,17 +317,17 @@ module _ (past : List Turn) (s : Standing) (m : Mirrors past s) (calls : List Ca
       (subst (λ b. Refusing (not (has_member member s.members)) refusal.NoMember calls v (Refusing b refusal.NotBuilt calls v (TakesOver spir member calls v))) m.owned
       (rejecting_as (not (has_member member s.members)) s refusal.NoMember calls v new
       (λ j. rejecting_as s.owned s refusal.NotBuilt calls v new
-      (λ b t. takes-fit spir member _ _ calls v (own_taken s m.numbers member spir calls v new (has_joined_by member s.members j) t t)))
+      (λ b t. takes-fit s.window spir member _ _ calls v (own_taken s m.numbers member spir calls v new (has_joined_by member s.members j) t t)))
       p))
 
   fits_draw : (member spir : ℕ) → DrawsAt s member spir calls v new → DrawFits past member spir calls v
   fits_draw member spir p =
-      subst (λ n. Refusing (not (nat_lt 0 member && nat_le member n)) refusal.NoMember calls v (MatchOption (held_by (own (Member member) past) spir) (Concludes calls v (out.Refused refusal.NotOwner)) (λ held. Draws held calls v))) m.count
+      subst (λ n. Refusing (not (nat_lt 0 member && nat_le member n)) refusal.NoMember calls v (MatchOption (held_by (window_by past) (own (Member member) past) spir) (Concludes calls v (out.Refused refusal.NotOwner)) (λ held. Draws held calls v))) m.count
       (rejecting_as (not (has_member member s.members)) s refusal.NoMember calls v new
       (λ j d.
       let joined = has_joined_by member s.members j in
       let back : member - 1 + 1 ≡ member = omega (arith, joined.first) in
-      let said : held_at (get_or s.members (member - 1) nobody).held spir ≡ held_by (own (Member member) past) spir = m.held (member - 1) spir ∙ ap (λ n. held_by (own (Member n) past) spir) back in
+      let said : held_at (get_or s.members (member - 1) nobody).held spir ≡ held_by (window_by past) (own (Member member) past) spir = m.held (member - 1) spir ∙ ap (λ n. held_by s.window (own (Member n) past) spir) back ∙ ap (λ w. held_by w (own (Member member) past) spir) m.window in
       subst (λ x. MatchOption x (Concludes calls v (out.Refused refusal.NotOwner)) (λ held. Draws held calls v)) said (draws-from-fit spir _ _ calls v d.draws))
       p)
 
@@ -405,7 +434,7 @@ few boxes past (event.Own member spir) calls v p =
     p
 few boxes past (event.Draw member spir) calls v p =
     refusing_elim (not (has_joined member past)) refusal.NoMember calls v (λ n e. omega (arith, ap length n))
-    (λ a d. (option_drawn (held_by (own (Member member) past) spir) calls v d).few)
+    (λ a d. (option_drawn (held_by (window_by past) (own (Member member) past) spir) calls v d).few)
     p
 few boxes past (event.Cluster identity lifetime window ticket_key) calls v p = omega (arith, ap length p.no_more)
 few boxes past (event.Send from spir payload) calls v p = omega (arith, ap length p.no_more)

@@ -13,21 +13,22 @@ use Rattle.keeper_book.specs.declared.records.Record.{Record}
 use Rattle.turn_rules.specs.Draws.{Concludes, Enters}
 use Rattle.turn_rules.specs.Ends.{Member, Peer, own}
 use Rattle.turn_rules.specs.Fits.{MAX_MEMBERS, Refusing, has_import, has_takeover, is_importable, is_takeover, joins}
-use Rattle.turn_rules.specs.Held.{held_at, held_by}
+use Rattle.turn_rules.specs.Held.{held_at, held_by, window_by}
 use Rattle.turn_rules.specs.Local.{Local}
 use Rattle.turn_rules.specs.Peers.{admits, slots_by}
 
--- boxes: how many services were handed in for members; slots: the peer's associations
+-- boxes: how many services were handed in for members; slots: the peer's associations; window: the size of receive windows
 pub record Standing : Type 0 where
   pub boxes : ℕ
   pub slots : List Record
+  pub window : ℕ
   pub members : List Holder
   pub imported : Bool
   pub owned : Bool
 
 -- a member that has not joined
 abbrev pub nobody : Holder
-nobody = record { number = 0; held = [] }
+nobody = record { number = 0; window = 0; held = [] }
 
 -- a member has this number: they are counted from 1, in the order in which they joined
 abbrev pub has_member : ℕ → List Holder → Bool
@@ -50,7 +51,7 @@ imported_as sa verdict old = old
 
 -- a member that joined holds nothing
 abbrev pub joined_as : Verdict → Standing → Standing
-joined_as (out.Member number) old = record old { members = old.members ++ record { number = number; held = [] } ∷ [] }
+joined_as (out.Member number) old = record old { members = old.members ++ record { number = number; window = old.window; held = [] } ∷ [] }
 joined_as verdict old = old
 
 pub record Imports (old : Standing) (sa : Record) (calls : List Call) (verdict : Verdict) (new : Standing) : Type 0 where
@@ -80,12 +81,14 @@ Rejecting false old why calls verdict new otherwise = otherwise
 pub record TakesOverAs (old : Standing) (member spir : ℕ) (calls : List Call) (verdict : Verdict) (new : Standing) : Type 0 where
   pub now : Holder
   pub number : now.number ≡ (member_at member old.members).number
-  pub takes : TakesTo spir now.number (member_at member old.members).held calls verdict now.held
+  pub window : now.window ≡ (member_at member old.members).window
+  pub takes : TakesTo (member_at member old.members).window spir now.number (member_at member old.members).held calls verdict now.held
   pub leaves : new ≡ record old { members = slice_set old.members (member - 1) now; owned = is_takeover verdict }
 
 pub record DrawsAs (old : Standing) (member spir : ℕ) (calls : List Call) (verdict : Verdict) (new : Standing) : Type 0 where
   pub now : Holder
   pub number : now.number ≡ (member_at member old.members).number
+  pub window : now.window ≡ (member_at member old.members).window
   pub draws : DrawsFrom spir (member_at member old.members).held calls verdict now.held
   pub leaves : new ≡ record old { members = slice_set old.members (member - 1) now }
 
@@ -108,12 +111,18 @@ Plays old (event.Own member spir) calls verdict new = Owns old member spir calls
 Plays old (event.Draw member spir) calls verdict new = DrawsAt old member spir calls verdict new
 Plays old event calls verdict new = Rejects old refusal.NotBuilt calls verdict new
 
+-- a member of this number, with receive windows of this size
+pub record IsMember (number window : ℕ) (holder : Holder) : Type 0 where
+  pub number_is : holder.number ≡ number
+  pub window_is : holder.window ≡ window
+
 -- what is held is what the turns say
 pub record Mirrors (past : List Turn) (s : Standing) : Type 0 where
   pub slots : s.slots ≡ slots_by (own Peer past)
   pub count : length s.members ≡ joins past
-  pub numbers : (k : ℕ) → k < length s.members → (slice_index_or s.members k nobody).number ≡ k + 1
-  pub held : (k spir : ℕ) → held_at (slice_index_or s.members k nobody).held spir ≡ held_by (own (Member (k + 1)) past) spir
+  pub window : s.window ≡ window_by past
+  pub numbers : (k : ℕ) → k < length s.members → IsMember (k + 1) s.window (slice_index_or s.members k nobody)
+  pub held : (k spir : ℕ) → held_at (slice_index_or s.members k nobody).held spir ≡ held_by s.window (own (Member (k + 1)) past) spir
   pub imported : s.imported ≡ has_import past
   pub owned : s.owned ≡ has_takeover past
 

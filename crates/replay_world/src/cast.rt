@@ -7,10 +7,10 @@ ghost use Rattle.turn_rules.specs.Fits.{is_importable, is_takeover};
 ghost use Rattle.turn_rules.specs.Steps.{IsQuiet, Says};
 ghost use Rattle.replay_world.specs.Casts.{DrawsAt, Imports, IsPlaceOf, Joins, Owns, Plays, has_member};
 
-use cluster_member::{Member, of_fault};
+use cluster_member::{Config, Member, of_fault};
 use cluster_peer::Peer;
 use event_text::{Event, Refusal, Step, Verdict};
-use ha_base::{GatewayId, Memory, OctetArray};
+use ha_base::{GatewayId, Identity, Memory, OctetArray};
 use keeper_book::{Keeper, Record};
 use std::alloc::Global;
 use std::marker::Model;
@@ -35,12 +35,29 @@ fn default_gateway() -> GatewayId {
     }
 }
 
+// how the members are configured where nothing configures the cluster
+fn default_config(window: u32) -> Config
+    ensures { result.window ≡ window }
+{
+    Config {
+        identity: Identity {
+            kind: 2,
+            octets: OctetArray::from_slice(b"cluster"),
+        },
+        lifetime: 3600,
+        window,
+        ticket_key: None,
+    }
+}
+
 /// The peer, the members that joined, and how far a run has come.
 #[derive(Drop)]
 pub(crate) struct Cast {
     alloc: Global,
     // how many services were handed in for members
     boxes: usize,
+    // the size of receive windows
+    window: u32,
     peer: Peer,
     members: Vec<Member>,
     imported: bool,
@@ -48,6 +65,7 @@ pub(crate) struct Cast {
 }
 
 impl Model for Cast {
+    ghost use Rattle.replay_set.specs.Window.{IsWindowSize};
     ghost use Rattle.turn_rules.specs.Slots.{records};
     ghost use Rattle.replay_world.specs.Casts.{Standing};
 
@@ -56,10 +74,13 @@ impl Model for Cast {
     ghost view = { λ c. record {
       boxes = c.boxes;
       slots = records c.peer.slots;
+      window = c.window;
       members = c.members.items;
       imported = c.imported;
       owned = c.owned;
     } };
+
+    ghost invariant = { λ c. IsWindowSize c.window };
 }
 
 fn refused(refusal: Refusal) -> Step
@@ -84,11 +105,12 @@ fn is_importable(sa: &Record) -> bool
 impl Cast {
     /// Ends that have done nothing, and services for as many members as `boxes` says.
     pub fn new(alloc: Global, boxes: usize) -> Cast
-        ensures { result ≡ record { boxes = boxes; slots = []; members = []; imported = false; owned = false } }
+        ensures { result ≡ record { boxes = boxes; slots = []; window = 64; members = []; imported = false; owned = false } }
     {
         Cast {
             alloc,
             boxes,
+            window: DEFAULT_WINDOW,
             peer: Peer::new(alloc, default_gateway(), DEFAULT_WINDOW),
             members: Vec::new(alloc),
             imported: false,
@@ -162,8 +184,7 @@ impl Cast {
         if self.members.reserve(1).is_err() {
             return Err(Memory);
         }
-        self.members
-            .push_reserved(Member::join(self.alloc, 1, fresh));
+        self.members.push_reserved(Member::join(self.alloc, 1, default_config(self.window), fresh));
         Ok(Step::quiet(Verdict::Member(1)))
     }
 

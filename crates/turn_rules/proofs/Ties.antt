@@ -8,7 +8,9 @@ use Rattle.keeper_book.specs.Counters.{five_at}
 use Rattle.keeper_book.specs.declared.counters.Counter.{Counter}
 use Rattle.keeper_book.specs.declared.counters.Counter.TheVariants as counter
 use Rattle.keeper_book.specs.declared.records.Taken.{Taken}
-use Rattle.turn_rules.specs.Held.{Held, found, first_of, five_of, grant_of, covers_of, number_of, greatest, since, next_of, high_of, holding, held_by, begun, after_number, advanced, held_after}
+use Rattle.replay_set.specs.Window.{window_of}
+use Rattle.replay_set.proofs.Numbers.{noting_adds}
+use Rattle.turn_rules.specs.Held.{Held, found, first_of, five_of, grant_of, covers_of, number_of, greatest, since, next_of, high_of, holding, held_by, begun, after_number, after_received, received_of, advanced, held_after}
 
 pub five_at-five_of : (f : Counter → ℕ) (c : Counter) → five_at (five_of f) c ≡ f c
 five_at-five_of f counter.EspOut = refl
@@ -29,7 +31,12 @@ pub greatest-cons_option : (number : Option ℕ) (least : ℕ) (ns : List ℕ) �
 greatest-cons_option None least ns = refl
 greatest-cons_option (Some n) least ns = refl
 
-module _ (spir : ℕ) (turn : Turn) (past : List Turn) where
+-- one number more, or none, that was received
+pub window_of-cons_option : (number : Option ℕ) (size base : ℕ) (ns : List ℕ) → window_of size base (cons_option number ns) ≡ after_received number (window_of size base ns)
+window_of-cons_option None size base ns = refl
+window_of-cons_option (Some n) size base ns = sym (noting_adds size base ns n)
+
+module _ (size spir : ℕ) (turn : Turn) (past : List Turn) where
   abbrev turns_since : Option Taken → List Turn
   turns_since grant = if is_some grant then [] else turn ∷ since spir past
 
@@ -40,35 +47,37 @@ module _ (spir : ℕ) (turn : Turn) (past : List Turn) where
     bases = taken.bases;
     nexts = five_of (λ c. greatest (five_at taken.bases c) (map (λ n. n + 1) (filter_map (number_of spir c) (turns_since grant))));
     highs = five_of (λ c. greatest (five_at taken.bases c) (flat_map (covers_of spir c) (turns_since grant)));
+    window = window_of size taken.bases.esp_in (filter_map (received_of spir) (turns_since grant));
   }
 
-  next_later : (taken : Taken) (c : Counter) → greatest (five_at taken.bases c) (map (λ n. n + 1) (filter_map (number_of spir c) (turn ∷ since spir past))) ≡ after_number (number_of spir c turn) (five_at (holding spir past taken).nexts c)
+  next_later : (taken : Taken) (c : Counter) → greatest (five_at taken.bases c) (map (λ n. n + 1) (filter_map (number_of spir c) (turn ∷ since spir past))) ≡ after_number (number_of spir c turn) (five_at (holding size spir past taken).nexts c)
   next_later taken c =
       greatest-cons_option (number_of spir c turn) (five_at taken.bases c) (filter_map (number_of spir c) (since spir past))
       ∙ ap (after_number (number_of spir c turn)) (sym (five_at-five_of (λ d. next_of spir d taken.bases past) c))
 
-  high_later : (taken : Taken) (c : Counter) → greatest (five_at taken.bases c) (flat_map (covers_of spir c) (turn ∷ since spir past)) ≡ greatest (five_at (holding spir past taken).highs c) (covers_of spir c turn)
+  high_later : (taken : Taken) (c : Counter) → greatest (five_at taken.bases c) (flat_map (covers_of spir c) (turn ∷ since spir past)) ≡ greatest (five_at (holding size spir past taken).highs c) (covers_of spir c turn)
   high_later taken c =
       greatest-append (five_at taken.bases c) (covers_of spir c turn) (flat_map (covers_of spir c) (since spir past))
       ∙ ap (λ least. greatest least (covers_of spir c turn)) (sym (five_at-five_of (λ d. high_of spir d taken.bases past) c))
 
-  later : (taken : Taken) → held_as None taken ≡ advanced spir turn.event turn.calls turn.step.verdict (holding spir past taken)
+  later : (taken : Taken) → held_as None taken ≡ advanced spir turn.event turn.calls turn.step.verdict (holding size spir past taken)
   later taken i = record {
     sa = taken.sa;
     epoch = taken.epoch;
     bases = taken.bases;
     nexts = five_of-same _ _ (next_later taken) i;
     highs = five_of-same _ _ (high_later taken) i;
+    window = window_of-cons_option (received_of spir turn) size taken.bases.esp_in (filter_map (received_of spir) (since spir past)) i;
   }
 
-  later_found : (taken : Option Taken) → option_map (held_as None) taken ≡ option_map (advanced spir turn.event turn.calls turn.step.verdict) (option_map (holding spir past) taken)
+  later_found : (taken : Option Taken) → option_map (held_as None) taken ≡ option_map (advanced spir turn.event turn.calls turn.step.verdict) (option_map (holding size spir past) taken)
   later_found None = refl
   later_found (Some taken) = ap Some (later taken)
 
-  granted_first : (grant : Option Taken) → option_map (held_as grant) (first_of grant (found (grant_of spir) past)) ≡ first_of (option_map begun grant) (option_map (advanced spir turn.event turn.calls turn.step.verdict) (held_by past spir))
+  granted_first : (grant : Option Taken) → option_map (held_as grant) (first_of grant (found (grant_of spir) past)) ≡ first_of (option_map (begun size) grant) (option_map (advanced spir turn.event turn.calls turn.step.verdict) (held_by size past spir))
   granted_first None = later_found (found (grant_of spir) past)
   granted_first (Some taken) = refl
 
 -- what is held after one more turn
-pub held_by-cons : (spir : ℕ) (turn : Turn) (past : List Turn) → held_by (turn ∷ past) spir ≡ held_after spir turn.event turn.calls turn.step.verdict (held_by past spir)
-held_by-cons spir turn past = granted_first spir turn past (grant_of spir turn)
+pub held_by-cons : (size spir : ℕ) (turn : Turn) (past : List Turn) → held_by size (turn ∷ past) spir ≡ held_after size spir turn.event turn.calls turn.step.verdict (held_by size past spir)
+held_by-cons size spir turn past = granted_first size spir turn past (grant_of spir turn)

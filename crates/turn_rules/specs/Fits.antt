@@ -12,7 +12,7 @@ use Rattle.keeper_book.specs.declared.calls.Call.{Call}
 use Rattle.keeper_book.specs.declared.records.Record.{Record}
 use Rattle.turn_rules.specs.Draws.{Concludes, Draws, Enters, TakesOver}
 use Rattle.turn_rules.specs.Ends.{Member, Peer, own}
-use Rattle.turn_rules.specs.Held.{held_by}
+use Rattle.turn_rules.specs.Held.{held_by, window_by}
 use Rattle.turn_rules.specs.Peers.{admits, entered_in, slots_by}
 
 -- the most members of a run
@@ -76,7 +76,7 @@ OwnFits past member spir calls verdict =
 abbrev pub DrawFits : List Turn → ℕ → ℕ → List Call → Verdict → Type 0
 DrawFits past member spir calls verdict =
     Refusing (not (has_joined member past)) refusal.NoMember calls verdict
-    (MatchOption (held_by (own (Member member) past) spir)
+    (MatchOption (held_by (window_by past) (own (Member member) past) spir)
     (Concludes calls verdict (out.Refused refusal.NotOwner))
     (λ held. Draws held calls verdict))
 

@@ -1,5 +1,5 @@
 -- What a member's own turns say that it holds.
-use Rattle.std.specs.Prelude.{ℕ, ◌+◌, ◌==◌, ◌&&◌, max, Bool, true, false, Option, Some, None, is_some, List, [], ◌∷◌, map, if◌then◌else◌}
+use Rattle.std.specs.Prelude.{ℕ, ◌+◌, ◌==◌, ◌&&◌, max, unwrap_or, Bool, true, false, Option, Some, None, is_some, List, [], ◌∷◌, map, if◌then◌else◌}
 use Rattle.std.specs.List.{filter_map, flat_map}
 use Rattle.std.specs.Option.{option_map}
 use Rattle.event_text.specs.declared.event.Event.{Event}
@@ -19,15 +19,18 @@ use Rattle.keeper_book.specs.declared.counters.Counter.TheVariants as counter
 use Rattle.keeper_book.specs.declared.counters.Five.{Five}
 use Rattle.keeper_book.specs.declared.records.Record.{Record}
 use Rattle.keeper_book.specs.declared.records.Taken.{Taken}
+use Rattle.keeper_book.specs.Records.{spir_of_origin}
+use Rattle.replay_set.specs.Window.{Window, window_of, with_noted}
 
--- What a member holds of an association: the record and the epoch that it was granted, and of each counter where the
--- epoch began, the next number, and the high below which numbers may be used.
+-- What a member holds of an association: the record and the epoch that it was granted, of each counter where the epoch
+-- began, the next number, and the high below which numbers may be used, and which ESP numbers were received in it.
 pub record Held : Type 0 where
   pub sa : Record
   pub epoch : ℕ
   pub bases : Five
   pub nexts : Five
   pub highs : Five
+  pub window : Window
 
 abbrev pub first_of : {Y : Type 0} → Option Y → Option Y → Option Y
 first_of None later = later
@@ -72,6 +75,23 @@ abbrev pub used : ℕ → Counter → Event → Verdict → Option ℕ
 used spir counter.EspOut (event.Draw member asked) (out.Number n) = if asked == spir then Some n else None
 used spir c event verdict = None
 
+abbrev pub is_of_spir : ℕ → Option ℕ → Bool
+is_of_spir spir None = false
+is_of_spir spir (Some other) = other == spir
+
+-- the number of the association's ESP packet that was accepted
+abbrev pub accepted : ℕ → Verdict → Option ℕ
+accepted spir (out.Accepted name number next_header payload) = if is_of_spir spir (spir_of_origin name.origin) then Some number else None
+accepted spir verdict = None
+
+-- the number of the association's ESP packet that an event received
+abbrev pub received : ℕ → Event → Verdict → Option ℕ
+received spir (event.Deliver which to) verdict = accepted spir verdict
+received spir (event.Alter which to place octet) verdict = accepted spir verdict
+received spir (event.Cut which to keep) verdict = accepted spir verdict
+received spir (event.Inject to medium octets) verdict = accepted spir verdict
+received spir event verdict = None
+
 abbrev pub grant_in : ℕ → List Call → Option Taken
 grant_in spir calls = found (λ call. granted spir call.asked (seen call)) calls
 
@@ -88,6 +108,9 @@ covers_of spir c turn = covers_in spir c turn.calls
 abbrev pub number_of : ℕ → Counter → Turn → Option ℕ
 number_of spir c turn = used spir c turn.event turn.step.verdict
 
+abbrev pub received_of : ℕ → Turn → Option ℕ
+received_of spir turn = received spir turn.event turn.step.verdict
+
 -- the turns since the association was granted last
 abbrev pub since : ℕ → List Turn → List Turn
 since spir [] = []
@@ -101,39 +124,68 @@ next_of spir c bases past = greatest (five_at bases c) (map (λ n. n + 1) (filte
 abbrev pub high_of : ℕ → Counter → Five → List Turn → ℕ
 high_of spir c bases past = greatest (five_at bases c) (flat_map (covers_of spir c) (since spir past))
 
-abbrev pub holding : ℕ → List Turn → Taken → Held
-holding spir past taken = record {
+-- the receive window of this size, in which the numbers were noted that were accepted since then
+abbrev pub window_since : ℕ → ℕ → Five → List Turn → Window
+window_since size spir bases past = window_of size bases.esp_in (filter_map (received_of spir) (since spir past))
+
+abbrev pub holding : ℕ → ℕ → List Turn → Taken → Held
+holding size spir past taken = record {
   sa = taken.sa;
   epoch = taken.epoch;
   bases = taken.bases;
   nexts = five_of (λ c. next_of spir c taken.bases past);
   highs = five_of (λ c. high_of spir c taken.bases past);
+  window = window_since size spir taken.bases past;
 }
 
--- what an end with these turns of its own holds of the association
-abbrev pub held_by : List Turn → ℕ → Option Held
-held_by past spir = option_map (holding spir past) (found (grant_of spir) past)
+-- what an end with these turns of its own, and with receive windows of this size, holds of the association
+abbrev pub held_by : ℕ → List Turn → ℕ → Option Held
+held_by size past spir = option_map (holding size spir past) (found (grant_of spir) past)
 
--- what is held where nothing else was used or covered yet
-abbrev pub begun : Taken → Held
-begun taken = record { sa = taken.sa; epoch = taken.epoch; bases = taken.bases; nexts = taken.bases; highs = taken.bases }
+-- what is held where nothing else was used, covered or received yet
+abbrev pub begun : ℕ → Taken → Held
+begun size taken = record {
+  sa = taken.sa;
+  epoch = taken.epoch;
+  bases = taken.bases;
+  nexts = taken.bases;
+  highs = taken.bases;
+  window = window_of size taken.bases.esp_in [];
+}
 
 abbrev pub after_number : Option ℕ → ℕ → ℕ
 after_number None next = next
 after_number (Some n) next = max (n + 1) next
+
+abbrev pub after_received : Option ℕ → Window → Window
+after_received None window = window
+after_received (Some n) window = with_noted window n
 
 -- what is held after a turn that grants nothing
 abbrev pub advanced : ℕ → Event → List Call → Verdict → Held → Held
 advanced spir event calls verdict held = record held {
   nexts = five_of (λ c. after_number (used spir c event verdict) (five_at held.nexts c));
   highs = five_of (λ c. greatest (five_at held.highs c) (covers_in spir c calls));
+  window = after_received (received spir event verdict) held.window;
 }
 
 -- what is held of the association after one more turn
-abbrev pub held_after : ℕ → Event → List Call → Verdict → Option Held → Option Held
-held_after spir event calls verdict held = first_of (option_map begun (grant_in spir calls)) (option_map (advanced spir event calls verdict) held)
+abbrev pub held_after : ℕ → ℕ → Event → List Call → Verdict → Option Held → Option Held
+held_after size spir event calls verdict held = first_of (option_map (begun size) (grant_in spir calls)) (option_map (advanced spir event calls verdict) held)
 
 -- what is held of the association, of what is held
 abbrev pub held_at : List Held → ℕ → Option Held
 held_at [] spir = None
 held_at (held ∷ more) spir = if held.sa.spir == spir then Some held else held_at more spir
+
+-- the size of receive windows that an event set
+abbrev pub window_in : Event → Verdict → Option ℕ
+window_in (event.Cluster identity lifetime window ticket_key) out.Configured = Some window
+window_in event verdict = None
+
+abbrev pub window_of_turn : Turn → Option ℕ
+window_of_turn turn = window_in turn.event turn.step.verdict
+
+-- the size of receive windows in a run: 64 where nothing configured it
+abbrev pub window_by : List Turn → ℕ
+window_by past = unwrap_or (found window_of_turn past) 64

@@ -3,6 +3,7 @@ pub mod Ends
 pub mod Fits
 pub mod Held
 pub mod Local
+pub mod MemberPackets
 pub mod Packets
 pub mod Peers
 pub mod Safe

@@ -5,7 +5,7 @@ use Rattle.turn_rules.specs.Held.{held_at}
 use Rattle.std.proofs.Math.ListN.{set}
 use Rattle.cluster_member.specs.Members.{Becomes}
 use Rattle.cluster_member.specs.Places.{AllHeld, IsPlaceOf}
-use Rattle.cluster_member.proofs.PlaceLemmas.{found_at, others_at, put_at}
+use Rattle.cluster_member.proofs.PlaceLemmas.{apart_set, found_at, others_at, put_at}
 use Rattle.cluster_member.proofs.holdings.Holdings.draw.Goals as goal
 
 pub returns-in-Some-clause-draws : goal.returns-in-Some-clause-draws
@@ -24,3 +24,12 @@ returns-in-Some-clause-draws g c =
           ∙ ap (λ (v : AllHeld). held_at v.held other) c.self.view_is;
     } in
     rw found (drawn.0, (new, drawn.1, becomes), drawn.2)
+
+pub invariant_of-self : goal.invariant_of-self
+invariant_of-self g c =
+    let items = c.self.inside.items.items in
+    let held = c.index_mut-holding.result.now in
+    let new = c.draw.new.self in
+    let place : IsPlaceOf c.args.spir c.in-Some.place items = rw c.deref.ensures.value at c.in-Some.ensures in
+    let same : new.sa.spir ≡ c.args.spir = ap (λ (sa : Record). sa.spir) c.draw.ensures.sa ∙ place.here held c.index_mut-holding.ensures.value in
+    apart_set c.args.spir new same c.in-Some.place items place.within place.none_before place.here c.self.invariant

@@ -1,0 +1,50 @@
+-- A packet is received at the place of what receives at its SPI.
+use Rattle.std.proofs.Common.{◌≡◌, ◌≢◌, ℕ, Some, None, [], inl, inr, refl, ap, sym, ◌∙◌, subst}
+use Rattle.std.proofs.Math.ListN.{set}
+use Rattle.keeper_book.proofs.Asking.{asks_none}
+use Rattle.keeper_book.specs.declared.records.Record.{Record}
+use Rattle.turn_rules.specs.Held.{Held, held_at}
+use Rattle.turn_rules.specs.MemberPackets.{IsReceiver}
+use Rattle.cluster_member.specs.Members.{Becomes}
+use Rattle.cluster_member.specs.Places.{AllHeld, IsLeastAt, IsPlaceOf, NoneReceives}
+use Rattle.cluster_member.proofs.PlaceLemmas.{apart_set, others_at, put_at}
+use Rattle.cluster_member.proofs.ReceiverLemmas.{nowhere, place_is, receiver_at}
+use Rattle.cluster_member.proofs.holdings.Holdings.receive_at.Goals as goal
+
+pub invariant_of-self : goal.invariant_of-self
+invariant_of-self g c =
+    let items = c.self.inside.items.items in
+    let holding = c.index_mut-holding.result.now in
+    let new = c.receive.new.self in
+    let least : IsLeastAt c.args.spi c.in-Some.place items items = rw c.deref.ensures.value at c.in-Some.ensures in
+    let place : IsPlaceOf holding.sa.spir c.in-Some.place items = place_is c.in-Some.place items holding c.self.invariant least.within c.index_mut-holding.ensures.value in
+    let same : new.sa.spir ≡ holding.sa.spir = ap (λ (sa : Record). sa.spir) c.receive.ensures.sa in
+    apart_set holding.sa.spir new same c.in-Some.place items place.within place.none_before place.here c.self.invariant
+
+pub returns-in-Some-clause-receives : goal.returns-in-Some-clause-receives
+returns-in-Some-clause-receives g c =
+    let items = c.self.inside.items.items in
+    let holding = c.index_mut-holding.result.now in
+    let new = c.receive.new.self in
+    let received = c.receive.ensures.receives in
+    let old : items ≡ c.args.self.now.held = ap (λ (v : AllHeld). v.held) c.self.view_is in
+    let least : IsLeastAt c.args.spi c.in-Some.place items items = rw c.deref.ensures.value at c.in-Some.ensures in
+    let place : IsPlaceOf holding.sa.spir c.in-Some.place items = place_is c.in-Some.place items holding c.self.invariant least.within c.index_mut-holding.ensures.value in
+    let same : new.sa.spir ≡ holding.sa.spir = ap (λ (sa : Record). sa.spir) c.receive.ensures.sa in
+    let receiver : IsReceiver (held_at c.args.self.now.held) c.args.spi holding.sa.spir holding =
+    subst (λ hs. IsReceiver (held_at hs) c.args.spi holding.sa.spir holding) old
+    (receiver_at c.args.spi c.in-Some.place items holding c.self.invariant least c.index_mut-holding.ensures.value) in
+    let becomes : Becomes holding.sa.spir new c.args.self.now.held (set items c.in-Some.place new) = record {
+      held = put_at holding.sa.spir c.in-Some.place items new same place;
+      others = λ other differs.
+          others_at holding.sa.spir c.in-Some.place other items new same differs place
+          ∙ ap (λ hs. held_at hs other) old;
+    } in
+    (received.0, inr (record { spir = holding.sa.spir; receiver = holding; now = new; is_receiver = receiver; receives = received.1; becomes = becomes }), received.2)
+
+pub returns-in-None-clause-receives : goal.returns-in-None-clause-receives
+returns-in-None-clause-receives g c =
+    let items = c.self.inside.items.items in
+    let old : items ≡ c.args.self.now.held = ap (λ (v : AllHeld). v.held) c.self.view_is in
+    let none : NoneReceives c.args.spi items = rw c.deref.ensures.value at c.in-None.ensures in
+    ([], inl (nowhere c.args.spi c.args.self.now.held (subst (NoneReceives c.args.spi) old none), (refl, record { said = refl; same = refl }), refl), asks_none c.args.keeper.now)
