@@ -1,3 +1,4 @@
+pub mod GenuineLaws
 pub mod KeySizes
 pub mod PlaceLemmas
 pub mod ReceiverLemmas

@@ -1,3 +1,4 @@
+pub mod Genuine
 pub mod Holdings
 pub mod Members
 pub mod Places

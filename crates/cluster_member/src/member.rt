@@ -4,12 +4,14 @@ ghost use Rattle.keeper_book.specs.declared.calls.Call.{Call};
 ghost use Rattle.replay_set.specs.Window.{IsWindowSize};
 ghost use Rattle.turn_rules.specs.Packets.{LiesWithin};
 ghost use Rattle.turn_rules.specs.Steps.{IsQuiet};
+ghost use Rattle.cluster_member.specs.Genuine.{GenuineAreAccepted};
 ghost use Rattle.cluster_member.specs.Members.{DrawsFrom, ReceivesFrom, SendsFrom, TakesTo};
 
 use crate::config::Config;
 use crate::holding::Holding;
 use crate::holdings::Holdings;
 use crate::refusals;
+use esp_packets::sealed_packets_open;
 use esp_sas::Room;
 use event_text::{EspVerdict, Step, Verdict};
 use ha_base::Memory;
@@ -120,12 +122,14 @@ impl Member {
     pub fn receive_esp<K: Keeper>(&mut self, keeper: &mut K, bytes: &mut [u8]) -> EspVerdict
         requires { length bytes.old ≤ 2048 }
         ensures receives { (calls : List Call) × ReceivesFrom self.old.held bytes.old calls result bytes.new self.new.held
+            × GenuineAreAccepted self.old.held bytes.old calls result bytes.new
             × Asks K.Keeper keeper.old calls keeper.new }
         ensures within { LiesWithin result (length bytes.new) }
         ensures number { self.new.number ≡ self.old.number }
         ensures window { self.new.window ≡ self.old.window }
         ensures held { K.held keeper.new ≡ K.held keeper.old }
     {
+        sealed_packets_open();
         self.holdings.receive(keeper, bytes)
     }
 }
