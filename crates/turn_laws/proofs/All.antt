@@ -26,7 +26,7 @@ use Rattle.turn_laws.specs.Owned.{Lawful, Owned}
 use Rattle.turn_laws.specs.Places.{Ours, Place, column}
 use Rattle.turn_laws.specs.Turns.{actor_of, acts_of, key_iv, moves_of, uses_of}
 use Rattle.turn_rules.specs.Ends.{Member, own}
-use Rattle.turn_rules.specs.Held.{Held, covered, granted, held_by, number_of, used}
+use Rattle.turn_rules.specs.Held.{Held, covered, granted, held_by, number_of, used, window_by}
 use Rattle.turn_rules.specs.Local.{IsExplained, Local, Stands, calls_of}
 use Rattle.turn_rules.specs.Safe.{IsEachOnce}
 
@@ -113,12 +113,12 @@ pub counters-once : (boxes : ℕ) (past : List Turn) (book : Book) → Local box
 counters-once boxes past book local stands spir c = subst (λ ns. IsEachOnce ns) (run-numbers boxes past local spir c) (numbers-once boxes past book local stands (Ours spir c))
 
 -- what a member's own turns say that it holds is its holding at each counter
-held-tells : (boxes : ℕ) (past : List Turn) → Local boxes past → (member spir : ℕ) (held : Held) → held_by (own (Member member) past) spir ≡ Some held → (c : Counter) → (h : Holding) × Tells (own (Member member) past) spir c held h × (held_at (Ours spir c) (acts_of past) (End (Member member)) ≡ Some h)
+held-tells : (boxes : ℕ) (past : List Turn) → Local boxes past → (member spir : ℕ) (held : Held) → held_by (window_by past) (own (Member member) past) spir ≡ Some held → (c : Counter) → (h : Holding) × Tells (own (Member member) past) spir c held h × (held_at (Ours spir c) (acts_of past) (End (Member member)) ≡ Some h)
 held-tells boxes past local member spir held is c =
-    let so : (h : Holding) × Tells (own (Member member) past) spir c held h = tells (own (Member member) past) spir c held is in
+    let so : (h : Holding) × Tells (own (Member member) past) spir c held h = tells (window_by past) (own (Member member) past) spir c held is in
     (so.0, so.1, sym (told-held boxes past local member spir c) ∙ so.1.told_so)
 
-module _ (boxes : ℕ) (past : List Turn) (book : Book) (local : Local boxes past) (stands : Stands past book) (m k spir : ℕ) (h g : Held) (holds : held_by (own (Member m) past) spir ≡ Some h) (other : held_by (own (Member k) past) spir ≡ Some g) where
+module _ (boxes : ℕ) (past : List Turn) (book : Book) (local : Local boxes past) (stands : Stands past book) (m k spir : ℕ) (h g : Held) (holds : held_by (window_by past) (own (Member m) past) spir ≡ Some h) (other : held_by (window_by past) (own (Member k) past) spir ≡ Some g) where
   of_m : (c : Counter) → (x : Holding) × Tells (own (Member m) past) spir c h x × (held_at (Ours spir c) (acts_of past) (End (Member m)) ≡ Some x)
   of_m c = held-tells boxes past local m spir h holds c
 

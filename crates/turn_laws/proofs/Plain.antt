@@ -28,7 +28,7 @@ use Rattle.turn_rules.specs.Draws.{Concludes, Draws, Enters, TakesOver, reach_of
 use Rattle.turn_rules.specs.Ends.{Member, Peer, own}
 use Rattle.turn_rules.specs.Fits.{Fits, MAX_MEMBERS, Refusing, has_import, has_joined, has_takeover, is_importable, joins}
 use Rattle.turn_rules.specs.Peers.{admits, slots_by}
-use Rattle.turn_rules.specs.Held.{Held, granted, held_by, used}
+use Rattle.turn_rules.specs.Held.{Held, granted, held_by, used, window_by}
 
 -- none of the calls grants the association
 abbrev pub GrantNone : ℕ → List Call → Type 0
@@ -119,4 +119,10 @@ module _ (spir : ℕ) where
       (takes_over-plain c asked member calls verdict)) fits
   fits-plain c boxes past (event.Draw member asked) calls verdict fits = inl
       (unless_refusing (not (has_joined member past)) refusal.NoMember calls verdict (none_concluded calls verdict _)
-      (draws-match (held_by (own (Member member) past) asked) calls verdict (out.Refused refusal.NotOwner)) fits)
+      (draws-match (held_by (window_by past) (own (Member member) past) asked) calls verdict (out.Refused refusal.NotOwner)) fits)
+  fits-plain c boxes past (event.Cluster identity lifetime window ticket_key) calls verdict fits = inl (none_concluded calls verdict _ fits)
+  fits-plain c boxes past (event.Send from spir payload) calls verdict fits = inl (none_concluded calls verdict _ fits)
+  fits-plain c boxes past (event.Deliver which to) calls verdict fits = inl (none_concluded calls verdict _ fits)
+  fits-plain c boxes past (event.Alter which to place octet) calls verdict fits = inl (none_concluded calls verdict _ fits)
+  fits-plain c boxes past (event.Cut which to keep) calls verdict fits = inl (none_concluded calls verdict _ fits)
+  fits-plain c boxes past (event.Inject to medium octets) calls verdict fits = inl (none_concluded calls verdict _ fits)

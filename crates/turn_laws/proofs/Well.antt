@@ -40,7 +40,7 @@ use Rattle.turn_rules.proofs.Ties.{five_at-five_of}
 use Rattle.turn_rules.specs.Draws.{Concludes, Draws, Enters, TakesOver, reach_of, refusal_of_stop}
 use Rattle.turn_rules.specs.Ends.{Member, Peer, is_by, is_of_run, is_refused_by_run, own, performer_of}
 use Rattle.turn_rules.specs.Fits.{Fits, MAX_MEMBERS, has_import, has_joined, has_takeover, is_importable, joins}
-use Rattle.turn_rules.specs.Held.{Held, found, grant_of, greatest, held_by, high_of, holding, is_named, next_of, number_of, since}
+use Rattle.turn_rules.specs.Held.{Held, found, grant_of, greatest, held_by, high_of, holding, is_named, next_of, number_of, since, window_by}
 use Rattle.turn_rules.specs.Peers.{admits, slots_by}
 
 -- a number at which a counter is ready was not used: it is above each that was
@@ -62,20 +62,20 @@ pub record Tells (mine : List Turn) (spir : ℕ) (c : Counter) (held : Held) (h 
   pub may_base : h.base ≤ five_at held.nexts c
   pub unused : IsNotIn (five_at held.nexts c) h.numbers
 
-pub tells : (mine : List Turn) (spir : ℕ) (c : Counter) (held : Held) → held_by mine spir ≡ Some held → (h : Holding) × Tells mine spir c held h
-tells mine spir c held is = go (found (grant_of spir) mine) refl is
+pub tells : (size : ℕ) (mine : List Turn) (spir : ℕ) (c : Counter) (held : Held) → held_by size mine spir ≡ Some held → (h : Holding) × Tells mine spir c held h
+tells size mine spir c held is = go (found (grant_of spir) mine) refl is
   where
-    go : (x : Option Taken) → found (grant_of spir) mine ≡ x → option_map (holding spir mine) x ≡ Some held → (h : Holding) × Tells mine spir c held h
+    go : (x : Option Taken) → found (grant_of spir) mine ≡ x → option_map (holding size spir mine) x ≡ Some held → (h : Holding) × Tells mine spir c held h
     go None e is = absurd (cc)
-    go (Some taken) e is = subst (λ (y : Held). (h : Holding) × Tells mine spir c y h) (same_Some (holding spir mine taken) held is) (
+    go (Some taken) e is = subst (λ (y : Held). (h : Holding) × Tells mine spir c y h) (same_Some (holding size spir mine taken) held is) (
       of,
       record {
         told_so = ap (option_map {T = Taken} (λ t. record { epoch = t.epoch; base = five_at t.bases c; high = high_of spir c t.bases mine; numbers = filter_map (number_of spir c) (since spir mine) })) e;
         epoch = refl;
         base = refl;
         high = sym (five_at-five_of (λ d. high_of spir d taken.bases mine) c);
-        may_base = let at : five_at (holding spir mine taken).nexts c ≡ next_of spir c taken.bases mine = five_at-five_of (λ d. next_of spir d taken.bases mine) c in let low : five_at taken.bases c ≤ next_of spir c taken.bases mine = greatest-least (five_at taken.bases c) (map (λ n. n + 1) (filter_map (number_of spir c) (since spir mine))) in omega arith;
-        unused = above-used (five_at taken.bases c) (five_at (holding spir mine taken).nexts c) (filter_map (number_of spir c) (since spir mine)) (five_at-five_of (λ d. next_of spir d taken.bases mine) c);
+        may_base = let at : five_at (holding size spir mine taken).nexts c ≡ next_of spir c taken.bases mine = five_at-five_of (λ d. next_of spir d taken.bases mine) c in let low : five_at taken.bases c ≤ next_of spir c taken.bases mine = greatest-least (five_at taken.bases c) (map (λ n. n + 1) (filter_map (number_of spir c) (since spir mine))) in omega arith;
+        unused = above-used (five_at taken.bases c) (five_at (holding size spir mine taken).nexts c) (filter_map (number_of spir c) (since spir mine)) (five_at-five_of (λ d. next_of spir d taken.bases mine) c);
       },
     )
       where
@@ -201,18 +201,18 @@ module _ (member spir : ℕ) (mine : List Turn) (held : Held) (verdict : Verdict
       calls d
 
 module _ (boxes : ℕ) (past : List Turn) (acts : List Act) (agrees : (member spir : ℕ) (c : Counter) → told spir c (own (Member member) past) ≡ held_at (Ours spir c) acts (End (Member member))) (records : HaveTheirRecords past) where
-  draw-well : (member spir : ℕ) (calls : List Call) (verdict : Verdict) (x : Option Held) → held_by (own (Member member) past) spir ≡ x → MatchOption x (Concludes calls verdict (out.Refused refusal.NotOwner)) (λ held. Draws held calls verdict) → MayMake acts (actor_at (event.Draw member spir) verdict) (event.Draw member spir) verdict calls
+  draw-well : (member spir : ℕ) (calls : List Call) (verdict : Verdict) (x : Option Held) → held_by (window_by past) (own (Member member) past) spir ≡ x → MatchOption x (Concludes calls verdict (out.Refused refusal.NotOwner)) (λ held. Draws held calls verdict) → MayMake acts (actor_at (event.Draw member spir) verdict) (event.Draw member spir) verdict calls
   draw-well member spir calls verdict None e d = refused-well acts (actor_at (event.Draw member spir) verdict) (event.Draw member spir) refusal.NotOwner calls verdict d
   draw-well member spir calls verdict (Some held) e d =
-      let so : (h : Holding) × Tells (own (Member member) past) spir counter.EspOut held h = tells (own (Member member) past) spir counter.EspOut held e in
+      let so : (h : Holding) × Tells (own (Member member) past) spir counter.EspOut held h = tells (window_by past) (own (Member member) past) spir counter.EspOut held e in
       let mine : actor_at (event.Draw member spir) verdict ≡ End (Member member) = ap (λ b. actor_as (if b then None else Some (Member member))) (draws-of_member held calls verdict d) in
       subst (λ w. MayMake acts w (event.Draw member spir) verdict calls) (sym mine)
       (draws-well member spir (own (Member member) past) held verdict (spir-held (found (grant_of spir) (own (Member member) past)) refl e) so.0 so.1 acts (End (Member member)) (agrees member spir counter.EspOut) calls d)
     where
-      spir-held : (x : Option Taken) → found (grant_of spir) (own (Member member) past) ≡ x → option_map (holding spir (own (Member member) past)) x ≡ Some held → held.sa.spir ≡ spir
+      spir-held : (x : Option Taken) → found (grant_of spir) (own (Member member) past) ≡ x → option_map (holding (window_by past) spir (own (Member member) past)) x ≡ Some held → held.sa.spir ≡ spir
       spir-held None f is = absurd (cc)
       spir-held (Some taken) f is =
-          subst (λ (y : Held). y.sa.spir ≡ spir) (same_Some (holding spir (own (Member member) past) taken) held is)
+          subst (λ (y : Held). y.sa.spir ≡ spir) (same_Some (holding (window_by past) spir (own (Member member) past) taken) held is)
           (granted-spir (is_by (Member member)) past records spir taken f)
 
   -- each event that is explained makes moves that may be made
@@ -235,4 +235,10 @@ module _ (boxes : ℕ) (past : List Turn) (acts : List Act) (agrees : (member sp
       (takes_over-well acts (actor_at (event.Own member spir) verdict) member spir calls verdict)) fits
   fits-well (event.Draw member spir) calls verdict fits =
       unless_refusing (not (has_joined member past)) refusal.NoMember calls verdict (refused-well acts (actor_at (event.Draw member spir) verdict) (event.Draw member spir) refusal.NoMember calls verdict)
-      (draw-well member spir calls verdict (held_by (own (Member member) past) spir) refl) fits
+      (draw-well member spir calls verdict (held_by (window_by past) (own (Member member) past) spir) refl) fits
+  fits-well (event.Cluster identity lifetime window ticket_key) calls verdict fits = refused-well acts (actor_at (event.Cluster identity lifetime window ticket_key) verdict) (event.Cluster identity lifetime window ticket_key) refusal.NotBuilt calls verdict fits
+  fits-well (event.Send from spir payload) calls verdict fits = refused-well acts (actor_at (event.Send from spir payload) verdict) (event.Send from spir payload) refusal.NotBuilt calls verdict fits
+  fits-well (event.Deliver which to) calls verdict fits = refused-well acts (actor_at (event.Deliver which to) verdict) (event.Deliver which to) refusal.NotBuilt calls verdict fits
+  fits-well (event.Alter which to place octet) calls verdict fits = refused-well acts (actor_at (event.Alter which to place octet) verdict) (event.Alter which to place octet) refusal.NotBuilt calls verdict fits
+  fits-well (event.Cut which to keep) calls verdict fits = refused-well acts (actor_at (event.Cut which to keep) verdict) (event.Cut which to keep) refusal.NotBuilt calls verdict fits
+  fits-well (event.Inject to medium octets) calls verdict fits = refused-well acts (actor_at (event.Inject to medium octets) verdict) (event.Inject to medium octets) refusal.NotBuilt calls verdict fits

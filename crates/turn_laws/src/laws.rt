@@ -16,7 +16,7 @@ ghost use Rattle.turn_laws.specs.Owned.{Owned};
 ghost use Rattle.turn_laws.specs.Places.{Ours, Place, end_at};
 ghost use Rattle.turn_laws.specs.Turns.{AreOwned, actor_of, acts_of, moves_of, told};
 ghost use Rattle.turn_rules.specs.Ends.{Member, own};
-ghost use Rattle.turn_rules.specs.Held.{Held, held_by, number_of};
+ghost use Rattle.turn_rules.specs.Held.{Held, held_by, number_of, window_by};
 ghost use Rattle.turn_rules.specs.Local.{Local, Stands};
 ghost use Rattle.turn_rules.specs.Safe.{IsEachOnce, Safe};
 
@@ -99,10 +99,10 @@ pub fn no_number_past_its_end()
 /// end, the later one's bases have not begun.
 pub fn holdings_are_apart()
     ensures epochs { (boxes : ℕ) (past : List Turn) (book : Book) → Local boxes past → Stands past book
-        → (m k spir : ℕ) (h g : Held) → held_by (own (Member m) past) spir ≡ Some h → held_by (own (Member k) past) spir ≡ Some g
+        → (m k spir : ℕ) (h g : Held) → held_by (window_by past) (own (Member m) past) spir ≡ Some h → held_by (window_by past) (own (Member k) past) spir ≡ Some g
         → h.epoch ≡ g.epoch → m ≡ k }
     ensures highs { (boxes : ℕ) (past : List Turn) (book : Book) → Local boxes past → Stands past book
-        → (m k spir : ℕ) (h g : Held) → held_by (own (Member m) past) spir ≡ Some h → held_by (own (Member k) past) spir ≡ Some g
+        → (m k spir : ℕ) (h g : Held) → held_by (window_by past) (own (Member m) past) spir ≡ Some h → held_by (window_by past) (own (Member k) past) spir ≡ Some g
         → h.epoch < g.epoch → (c : Counter) → five_at h.highs c ≤ five_at g.bases c }
 {}
 
