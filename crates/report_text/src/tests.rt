@@ -109,18 +109,20 @@ fn turn_of(moment: Moment, event: Event, calls: Calls, verdict: Verdict) -> Turn
     }
 }
 
-/// The record of an import line.
-fn imported(rt: &HostRuntime) -> Option<Record> {
-    let mut reader = EventReader::new(EVENTS).ok()?;
-    match reader.next_event(rt.alloc()) {
-        Ok(Some((_, Event::Import { sa }))) => Some(sa),
+fn record_of(event: &Event) -> Option<Record> {
+    match event {
+        Event::Import { sa } => Some(sa.copied()),
         _ => None,
     }
 }
 
 #[test]
 fn a_run_is_read_and_reported(rt: HostRuntime) -> Result<(), Fail> {
-    let sa = imported(&rt).ok_or("an association is imported")?;
+    let mut first = EventReader::new(EVENTS)?;
+    let import = first.next_event(rt.alloc())?;
+    let sa = import
+        .and_then(|(_, event)| record_of(&event))
+        .ok_or("an association is imported")?;
     let mut out = Octets::new(rt.alloc());
     write_head(&mut out)?;
     let mut reader = EventReader::new(EVENTS)?;
