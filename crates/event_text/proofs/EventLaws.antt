@@ -14,16 +14,14 @@ use Rattle.line_fields.specs.declared.fault.LineFault.{LineFault}
 use Rattle.line_fields.specs.declared.fault.LineReason.TheVariants as reasons
 use Rattle.line_fields.specs.Words.{Spot, line_of, words_of}
 use Rattle.line_fields.specs.Numbers.{number_of}
-use Rattle.event_text.specs.Events.{PlainEvent, Cluster, Import, Join, Own, Draw, Send, Deliver, Alter, Cut, Inject}
+use Rattle.event_text.specs.Events.{PlainEvent, Cluster, Import, Join, Own, Draw, Crash, Send, Deliver, Alter, Cut, Inject}
 use Rattle.line_fields.specs.Fields.{◌>>=◌, behind, ended_at, end_in, fault_at, word_at, word_in}
-use Rattle.event_text.specs.Reading.{child_keys_at, draw_at, event_at, fields_at, import_at, join_at, line_at, moment_at, own_at, sa_keys_at, starts_at, told_at}
+use Rattle.event_text.specs.Reading.{alter_at, child_keys_at, cluster_at, crash_at, cut_at, datagram_fields_at, deliver_at, draw_at, event_at, fields_at, import_at, inject_at, join_at, line_at, moment_at, own_at, sa_keys_at, send_at, starts_at, told_at}
 use Rattle.event_text.specs.Grammar.{AreChildKeys, AreSaKeys, AreStarts, EventLine, Fits, child_key_words, event_words, five_words, line_words, sa_key_words}
 use Rattle.line_fields.proofs.WordLaws.{line-words, words-line}
+use Rattle.event_text.proofs.EventFieldLaws.{count_field, medium_field, member_field, party_field, place_field, ticket_key_field, which_field, window_field}
 use Rattle.event_text.proofs.SpacelessLaws.{line_spaceless}
-use Rattle.line_fields.proofs.FieldLaws.{IsField, IsReader, column_behind, esp_spi_field, field_again, identity_field, key_size_field, number_field, ok_is, pick, reader, sized_field, spi_field, then_word, then_words, walk}
-
-member_field : IsField (number_of 0 (2 ^ 63)) decimal (λ n. n < 2 ^ 63)
-member_field = number_field (2 ^ 63) (lit≤ tt)
+use Rattle.line_fields.proofs.FieldLaws.{IsField, IsReader, column_behind, domain_name_field, esp_spi_field, field_again, identity_field, key_size_field, number_field, octet_field, ok_is, pick, reader, sized_field, spi_field, then_word, then_words, walk}
 
 message_id_field : IsField (number_of 0 (2 ^ 32 - 1)) decimal (λ n. n < 2 ^ 32 - 1)
 message_id_field = number_field (2 ^ 32 - 1) (lit≤ tt)
@@ -140,16 +138,90 @@ draw_takes s y e =
     walk (reader spi_field) s1 _ y e1 (λ spir s2 w2 f2 e2.
     subst (IsSpelled (codes "draw") s) (ok_is (Draw member spir, s2) y e2) (record { words = behind_word (codes "draw") (then_word _ w1 w2); fits = (f1, f2) })))
 
+crash_takes : (s : Spot) (y : PlainEvent × Spot) → crash_at s ≡ Ok y → IsSpelled (codes "crash") s y
+unfolding crash_at
+crash_takes s y e =
+    walk (reader member_field) s _ y e (λ member s1 w1 f1 e1.
+    subst (IsSpelled (codes "crash") s) (ok_is (Crash member, s1) y e1) (record { words = behind_word (codes "crash") w1; fits = f1 }))
+
+cluster_takes : (s : Spot) (y : PlainEvent × Spot) → cluster_at s ≡ Ok y → IsSpelled (codes "cluster") s y
+unfolding cluster_at
+cluster_takes s y e =
+    walk (reader domain_name_field) s _ y e (λ identity s1 w1 f1 e1.
+    walk (reader count_field) s1 _ y e1 (λ lifetime s2 w2 f2 e2.
+    walk (reader window_field) s2 _ y e2 (λ window s3 w3 f3 e3.
+    walk (reader ticket_key_field) s3 _ y e3 (λ ticket_key s4 w4 f4 e4.
+    subst (IsSpelled (codes "cluster") s) (ok_is (Cluster identity lifetime window ticket_key, s4) y e4)
+    (record {
+      words = behind_word (codes "cluster") (then_word _ w1 (then_word _ w2 (then_word _ w3 w4)));
+      fits = record { identity = f1; lifetime = f2; window = f3; ticket_key = f4 };
+    })))))
+
+send_takes : (s : Spot) (y : PlainEvent × Spot) → send_at s ≡ Ok y → IsSpelled (codes "send") s y
+unfolding send_at
+send_takes s y e =
+    walk (reader party_field) s _ y e (λ from s1 w1 f1 e1.
+    walk (reader spi_field) s1 _ y e1 (λ spir s2 w2 f2 e2.
+    walk (reader (sized_field 0 1400)) s2 _ y e2 (λ payload s3 w3 f3 e3.
+    subst (IsSpelled (codes "send") s) (ok_is (Send from spir payload, s3) y e3)
+    (record { words = behind_word (codes "send") (then_word _ w1 (then_word _ w2 w3)); fits = (f1, f2, f3) }))))
+
+deliver_takes : (s : Spot) (y : PlainEvent × Spot) → deliver_at s ≡ Ok y → IsSpelled (codes "deliver") s y
+unfolding deliver_at
+deliver_takes s y e =
+    walk (reader which_field) s _ y e (λ which s1 w1 f1 e1.
+    walk (reader party_field) s1 _ y e1 (λ to s2 w2 f2 e2.
+    subst (IsSpelled (codes "deliver") s) (ok_is (Deliver which to, s2) y e2) (record { words = behind_word (codes "deliver") (then_word _ w1 w2); fits = (f1, f2) })))
+
+alter_takes : (s : Spot) (y : PlainEvent × Spot) → alter_at s ≡ Ok y → IsSpelled (codes "alter") s y
+unfolding alter_at
+alter_takes s y e =
+    walk (reader which_field) s _ y e (λ which s1 w1 f1 e1.
+    walk (reader party_field) s1 _ y e1 (λ to s2 w2 f2 e2.
+    walk (reader place_field) s2 _ y e2 (λ place s3 w3 f3 e3.
+    walk (reader octet_field) s3 _ y e3 (λ octet s4 w4 f4 e4.
+    subst (IsSpelled (codes "alter") s) (ok_is (Alter which to place octet, s4) y e4)
+    (record { words = behind_word (codes "alter") (then_word _ w1 (then_word _ w2 (then_word _ w3 w4))); fits = (f1, f2, f3, f4) })))))
+
+cut_takes : (s : Spot) (y : PlainEvent × Spot) → cut_at s ≡ Ok y → IsSpelled (codes "cut") s y
+unfolding cut_at
+cut_takes s y e =
+    walk (reader which_field) s _ y e (λ which s1 w1 f1 e1.
+    walk (reader party_field) s1 _ y e1 (λ to s2 w2 f2 e2.
+    walk (reader place_field) s2 _ y e2 (λ keep s3 w3 f3 e3.
+    subst (IsSpelled (codes "cut") s) (ok_is (Cut which to keep, s3) y e3)
+    (record { words = behind_word (codes "cut") (then_word _ w1 (then_word _ w2 w3)); fits = (f1, f2, f3) }))))
+
+inject_takes : (s : Spot) (y : PlainEvent × Spot) → inject_at s ≡ Ok y → IsSpelled (codes "inject") s y
+unfolding inject_at
+inject_takes s y e =
+    walk (reader party_field) s _ y e (λ to s1 w1 f1 e1.
+    walk (reader medium_field) s1 _ y e1 (λ medium s2 w2 f2 e2.
+    walk (reader (sized_field 0 2048)) s2 _ y e2 (λ octets s3 w3 f3 e3.
+    subst (IsSpelled (codes "inject") s) (ok_is (Inject to medium octets, s3) y e3)
+    (record { words = behind_word (codes "inject") (then_word _ w1 (then_word _ w2 w3)); fits = (f1, f3) }))))
+
 is_word_of : (name w : List ℕ) (s : Spot) (y : PlainEvent × Spot) → bytes_eq w name ≡ true → IsSpelled name s y → IsSpelled w s y
 is_word_of name w s y t h = subst (λ (v : List ℕ). IsSpelled v s y) (sym ((bytes_eq-Decides w name).0 t)) h
+
+datagram_fields_take : (c : ℕ) (w : List ℕ) (s : Spot) (y : PlainEvent × Spot) → datagram_fields_at c w s ≡ Ok y → IsSpelled w s y
+unfolding datagram_fields_at
+datagram_fields_take c w s y e =
+    pick (bytes_eq w (codes "send")) _ _ _ e (λ t h. is_word_of (codes "send") w s y t (send_takes s y h)) (λ _ e1.
+    pick (bytes_eq w (codes "deliver")) _ _ _ e1 (λ t h. is_word_of (codes "deliver") w s y t (deliver_takes s y h)) (λ _ e2.
+    pick (bytes_eq w (codes "alter")) _ _ _ e2 (λ t h. is_word_of (codes "alter") w s y t (alter_takes s y h)) (λ _ e3.
+    pick (bytes_eq w (codes "cut")) _ _ _ e3 (λ t h. is_word_of (codes "cut") w s y t (cut_takes s y h)) (λ _ e4.
+    pick (bytes_eq w (codes "inject")) _ _ _ e4 (λ t h. is_word_of (codes "inject") w s y t (inject_takes s y h)) (λ _ e5. absurd cc)))))
 
 fields_take : (c : ℕ) (w : List ℕ) (s : Spot) (y : PlainEvent × Spot) → fields_at c w s ≡ Ok y → IsSpelled w s y
 unfolding fields_at
 fields_take c w s y e =
-    pick (bytes_eq w (codes "import")) _ _ _ e (λ t h. is_word_of (codes "import") w s y t (import_takes s y h)) (λ _ e1.
-    pick (bytes_eq w (codes "join")) _ _ _ e1 (λ t h. is_word_of (codes "join") w s y t (join_takes s y h)) (λ _ e2.
-    pick (bytes_eq w (codes "own")) _ _ _ e2 (λ t h. is_word_of (codes "own") w s y t (own_takes s y h)) (λ _ e3.
-    pick (bytes_eq w (codes "draw")) _ _ _ e3 (λ t h. is_word_of (codes "draw") w s y t (draw_takes s y h)) (λ _ e4. absurd cc))))
+    pick (bytes_eq w (codes "cluster")) _ _ _ e (λ t h. is_word_of (codes "cluster") w s y t (cluster_takes s y h)) (λ _ e1.
+    pick (bytes_eq w (codes "import")) _ _ _ e1 (λ t h. is_word_of (codes "import") w s y t (import_takes s y h)) (λ _ e2.
+    pick (bytes_eq w (codes "join")) _ _ _ e2 (λ t h. is_word_of (codes "join") w s y t (join_takes s y h)) (λ _ e3.
+    pick (bytes_eq w (codes "own")) _ _ _ e3 (λ t h. is_word_of (codes "own") w s y t (own_takes s y h)) (λ _ e4.
+    pick (bytes_eq w (codes "draw")) _ _ _ e4 (λ t h. is_word_of (codes "draw") w s y t (draw_takes s y h)) (λ _ e5.
+    pick (bytes_eq w (codes "crash")) _ _ _ e5 (λ t h. is_word_of (codes "crash") w s y t (crash_takes s y h)) (λ _ e6. datagram_fields_take c w s y e6))))))
 
 -- a step was run, and then the rest
 after : {A B P : Type 0} (r : Result A LineFault) (k : A → Result B LineFault) (y : B) → (r >>= k) ≡ Ok y → ((x : A) → r ≡ Ok x → k x ≡ Ok y → P) → P
@@ -168,18 +240,24 @@ event_takes s y e =
     (word_is s.column s.words w found ∙ spelled.words, spelled.fits))
 
 event_again : (e : PlainEvent) → Fits e → (c : ℕ) → event_at (record { column = c; words = event_words e }) ≡ Ok (e, record { column = column_behind c (event_words e); words = [] })
-unfolding event_at fields_at import_at join_at own_at draw_at
+unfolding event_at fields_at datagram_fields_at import_at join_at own_at draw_at crash_at cluster_at send_at deliver_at alter_at cut_at inject_at
 event_again (Import a) h c =
     rw (field_again spi_field a.spii h.spii, field_again spi_field a.spir h.spir, field_again key_size_field a.size tt, field_again identity_field a.identity h.identity, sa_keys_again a.size a.keys h.keys, field_again esp_spi_field a.spi_in h.spi_in, field_again esp_spi_field a.spi_out h.spi_out, child_keys_again a.size a.child h.child, (starts_reader.again a.starts h.starts)) refl
 event_again (Join fresh) h c = rw (field_again (sized_field 24 24) fresh h) refl
 event_again (Own member spir) h c = rw (field_again member_field member h.0, field_again spi_field spir h.1) refl
 event_again (Draw member spir) h c = rw (field_again member_field member h.0, field_again spi_field spir h.1) refl
-event_again (Cluster identity lifetime window ticket_key) h c = absurd h
-event_again (Send from spir payload) h c = absurd h
-event_again (Deliver which to) h c = absurd h
-event_again (Alter which to place octet) h c = absurd h
-event_again (Cut which to keep) h c = absurd h
-event_again (Inject to medium octets) h c = absurd h
+event_again (Cluster identity lifetime window ticket_key) h c =
+    rw (field_again domain_name_field identity h.identity, field_again count_field lifetime h.lifetime, field_again window_field window h.window, field_again ticket_key_field ticket_key h.ticket_key) refl
+event_again (Crash member) h c = rw (field_again member_field member h) refl
+event_again (Send from spir payload) h c =
+    rw (field_again party_field from h.0, field_again spi_field spir h.1, field_again (sized_field 0 1400) payload h.2) refl
+event_again (Deliver which to) h c = rw (field_again which_field which h.0, field_again party_field to h.1) refl
+event_again (Alter which to place octet) h c =
+    rw (field_again which_field which h.0, field_again party_field to h.1, field_again place_field place h.2, field_again octet_field octet h.3) refl
+event_again (Cut which to keep) h c =
+    rw (field_again which_field which h.0, field_again party_field to h.1, field_again place_field keep h.2) refl
+event_again (Inject to medium octets) h c =
+    rw (field_again party_field to h.0, field_again medium_field medium tt, field_again (sized_field 0 2048) octets h.1) refl
 
 -- ---- a line
 

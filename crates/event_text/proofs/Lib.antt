@@ -1,3 +1,4 @@
+pub mod EventFieldLaws
 pub mod SpacelessLaws
 pub mod EventLaws
 pub mod LineLaws

@@ -3,10 +3,29 @@ use Rattle.std.proofs.Common.{◌≡◌, ◌-◌, ◌^◌, ◌<◌, true, not, e
 use Rattle.std.proofs.lemmas.Bool.{and_parts}
 use Rattle.std.specs.List.{list_all}
 use Rattle.ha_base.specs.declared.outside.Moment.{Moment}
-use Rattle.event_text.specs.Events.{PlainEvent, Cluster, Import, Join, Own, Draw, Send, Deliver, Alter, Cut, Inject}
-use Rattle.event_text.specs.Grammar.{Fits, event_words, line_words}
+use Rattle.event_text.specs.Events.{PlainEvent, Cluster, Import, Join, Own, Draw, Crash, Send, Deliver, Alter, Cut, Inject}
+use Rattle.event_text.specs.declared.event.Party.{Party}
+use Rattle.event_text.specs.declared.event.Party.TheVariants as parties
+use Rattle.event_text.specs.declared.event.Which.{Which}
+use Rattle.event_text.specs.declared.event.Which.TheVariants as whiches
+use Rattle.event_text.specs.declared.turn.Medium.{Medium}
+use Rattle.event_text.specs.declared.turn.Medium.TheVariants as mediums
+use Rattle.event_text.specs.Grammar.{Fits, IsParty, IsWhich, event_words, line_words, medium_word, party_text, which_text}
+use Rattle.event_text.proofs.EventFieldLaws.{key_octets, window_small}
 use Rattle.line_fields.proofs.WordLaws.{are_words, is_word, no_space}
-use Rattle.line_fields.proofs.SpacelessLaws.{all_also, is_plain, number_word, plain_octet, word_esp_spi, word_identity, word_octets, word_size, word_spi}
+use Rattle.line_fields.proofs.SpacelessLaws.{all_also, is_plain, number_word, plain_octet, word_domain_name, word_esp_spi, word_identity, word_octet, word_octets, word_size, word_spi}
+
+word_party : (x : Party) → IsParty x → is_plain (party_text x) ≡ true
+word_party parties.Peer h = refl
+word_party (parties.Member n) h = number_word n (2 ^ 63) h (lit≤ tt)
+
+word_which : (x : Which) → IsWhich x → is_plain (which_text x) ≡ true
+word_which (whiches.Number n) h = number_word n (2 ^ 32) h.1 (lit≤ tt)
+word_which whiches.Last h = refl
+
+word_medium : (x : Medium) → is_plain (medium_word x) ≡ true
+word_medium mediums.Ike = refl
+word_medium mediums.Esp = refl
 
 -- the words of an event
 pub event_plain : (e : PlainEvent) → Fits e → list_all is_plain (event_words e) ≡ true
@@ -34,12 +53,20 @@ event_plain (Import a) h =
 event_plain (Join fresh) h = rw (word_octets 24 24 fresh h) refl
 event_plain (Own member spir) h = rw (number_word member (2 ^ 63) h.0 (lit≤ tt), word_spi spir) refl
 event_plain (Draw member spir) h = rw (number_word member (2 ^ 63) h.0 (lit≤ tt), word_spi spir) refl
-event_plain (Cluster identity lifetime window ticket_key) h = absurd h
-event_plain (Send from spir payload) h = absurd h
-event_plain (Deliver which to) h = absurd h
-event_plain (Alter which to place octet) h = absurd h
-event_plain (Cut which to keep) h = absurd h
-event_plain (Inject to medium octets) h = absurd h
+event_plain (Cluster identity lifetime window ticket_key) h =
+    rw (
+      word_domain_name identity h.identity,
+      number_word lifetime (2 ^ 32) h.lifetime.1 (lit≤ tt),
+      number_word window (2 ^ 32) (window_small window h.window) (lit≤ tt),
+      word_octets 0 36 ticket_key (key_octets ticket_key h.ticket_key),
+    ) refl
+event_plain (Crash member) h = rw (number_word member (2 ^ 63) h (lit≤ tt)) refl
+event_plain (Send from spir payload) h = rw (word_party from h.0, word_spi spir, word_octets 0 1400 payload h.2) refl
+event_plain (Deliver which to) h = rw (word_which which h.0, word_party to h.1) refl
+event_plain (Alter which to place octet) h =
+    rw (word_which which h.0, word_party to h.1, number_word place (2 ^ 32) h.2 (lit≤ tt), word_octet octet h.3) refl
+event_plain (Cut which to keep) h = rw (word_which which h.0, word_party to h.1, number_word keep (2 ^ 32) h.2 (lit≤ tt)) refl
+event_plain (Inject to medium octets) h = rw (word_party to h.0, word_medium medium, word_octets 0 2048 octets h.1) refl
 
 line_plain : (m : Moment) (e : PlainEvent) → m.0 < 2 ^ 63 → Fits e → list_all is_plain (line_words m e) ≡ true
 line_plain m e lt h = rw (number_word m.0 (2 ^ 63) lt (lit≤ tt)) (event_plain e h)

@@ -45,6 +45,7 @@ pub data PlainEvent : Type 0 where
   Join : List ℕ → PlainEvent
   Own : ℕ → ℕ → PlainEvent
   Draw : ℕ → ℕ → PlainEvent
+  Crash : ℕ → PlainEvent
   Send : Party → ℕ → List ℕ → PlainEvent
   Deliver : Which → Party → PlainEvent
   Alter : Which → Party → ℕ → ℕ → PlainEvent
@@ -57,6 +58,7 @@ plain (events.Import sa) = Import (association sa)
 plain (events.Join fresh) = Join fresh
 plain (events.Own member spir) = Own member spir
 plain (events.Draw member spir) = Draw member spir
+plain (events.Crash member) = Crash member
 plain (events.Send from spir payload) = Send from spir payload.octets
 plain (events.Deliver which to) = Deliver which to
 plain (events.Alter which to place octet) = Alter which to place octet

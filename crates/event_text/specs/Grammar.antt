@@ -1,6 +1,7 @@
 -- The line of an event: its words, and what the fields of a line may be.
-use Rattle.std.specs.Prelude.{◌≡◌, ℕ, ◌-◌, ◌^◌, ◌<◌, ◌≤◌, List, [], ◌∷◌, ◌++◌, length, codes}
+use Rattle.std.specs.Prelude.{◌≡◌, ℕ, ◌-◌, ◌^◌, ◌<◌, ◌≤◌, List, [], ◌∷◌, ◌++◌, length, codes, ◌⊎◌}
 use Rattle.std.specs.Fmt.{decimal}
+use Rattle.ha_base.specs.declared.identities.Identity.{Identity}
 use Rattle.ha_base.specs.declared.key_material.KeySize.{KeySize}
 use Rattle.ha_base.specs.declared.key_material.SaKeys.{SaKeys}
 use Rattle.ha_base.specs.declared.key_material.ChildKeys.{ChildKeys}
@@ -10,8 +11,8 @@ use Rattle.keeper_book.specs.Records.{sealing_key_octets}
 use Rattle.line_fields.specs.Words.{line_of}
 use Rattle.line_fields.specs.Fields.{size_text}
 use Rattle.line_fields.specs.Octets.{IsOctets, esp_spi_text, octets_text, spi_text}
-use Rattle.line_fields.specs.Identities.{IsIdentity, identity_text}
-use Rattle.event_text.specs.Events.{Association, PlainEvent, Cluster, Import, Join, Own, Draw, Send, Deliver, Alter, Cut, Inject}
+use Rattle.line_fields.specs.Identities.{IsIdentity, IsOfForm, fqdn, identity_text}
+use Rattle.event_text.specs.Events.{Association, PlainEvent, Cluster, Import, Join, Own, Draw, Crash, Send, Deliver, Alter, Cut, Inject}
 use Rattle.event_text.specs.declared.event.Party.{Party}
 use Rattle.event_text.specs.declared.event.Party.TheVariants as parties
 use Rattle.event_text.specs.declared.event.Which.{Which}
@@ -54,6 +55,7 @@ event_words (Import a) = codes "import" ∷ association_words a
 event_words (Join fresh) = codes "join" ∷ octets_text fresh ∷ []
 event_words (Own member spir) = codes "own" ∷ decimal member ∷ spi_text spir ∷ []
 event_words (Draw member spir) = codes "draw" ∷ decimal member ∷ spi_text spir ∷ []
+event_words (Crash member) = codes "crash" ∷ decimal member ∷ []
 event_words (Send from spir payload) = codes "send" ∷ party_text from ∷ spi_text spir ∷ octets_text payload ∷ []
 event_words (Deliver which to) = codes "deliver" ∷ which_text which ∷ party_text to ∷ []
 event_words (Alter which to place octet) = codes "alter" ∷ which_text which ∷ party_text to ∷ decimal place ∷ octets_text (octet ∷ []) ∷ []
@@ -88,13 +90,40 @@ pub record IsAssociation (a : Association) : Type 0 where
   pub child : AreChildKeys a.size a.child
   pub starts : AreStarts a.starts
 
--- what the fields of a line may be; no line says yet what configures the ends, or moves datagrams
+abbrev pub IsWindowSize : ℕ → Type 0
+IsWindowSize window = (window ≡ 64) ⊎ (window ≡ 128) ⊎ (window ≡ 256) ⊎ (window ≡ 512) ⊎ (window ≡ 1024)
+
+-- no ticket key, or one of AES with 128 or 256 bits and four octets of salt
+abbrev pub IsTicketKey : List ℕ → Type 0
+IsTicketKey key = IsOctets 0 0 key ⊎ IsOctets 20 20 key ⊎ IsOctets 36 36 key
+
+pub record IsConfiguration (name : Identity) (seconds size : ℕ) (key : List ℕ) : Type 0 where
+  pub identity : IsOfForm fqdn name
+  pub lifetime : (1 ≤ seconds) × (seconds < 2 ^ 32)
+  pub window : IsWindowSize size
+  pub ticket_key : IsTicketKey key
+
+abbrev pub IsParty : Party → Type 0
+IsParty parties.Peer = Unit {0}
+IsParty (parties.Member number) = number < 2 ^ 63
+
+abbrev pub IsWhich : Which → Type 0
+IsWhich (whiches.Number number) = (1 ≤ number) × (number < 2 ^ 32)
+IsWhich whiches.Last = Unit {0}
+
+-- what the fields of a line may be
 abbrev pub Fits : PlainEvent → Type 0
+Fits (Cluster identity lifetime window ticket_key) = IsConfiguration identity lifetime window ticket_key
 Fits (Import a) = IsAssociation a
 Fits (Join fresh) = IsOctets 24 24 fresh
 Fits (Own member spir) = (member < 2 ^ 63) × (spir < 2 ^ 64)
 Fits (Draw member spir) = (member < 2 ^ 63) × (spir < 2 ^ 64)
-Fits event = ⊥
+Fits (Crash member) = member < 2 ^ 63
+Fits (Send from spir payload) = IsParty from × (spir < 2 ^ 64) × IsOctets 0 1400 payload
+Fits (Deliver which to) = IsWhich which × IsParty to
+Fits (Alter which to place octet) = IsWhich which × IsParty to × (place < 2 ^ 32) × (octet < 256)
+Fits (Cut which to keep) = IsWhich which × IsParty to × (keep < 2 ^ 32)
+Fits (Inject to medium octets) = IsParty to × IsOctets 0 2048 octets
 
 -- the words of a line: the moment in seconds, and the event's
 abbrev pub line_words : Moment → PlainEvent → List (List ℕ)

@@ -1,5 +1,6 @@
 pub mod Lines
 pub mod Events
+pub mod EventFields
 pub mod Reading
 pub mod Grammar
 pub mod Input

@@ -12,18 +12,15 @@ use Rattle.line_fields.specs.declared.fault.LineReason.TheVariants as reasons
 use Rattle.line_fields.specs.declared.fault.LineFault.{LineFault}
 use Rattle.line_fields.specs.Words.{Spot, words_of}
 use Rattle.line_fields.specs.Numbers.{number_of}
-use Rattle.line_fields.specs.Octets.{esp_spi_of, sized, spi_of}
-use Rattle.line_fields.specs.Identities.{identity_of}
+use Rattle.line_fields.specs.Octets.{esp_spi_of, octet_of, sized, spi_of}
+use Rattle.line_fields.specs.Identities.{domain_name_of, identity_of}
 use Rattle.line_fields.specs.Fields.{◌>>=◌, ended_at, fault_at, field, key_size_of, word_at}
-use Rattle.event_text.specs.Events.{PlainEvent, Import, Join, Own, Draw}
+use Rattle.event_text.specs.Events.{PlainEvent, Cluster, Import, Join, Own, Draw, Crash, Send, Deliver, Alter, Cut, Inject}
+use Rattle.event_text.specs.EventFields.{medium_of, member_of, party_of, ticket_key_of, which_of, window_of}
 
 -- a sealing key: an AES key and four octets of salt (RFC 5282, section 7.1)
 abbrev pub sealing_key_of : KeySize → List ℕ → Result (List ℕ) LineReason
 sealing_key_of size = sized (sealing_key_octets size) (sealing_key_octets size)
-
--- a member's number
-abbrev pub member_of : List ℕ → Result ℕ LineReason
-member_of = number_of 0 (2 ^ 63)
 
 unfoldable pub sa_keys_at : KeySize → Spot → Result (SaKeys × Spot) LineFault
 sa_keys_at size s = do
@@ -94,14 +91,74 @@ draw_at s = do
   spir ← field spi_of member.1
   Ok (Draw member.0 spir.0, spir.1)
 
+unfoldable pub crash_at : Spot → Result (PlainEvent × Spot) LineFault
+crash_at s = do
+  member ← field member_of s
+  Ok (Crash member.0, member.1)
+
+unfoldable pub cluster_at : Spot → Result (PlainEvent × Spot) LineFault
+cluster_at s = do
+  identity ← field domain_name_of s
+  lifetime ← field (number_of 1 (2 ^ 32)) identity.1
+  window ← field window_of lifetime.1
+  ticket_key ← field ticket_key_of window.1
+  Ok (Cluster identity.0 lifetime.0 window.0 ticket_key.0, ticket_key.1)
+
+unfoldable pub send_at : Spot → Result (PlainEvent × Spot) LineFault
+send_at s = do
+  from ← field party_of s
+  spir ← field spi_of from.1
+  payload ← field (sized 0 1400) spir.1
+  Ok (Send from.0 spir.0 payload.0, payload.1)
+
+unfoldable pub deliver_at : Spot → Result (PlainEvent × Spot) LineFault
+deliver_at s = do
+  which ← field which_of s
+  to ← field party_of which.1
+  Ok (Deliver which.0 to.0, to.1)
+
+unfoldable pub alter_at : Spot → Result (PlainEvent × Spot) LineFault
+alter_at s = do
+  which ← field which_of s
+  to ← field party_of which.1
+  place ← field (number_of 0 (2 ^ 32)) to.1
+  octet ← field octet_of place.1
+  Ok (Alter which.0 to.0 place.0 octet.0, octet.1)
+
+unfoldable pub cut_at : Spot → Result (PlainEvent × Spot) LineFault
+cut_at s = do
+  which ← field which_of s
+  to ← field party_of which.1
+  keep ← field (number_of 0 (2 ^ 32)) to.1
+  Ok (Cut which.0 to.0 keep.0, keep.1)
+
+unfoldable pub inject_at : Spot → Result (PlainEvent × Spot) LineFault
+inject_at s = do
+  to ← field party_of s
+  medium ← field medium_of to.1
+  octets ← field (sized 0 2048) medium.1
+  Ok (Inject to.0 medium.0 octets.0, octets.1)
+
+-- an event of datagrams that a word names, the word's column first
+unfoldable pub datagram_fields_at : ℕ → List ℕ → Spot → Result (PlainEvent × Spot) LineFault
+datagram_fields_at c w s =
+    if bytes_eq w (codes "send") then send_at s
+    else if bytes_eq w (codes "deliver") then deliver_at s
+    else if bytes_eq w (codes "alter") then alter_at s
+    else if bytes_eq w (codes "cut") then cut_at s
+    else if bytes_eq w (codes "inject") then inject_at s
+    else Err (fault_at c reasons.Word)
+
 -- the event that a word names, the word's column first
 unfoldable pub fields_at : ℕ → List ℕ → Spot → Result (PlainEvent × Spot) LineFault
 fields_at c w s =
-    if bytes_eq w (codes "import") then import_at s
+    if bytes_eq w (codes "cluster") then cluster_at s
+    else if bytes_eq w (codes "import") then import_at s
     else if bytes_eq w (codes "join") then join_at s
     else if bytes_eq w (codes "own") then own_at s
     else if bytes_eq w (codes "draw") then draw_at s
-    else Err (fault_at c reasons.Word)
+    else if bytes_eq w (codes "crash") then crash_at s
+    else datagram_fields_at c w s
 
 unfoldable pub event_at : Spot → Result (PlainEvent × Spot) LineFault
 event_at s = do

@@ -48,6 +48,10 @@ pub enum Event {
         member: u64,
         spir: u64,
     },
+    /// A member ends. Its number does not return.
+    Crash {
+        member: u64,
+    },
     /// An end sends a payload in an ESP packet of the association with this SPIr.
     Send {
         from: Party,

@@ -2,6 +2,7 @@
 
 ghost use Rattle.std.specs.Prelude.{◌≡◌, ◌≢◌, ◌≤◌, ◌<◌, ◌+◌, ◌^◌, [], ◌∷◌, length, take, IfErr, IfNone, IfOk, IfSome, OnErr, OnOk, OnSome, MatchResult, None, Some, Ok, Err};
 ghost use Rattle.event_text.specs.Events.{plain};
+ghost use Rattle.event_text.specs.Grammar.{Fits};
 ghost use Rattle.event_text.specs.Lines.{is_passed, lines_of, unfed};
 ghost use Rattle.event_text.specs.Input.{contents_of, event_in, faulty, left_contents, overlong, said, version_in, with_event};
 ghost use Rattle.line_fields.specs.Fields.{fault_at};
@@ -124,6 +125,7 @@ fn event(
         (λ f. f.reason ≢ LineReason.Memory → event_in place octets line.now ≡ Err f) }
     ensures within { IfOk result (λ _. place.before + octets ≤ 67108864) }
     ensures few { IfOk result (λ event. OnSome event (place.count ≢ 100000)) }
+    ensures fits { IfOk result (λ event. IfSome event (λ x. Fits (plain x.1))) }
 {
     if let Some(fault) = overlong(place.before, octets, line.len()) {
         return Err(fault);
@@ -207,6 +209,7 @@ impl<'a> EventReader<'a> {
         ensures passed { IfOk result (λ line. line ≡ Line.Passed → left_contents self.old ≡ left_contents self.new) }
         ensures event { IfOk result (λ line. (x : Moment × Event) → line ≡ Line.Said x.0 x.1
             → left_contents self.old ≡ with_event (x.0, plain x.1) (left_contents self.new)) }
+        ensures fits { IfOk result (λ line. (x : Moment × Event) → line ≡ Line.Said x.0 x.1 → Fits (plain x.1)) }
         ensures fewer { IfOk result (λ line. line ≢ Line.End → length self.new.lines < length self.old.lines) }
         ensures fault { IfErr result (λ f. f.reason ≢ LineReason.Memory
             → left_contents self.old ≡ record { events = []; fault = Some f }) }
@@ -234,6 +237,7 @@ impl<'a> EventReader<'a> {
     fn take_event(&mut self, alloc: Global) -> Result<Option<(Moment, Event)>, InputFault>
         ensures event { IfOk result (λ next. IfSome next (λ x.
             left_contents self.old ≡ with_event (x.0, plain x.1) (left_contents self.new))) }
+        ensures fits { IfOk result (λ next. IfSome next (λ x. Fits (plain x.1))) }
         ensures fewer { IfOk result (λ next. OnSome next (length self.new.lines < length self.old.lines)) }
         ensures end { IfOk result (λ next. IfNone next (left_contents self.old ≡ record { events = []; fault = None })) }
         ensures fault { IfErr result (λ f. f.reason ≢ LineReason.Memory
@@ -253,6 +257,7 @@ impl<'a> EventReader<'a> {
     pub fn next_event(&mut self, alloc: Global) -> Result<Option<(Moment, Event)>, InputFault>
         ensures event { IfOk result (λ next. IfSome next (λ x.
             left_contents self.old ≡ with_event (x.0, plain x.1) (left_contents self.new))) }
+        ensures fits { IfOk result (λ next. IfSome next (λ x. Fits (plain x.1))) }
         ensures fewer { IfOk result (λ next. OnSome next (length self.new.lines < length self.old.lines)) }
         ensures end { IfOk result (λ next. IfNone next (left_contents self.old ≡ record { events = []; fault = None })) }
         ensures fault { IfErr result (λ f. f.reason ≢ LineReason.Memory

@@ -2,6 +2,7 @@
 #![tactic(auto)]
 
 mod event;
+mod event_fields;
 mod input;
 mod keys;
 mod laws;

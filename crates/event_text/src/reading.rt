@@ -4,17 +4,19 @@ ghost use Rattle.std.specs.Prelude.{◌≡◌, ◌≢◌, length, IfOk, MatchRes
 ghost use Rattle.keeper_book.specs.Counters.{AreWithinEnds};
 ghost use Rattle.keeper_book.specs.Records.{sealing_key_octets};
 ghost use Rattle.event_text.specs.Events.{PlainEvent, plain};
-ghost use Rattle.event_text.specs.Grammar.{EventLine};
+ghost use Rattle.event_text.specs.Grammar.{EventLine, Fits};
 ghost use Rattle.ha_base.specs.declared.outside.Moment.{Moment};
 ghost use Rattle.line_fields.specs.Fields.{Gives, Fails};
-ghost use Rattle.event_text.specs.Reading.{sa_keys_at, child_keys_at, starts_at, import_at, join_at, own_at, draw_at, event_at, moment_at, told_at, line_at};
+ghost use Rattle.event_text.specs.Reading.{sa_keys_at, child_keys_at, starts_at, import_at, join_at, own_at, draw_at, crash_at, cluster_at, send_at, deliver_at, alter_at, cut_at, inject_at, datagram_fields_at, event_at, moment_at, told_at, line_at};
 
 use crate::event::Event;
+use crate::event_fields::{medium, octets_in_memory, party, ticket_key, which, window};
 use crate::keys::sealing_key;
 use ha_base::{ChildKeys, KeySize, Moment, Origin, SaKeys};
 use keeper_book::{Five, Record};
 use line_fields::{
-    Failure, LineFault, LineReason, Words, esp_spi, identity, key_size, number, octets, spi,
+    Failure, LineFault, LineReason, Words, domain_name, esp_spi, identity, key_size, number, octet,
+    octets, short_number, spi,
 };
 use std::alloc::Global;
 
@@ -22,10 +24,16 @@ use std::alloc::Global;
 pub(crate) const LINE_OCTETS: usize = 16_384;
 
 /// Where moments, members' numbers, ESP numbers and IVs end.
-const NUMBERS: u64 = 1 << 63;
+pub(crate) const NUMBERS: u64 = 1 << 63;
 
 /// Where Message IDs end.
 const MESSAGE_IDS: u64 = 0xffff_ffff;
+
+/// How many octets the payload of a packet may have.
+const PAYLOAD_OCTETS: usize = 1_400;
+
+/// How many octets may be injected.
+const INJECTED_OCTETS: usize = 2_048;
 
 #[tactic(auto, unfolding(crate::specs::Reading::sa_keys_at))]
 fn sa_keys(words: &mut Words<'_>, size: KeySize) -> Result<SaKeys, Failure>
@@ -135,12 +143,129 @@ fn draw(words: &mut Words<'_>) -> Result<Event, Failure>
     Ok(Event::Draw { member, spir })
 }
 
+#[tactic(auto, unfolding(crate::specs::Reading::crash_at))]
+fn crash(words: &mut Words<'_>) -> Result<Event, Failure>
+    ensures { Gives plain result words.new (crash_at words.old) }
+{
+    let member = number(words, NUMBERS)?;
+    Ok(Event::Crash { member })
+}
+
+#[tactic(auto, unfolding(crate::specs::Reading::cluster_at))]
+fn cluster(words: &mut Words<'_>) -> Result<Event, Failure>
+    ensures { Gives plain result words.new (cluster_at words.old) }
+{
+    let identity = domain_name(words)?;
+    let lifetime = short_number(words, 1)?;
+    let window = window(words)?;
+    let ticket_key = ticket_key(words)?;
+    Ok(Event::Cluster {
+        identity,
+        lifetime,
+        window,
+        ticket_key,
+    })
+}
+
+#[tactic(auto, unfolding(crate::specs::Reading::send_at))]
+fn send(alloc: Global, words: &mut Words<'_>) -> Result<Event, Failure>
+    ensures { Gives plain result words.new (send_at words.old) }
+{
+    let from = party(words)?;
+    let spir = spi(words)?;
+    let payload = octets_in_memory(alloc, words, PAYLOAD_OCTETS)?;
+    Ok(Event::Send {
+        from,
+        spir,
+        payload,
+    })
+}
+
+#[tactic(auto, unfolding(crate::specs::Reading::deliver_at))]
+fn deliver(words: &mut Words<'_>) -> Result<Event, Failure>
+    ensures { Gives plain result words.new (deliver_at words.old) }
+{
+    let which = which(words)?;
+    let to = party(words)?;
+    Ok(Event::Deliver { which, to })
+}
+
+#[tactic(auto, unfolding(crate::specs::Reading::alter_at))]
+fn alter(words: &mut Words<'_>) -> Result<Event, Failure>
+    ensures { Gives plain result words.new (alter_at words.old) }
+{
+    let which = which(words)?;
+    let to = party(words)?;
+    let place = short_number(words, 0)?;
+    let octet = octet(words)?;
+    Ok(Event::Alter {
+        which,
+        to,
+        place,
+        octet,
+    })
+}
+
+#[tactic(auto, unfolding(crate::specs::Reading::cut_at))]
+fn cut(words: &mut Words<'_>) -> Result<Event, Failure>
+    ensures { Gives plain result words.new (cut_at words.old) }
+{
+    let which = which(words)?;
+    let to = party(words)?;
+    let keep = short_number(words, 0)?;
+    Ok(Event::Cut { which, to, keep })
+}
+
+#[tactic(auto, unfolding(crate::specs::Reading::inject_at))]
+fn inject(alloc: Global, words: &mut Words<'_>) -> Result<Event, Failure>
+    ensures { Gives plain result words.new (inject_at words.old) }
+{
+    let to = party(words)?;
+    let medium = medium(words)?;
+    let octets = octets_in_memory(alloc, words, INJECTED_OCTETS)?;
+    Ok(Event::Inject { to, medium, octets })
+}
+
+/// An event of datagrams, by its word.
+#[tactic(auto, unfolding(crate::specs::Reading::datagram_fields_at))]
+fn datagram_event(
+    alloc: Global,
+    column: u32,
+    word: &[u8],
+    words: &mut Words<'_>,
+) -> Result<Event, Failure>
+    ensures { Gives plain result words.new (datagram_fields_at column word.now words.old) }
+{
+    if word == b"send".as_slice() {
+        return send(alloc, words);
+    }
+    if word == b"deliver".as_slice() {
+        return deliver(words);
+    }
+    if word == b"alter".as_slice() {
+        return alter(words);
+    }
+    if word == b"cut".as_slice() {
+        return cut(words);
+    }
+    if word == b"inject".as_slice() {
+        return inject(alloc, words);
+    }
+    Err(Failure::At(LineFault {
+        column,
+        reason: LineReason::Word,
+    }))
+}
+
 #[tactic(auto, unfolding(crate::specs::Reading::event_at, crate::specs::Reading::fields_at))]
-fn event(words: &mut Words<'_>) -> Result<Event, Failure>
+fn event(alloc: Global, words: &mut Words<'_>) -> Result<Event, Failure>
     ensures { Gives plain result words.new (event_at words.old) }
 {
     let column = words.column();
     let word = words.word()?;
+    if word == b"cluster".as_slice() {
+        return cluster(words);
+    }
     if word == b"import".as_slice() {
         return import(words);
     }
@@ -153,10 +278,10 @@ fn event(words: &mut Words<'_>) -> Result<Event, Failure>
     if word == b"draw".as_slice() {
         return draw(words);
     }
-    Err(Failure::At(LineFault {
-        column,
-        reason: LineReason::Word,
-    }))
+    if word == b"crash".as_slice() {
+        return crash(words);
+    }
+    datagram_event(alloc, column, word, words)
 }
 
 #[tactic(auto, unfolding(crate::specs::Reading::moment_at))]
@@ -175,7 +300,7 @@ fn moment(words: &mut Words<'_>, last: Moment) -> Result<u64, Failure>
 }
 
 #[tactic(auto, unfolding(crate::specs::Reading::line_at, crate::specs::Reading::told_at))]
-fn told(line: &[u8], last: Moment) -> Result<(Moment, Event), Failure>
+fn told(alloc: Global, line: &[u8], last: Moment) -> Result<(Moment, Event), Failure>
     ensures { MatchResult result (λ x. line_at last.0 line.now ≡ Ok (x.0, plain x.1)) (λ e. Fails e (line_at last.0 line.now)) }
 {
     if line.len() > LINE_OCTETS {
@@ -186,7 +311,7 @@ fn told(line: &[u8], last: Moment) -> Result<(Moment, Event), Failure>
     }
     let mut words = Words::new(line);
     let seconds = moment(&mut words, last)?;
-    let event = event(&mut words)?;
+    let event = event(alloc, &mut words)?;
     words.end()?;
     Ok((Moment(seconds), event))
 }
@@ -194,7 +319,7 @@ fn told(line: &[u8], last: Moment) -> Result<(Moment, Event), Failure>
 /// The event that a line spells, with its moment, in seconds. `last` is the moment of the event before, or 0.
 ///
 /// An error is the first fault of the line from left to right, or want of memory.
-pub fn read_line(_alloc: Global, line: &[u8], last: Moment) -> Result<(Moment, Event), LineFault>
+pub fn read_line(alloc: Global, line: &[u8], last: Moment) -> Result<(Moment, Event), LineFault>
     // Which event it is, and else which fault.
     ensures exact { MatchResult result (λ x. line_at last.0 line.now ≡ Ok (x.0, plain x.1))
         (λ f. f.reason ≢ LineReason.Memory → line_at last.0 line.now ≡ Err f) }
@@ -202,11 +327,14 @@ pub fn read_line(_alloc: Global, line: &[u8], last: Moment) -> Result<(Moment, E
     // What is read is spelled so.
     ensures found { IfOk result (λ x. EventLine last.0 line.now x.0 (plain x.1)) }
 
+    // Its fields are in their ranges.
+    ensures fits { IfOk result (λ x. Fits (plain x.1)) }
+
     // What is spelled so is read, unless memory runs out.
     ensures only { (m : Moment) (e : PlainEvent) → EventLine last.0 line.now m e
         → MatchResult result (λ x. (x.0 ≡ m) × (plain x.1 ≡ e)) (λ f. f.reason ≡ LineReason.Memory) }
 {
-    match told(line, last) {
+    match told(alloc, line, last) {
         Ok(read) => Ok(read),
         Err(Failure::At(fault)) => Err(fault),
         Err(Failure::OutOfMemory) => Err(LineFault {

@@ -10,6 +10,8 @@ pub enum Verdict {
     Configured,
     /// An association was entered, at the keeper and at the peer.
     Entered,
+    /// A member ended.
+    Down,
     /// The number of the member that joined.
     Member(u32),
     /// A member took over: the epoch that began, and its bases.
@@ -68,6 +70,8 @@ pub enum Refusal {
     SpiInUse,
     /// There is no such member.
     NoMember,
+    /// The member has ended.
+    Down,
     /// There is no such datagram.
     NoDatagram,
     /// The datagram has no such octet.

@@ -5,6 +5,7 @@ use Rattle.std.proofs.lemmas.Fmt.{decimal-digits_value, digits_decimal, digits_v
 use Rattle.std.proofs.lemmas.Nat.{be_bytes_4, be_bytes_8, from_be_bytes-to_be_bytes_4, from_be_bytes-to_be_bytes_8}
 use Rattle.std.proofs.lemmas.Slice.Eq.{bytes_eq-Decides}
 use Rattle.std.specs.Fmt.{decimal}
+use Rattle.std.specs.Prelude.{slice_index}
 use Rattle.std.specs.Int.{w32, w64, byte_at, bytes_high_first, from_be_bytes, to_be_bytes}
 use Rattle.std.specs.Str.{bytes_eq}
 use Rattle.std.specs.Str.Parse.{digits_value}
@@ -18,8 +19,8 @@ use Rattle.line_fields.specs.declared.fault.LineReason.{LineReason}
 use Rattle.line_fields.specs.declared.fault.LineReason.TheVariants as reasons
 use Rattle.line_fields.specs.Words.{Spot}
 use Rattle.line_fields.specs.Numbers.{begins_well, is_numeral, numeral_of, in_range, number_of}
-use Rattle.line_fields.specs.Octets.{IsOctets, dash, decoded, esp_spi_of, esp_spi_text, is_hex, octets_in, octets_text, size_of, sized, spells_octets, spi_of, spi_text}
-use Rattle.line_fields.specs.Identities.{Form, IsIdentity, IsOfForm, behind_prefix, fqdn, identity_in, identity_of, identity_text, ipv4, ipv6, key, mail, of_form, prefix_of}
+use Rattle.line_fields.specs.Octets.{IsOctets, dash, decoded, octet_in, octet_of, esp_spi_of, esp_spi_text, is_hex, octets_in, octets_text, size_of, sized, spells_octets, spi_of, spi_text}
+use Rattle.line_fields.specs.Identities.{Form, IsIdentity, IsOfForm, behind_prefix, domain_name_of, fqdn, identity_in, identity_of, identity_text, ipv4, ipv6, key, mail, of_form, prefix_of}
 use Rattle.line_fields.specs.Fields.{◌>>=◌, behind, field, key_size_of, located, word_at, word_in}
 use Rattle.line_fields.specs.Fields.{size_text}
 use Rattle.line_fields.proofs.NumberLaws.{numeral_parts, own}
@@ -48,21 +49,23 @@ some_is : (b : Bool) (v n : ℕ) → cond b (Some v) None ≡ Some n → (b ≡ 
 some_is true v n e = (refl, cc)
 some_is false v n e = absurd cc
 
-in_range_takes : (limit : ℕ) (o : Option ℕ) (n : ℕ) → in_range 0 limit o ≡ Ok n → (o ≡ Some n) × (n < limit)
-in_range_takes limit None n e = absurd cc
-in_range_takes limit (Some m) n e =
-    pick (leb 0 m && ltb m limit) (Ok m) (Err reasons.Number) (Ok n) e
-    (λ hit same. (ap Some (ok_is m n same), subst (λ (k : ℕ). k < limit) (ok_is m n same) (ltb-true m limit (and_parts (leb 0 m) (ltb m limit) hit).1)))
+in_range_takes : (least limit : ℕ) (o : Option ℕ) (n : ℕ) → in_range least limit o ≡ Ok n → (o ≡ Some n) × (least ≤ n) × (n < limit)
+in_range_takes least limit None n e = absurd cc
+in_range_takes least limit (Some m) n e =
+    pick (leb least m && ltb m limit) (Ok m) (Err reasons.Number) (Ok n) e
+    (λ hit same.
+    let tests = and_parts (leb least m) (ltb m limit) hit in
+    subst (λ (k : ℕ). (Some m ≡ Some k) × (least ≤ k) × (k < limit)) (ok_is m n same) (refl, leb-true least m tests.0, ltb-true m limit tests.1))
     (λ miss same. absurd cc)
 
-number_takes : (limit : ℕ) (w : List ℕ) (n : ℕ) → number_of 0 limit w ≡ Ok n → (w ≡ decimal n) × (n < limit)
-number_takes limit w n e =
-    let range = in_range_takes limit (numeral_of w) n e in
+number_takes : (least limit : ℕ) (w : List ℕ) (n : ℕ) → number_of least limit w ≡ Ok n → (w ≡ decimal n) × (least ≤ n) × (n < limit)
+number_takes least limit w n e =
+    let range = in_range_takes least limit (numeral_of w) n e in
     let some = some_is (is_numeral w && ltb (digits_value 10 w) (2 ^ 64)) (digits_value 10 w) n range.0 in
     let tests = and_parts (is_numeral w) (ltb (digits_value 10 w) (2 ^ 64)) some.0 in
     let parts = numeral_parts w tests.0 in
     let back = decimal-digits_value own w parts.digits parts.some parts.zero_alone (ltb-true _ _ tests.1) in
-    (sym back ∙ ap decimal some.1, range.1)
+    (sym back ∙ ap decimal some.1, range.1, range.2)
 
 well_from : (w : List ℕ) → 0 < length w → (get_or w 0 0 ≡ 48 → length w ≡ 1) → begins_well w ≡ true
 well_from [] some zero_alone = absurd (omega arith)
@@ -73,16 +76,21 @@ decimal_well : (n : ℕ) → n < 2 ^ 64 → get_or (decimal n) 0 0 ≡ 48 → le
 decimal_well zero lt e = ap length (decimal_digit 0 (omega arith))
 decimal_well (suc n) lt e = let first = first_decimal (suc n) (omega arith) lt in absurd (omega arith)
 
-number_again : (limit n : ℕ) → limit ≤ 2 ^ 64 → n < limit → number_of 0 limit (decimal n) ≡ Ok n
-number_again limit n small lt =
+number_again : (least limit n : ℕ) → limit ≤ 2 ^ 64 → least ≤ n → n < limit → number_of least limit (decimal n) ≡ Ok n
+number_again least limit n small le lt =
     let wide : n < 2 ^ 64 = omega arith in
     let digits = digits_decimal own n wide in
     let well = well_from (decimal n) (decimal_nonempty n wide) (decimal_well n wide) in
     let value = digits_value-decimal own n wide in
-    rw (digits, well, value, lt-ltb n (2 ^ 64) wide, le-leb 0 n (omega arith), lt-ltb n limit lt) refl
+    rw (digits, well, value, lt-ltb n (2 ^ 64) wide, le-leb least n le, lt-ltb n limit lt) refl
 
 pub number_field : (limit : ℕ) → limit ≤ 2 ^ 64 → IsField (number_of 0 limit) decimal (λ n. n < limit)
-number_field limit small = record { takes = number_takes limit; again = λ n lt. number_again limit n small lt }
+number_field limit small =
+    record { takes = λ w n e. let took = number_takes 0 limit w n e in (took.0, took.2); again = λ n lt. number_again 0 limit n small (omega arith) lt }
+
+pub range_field : (least limit : ℕ) → limit ≤ 2 ^ 64 → IsField (number_of least limit) decimal (λ n. (least ≤ n) × (n < limit))
+range_field least limit small =
+    record { takes = λ w n e. let took = number_takes least limit w n e in (took.0, (took.1, took.2)); again = λ n h. number_again least limit n small h.0 h.1 }
 
 -- ---- octets
 
@@ -138,6 +146,33 @@ sized_again least most (b ∷ bs) fits =
 
 pub sized_field : (least most : ℕ) → IsField (sized least most) octets_text (IsOctets least most)
 sized_field least most = record { takes = sized_takes least most; again = sized_again least most }
+
+octet_is : (r : Result (List ℕ) LineReason) (n : ℕ) → octet_in r ≡ Ok n → (xs : List ℕ) × (r ≡ Ok xs) × (slice_index xs 0 ≡ n)
+octet_is (Ok xs) n e = (xs, refl, ok_is (slice_index xs 0) n e)
+octet_is (Err reason) n e = absurd cc
+
+-- a list of one octet is that octet's
+one_octet : (xs : List ℕ) (n : ℕ) → IsOctets 1 1 xs → slice_index xs 0 ≡ n → (xs ≡ n ∷ []) × (n < 256)
+one_octet [] n h e = absurd (let some = h.least_size in omega arith)
+one_octet (b ∷ []) n h e = (ap (λ (c : ℕ). c ∷ []) e, rw (← e) (h.bytes 0))
+one_octet (b ∷ c ∷ cs) n h e = absurd (let few = h.most_size in omega arith)
+
+octet_takes : (w : List ℕ) (n : ℕ) → octet_of w ≡ Ok n → (w ≡ octets_text (n ∷ [])) × (n < 256)
+octet_takes w n e =
+    let is = octet_is (sized 1 1 w) n e in
+    let took = sized_takes 1 1 w is.0 is.1 in
+    let one = one_octet is.0 n took.1 is.2 in
+    (took.0 ∙ ap octets_text one.0, one.1)
+
+pub one_byte : (n : ℕ) → n < 256 → IsBytes (n ∷ [])
+one_byte n lt zero = lt
+one_byte n lt (suc i) = omega arith
+
+octet_again : (n : ℕ) → n < 256 → octet_of (octets_text (n ∷ [])) ≡ Ok n
+octet_again n lt = ap octet_in (sized_again 1 1 (n ∷ []) (record { least_size = omega arith; most_size = omega arith; bytes = one_byte n lt }))
+
+pub octet_field : IsField octet_of (λ n. octets_text (n ∷ [])) (λ n. n < 256)
+octet_field = record { takes = octet_takes; again = octet_again }
 
 -- ---- SPIs
 
@@ -257,6 +292,16 @@ identity_again i (inr (inr (inr (inr h)))) = rw (h.kind, sized_again 1 64 i.octe
 
 pub identity_field : IsField identity_of identity_text IsIdentity
 identity_field = record { takes = identity_takes; again = identity_again }
+
+domain_name_takes : (w : List ℕ) (i : Identity) → domain_name_of w ≡ Ok i → (w ≡ identity_text i) × IsOfForm fqdn i
+domain_name_takes w i e =
+    of_form_takes fqdn (codes "fqdn:") w _ _ i refl e (λ t h. (formed fqdn i w refl t h, h)) (λ e1. absurd cc)
+
+domain_name_again : (i : Identity) → IsOfForm fqdn i → domain_name_of (identity_text i) ≡ Ok i
+domain_name_again i h = rw (h.kind, sized_again 1 64 i.octets h.octets) refl
+
+pub domain_name_field : IsField domain_name_of identity_text (IsOfForm fqdn)
+domain_name_field = record { takes = domain_name_takes; again = domain_name_again }
 
 -- ---- words in a row
 

@@ -12,11 +12,11 @@ use Rattle.ha_base.specs.declared.key_material.KeySize.{KeySize}
 use Rattle.ha_base.specs.declared.key_material.KeySize.TheVariants.{Bits128, Bits256}
 use Rattle.line_fields.specs.Numbers.{is_digit}
 use Rattle.line_fields.specs.Octets.{IsOctets, esp_spi_text, is_lower, octets_text, spi_text}
-use Rattle.line_fields.specs.Identities.{IsIdentity, identity_text}
+use Rattle.line_fields.specs.Identities.{IsIdentity, IsOfForm, fqdn, identity_text}
 use Rattle.line_fields.specs.Fields.{size_text}
 use Rattle.line_fields.proofs.NumberLaws.{own}
 use Rattle.line_fields.proofs.OctetLaws.{lower-encode}
-use Rattle.line_fields.proofs.FieldLaws.{bytes_high}
+use Rattle.line_fields.proofs.FieldLaws.{bytes_high, one_byte}
 
 -- neither a space nor a line feed
 abbrev pub plain_octet : ℕ → Bool
@@ -69,6 +69,12 @@ word_identity i (inr (inl h)) = rw h.kind (word_octets 16 16 i.octets h.octets)
 word_identity i (inr (inr (inl h))) = rw h.kind (word_octets 1 64 i.octets h.octets)
 word_identity i (inr (inr (inr (inl h)))) = rw h.kind (word_octets 1 64 i.octets h.octets)
 word_identity i (inr (inr (inr (inr h)))) = rw h.kind (word_octets 1 64 i.octets h.octets)
+
+pub word_domain_name : (i : Identity) → IsOfForm fqdn i → is_plain (identity_text i) ≡ true
+word_domain_name i h = word_identity i (inr (inr (inl h)))
+
+pub word_octet : (n : ℕ) → n < 256 → is_plain (octets_text (n ∷ [])) ≡ true
+word_octet n lt = word_encode (n ∷ []) (one_byte n lt)
 
 pub number_word : (n limit : ℕ) → n < limit → limit ≤ 2 ^ 64 → is_plain (decimal n) ≡ true
 number_word n limit lt small = word_decimal n (omega arith)

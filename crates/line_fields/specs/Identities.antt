@@ -57,6 +57,10 @@ abbrev pub of_form : Form → Option (List ℕ) → Result Identity LineReason �
 of_form form (Some octets) other = identity_in form.kind (sized form.least form.most octets)
 of_form form None other = other
 
+-- a domain name
+abbrev pub domain_name_of : List ℕ → Result Identity LineReason
+domain_name_of w = of_form fqdn (behind_prefix (codes "fqdn:") w) (Err Hex)
+
 -- an identity of one of the five types
 abbrev pub identity_of : List ℕ → Result Identity LineReason
 identity_of w =

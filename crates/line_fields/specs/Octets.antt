@@ -1,5 +1,5 @@
 -- Octets as lower-case hexadecimal words.
-use Rattle.std.specs.Prelude.{ℕ, ◌≤◌, ◌+◌, ◌-◌, ◌*◌, ◌/◌, ◌%◌, ◌==◌, ◌&&◌, ◌||◌, nat_lt, nat_le, Bool, List, [], ◌∷◌, length, codes, Result, Ok, Err, if◌then◌else◌}
+use Rattle.std.specs.Prelude.{ℕ, ◌≤◌, ◌+◌, ◌-◌, ◌*◌, ◌/◌, ◌%◌, ◌==◌, ◌&&◌, ◌||◌, nat_lt, nat_le, Bool, List, [], ◌∷◌, length, slice_index, codes, Result, Ok, Err, if◌then◌else◌}
 use Rattle.std.specs.Int.{w32, w64, to_be_bytes, from_be_bytes}
 use Rattle.std.specs.List.{list_all}
 use Rattle.std.specs.Str.{bytes_eq}
@@ -51,6 +51,14 @@ octets_in w (Err reason) = Err reason
 -- octets of a number from least to most
 abbrev pub sized : ℕ → ℕ → List ℕ → Result (List ℕ) LineReason
 sized least most w = octets_in w (size_of least most w)
+
+abbrev pub octet_in : Result (List ℕ) LineReason → Result ℕ LineReason
+octet_in (Ok octets) = Ok (slice_index octets 0)
+octet_in (Err reason) = Err reason
+
+-- one octet
+abbrev pub octet_of : List ℕ → Result ℕ LineReason
+octet_of w = octet_in (sized 1 1 w)
 
 abbrev pub spi_text : ℕ → List ℕ
 spi_text n = encode_lower (to_be_bytes w64 n)

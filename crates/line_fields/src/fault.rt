@@ -5,6 +5,7 @@ ghost use Rattle.line_fields.specs.Faults.{reason_name};
 ghost use Rattle.line_fields.specs.Fields.{fault_at};
 ghost use Rattle.line_fields.specs.declared.fault.Failure.TheVariants.{OutOfMemory};
 
+use ha_base::Memory;
 use std::alloc::{AllocError, AllocFailed};
 use thiserror::Error;
 
@@ -90,8 +91,16 @@ impl<T: Drop> From<AllocFailed<T>> for Failure {
     }
 }
 
+impl From<Memory> for Failure {
+    ghost from_gives = { λ _ e. e ≡ OutOfMemory };
+
+    fn from(_e: Memory) -> Failure {
+        Failure::OutOfMemory
+    }
+}
+
 /// What a word's reader answered, or the fault at the word's column.
-pub(crate) fn at<T>(column: u32, read: Result<T, LineReason>) -> Result<T, Failure>
+pub fn at<T>(column: u32, read: Result<T, LineReason>) -> Result<T, Failure>
     ensures { MatchResult read (λ x. result ≡ Ok x) (λ r. result ≡ Err (Failure.At (fault_at column r))) }
 {
     match read {

@@ -3,14 +3,14 @@
 
 ghost use Rattle.std.specs.Prelude.{◌≡◌, ◌≤◌, ◌<◌, ◌^◌, length, IfOk};
 ghost use Rattle.line_fields.specs.Numbers.{number_of};
-ghost use Rattle.line_fields.specs.Octets.{esp_spi_of, sized, spi_of};
-ghost use Rattle.line_fields.specs.Identities.{identity_of};
+ghost use Rattle.line_fields.specs.Octets.{esp_spi_of, octet_of, sized, spi_of};
+ghost use Rattle.line_fields.specs.Identities.{domain_name_of, identity_of};
 ghost use Rattle.line_fields.specs.Fields.{Gives, field, key_size_of};
 
 use crate::fault::{Failure, LineReason, at};
-use crate::identities::identity_word;
-use crate::numbers::number_below;
-use crate::octet_words::{array_word, esp_spi_word, list_word, spi_word};
+use crate::identities::{domain_name_word, identity_word};
+use crate::numbers::{number_word, short_word};
+use crate::octet_words::{array_word, esp_spi_word, list_word, octet_word, spi_word};
 use crate::words::Words;
 use ha_base::{Identity, KeySize, OctetList};
 
@@ -22,7 +22,17 @@ pub fn number(words: &mut Words<'_>, limit: u64) -> Result<u64, Failure>
 {
     let column = words.column();
     let word = words.word()?;
-    at(column, number_below(word, limit))
+    at(column, number_word(word, 0, limit))
+}
+
+/// A decimal number below 2^32, from `least` on.
+#[tactic(auto, unfolding(crate::specs::Fields::field))]
+pub fn short_number(words: &mut Words<'_>, least: u64) -> Result<u32, Failure>
+    ensures { Gives (λ x. x) result words.new (field (number_of least (2 ^ 32)) words.old) }
+{
+    let column = words.column();
+    let word = words.word()?;
+    at(column, short_word(word, least))
 }
 
 /// An SPI of the IKE header (RFC 7296, section 3.1), in 16 digits.
@@ -53,6 +63,16 @@ pub fn octets<const N: usize>(words: &mut Words<'_>) -> Result<[u8; N], Failure>
     let column = words.column();
     let word = words.word()?;
     at(column, array_word(word))
+}
+
+/// One octet.
+#[tactic(auto, unfolding(crate::specs::Fields::field))]
+pub fn octet(words: &mut Words<'_>) -> Result<u8, Failure>
+    ensures { Gives (λ x. x) result words.new (field octet_of words.old) }
+{
+    let column = words.column();
+    let word = words.word()?;
+    at(column, octet_word(word))
 }
 
 fn size_word(word: &[u8]) -> Result<KeySize, LineReason>
@@ -101,4 +121,14 @@ pub fn identity(words: &mut Words<'_>) -> Result<Identity, Failure>
     let column = words.column();
     let word = words.word()?;
     at(column, identity_word(word))
+}
+
+/// An identity that is a fully-qualified domain name.
+#[tactic(auto, unfolding(crate::specs::Fields::field))]
+pub fn domain_name(words: &mut Words<'_>) -> Result<Identity, Failure>
+    ensures { Gives (λ x. x) result words.new (field domain_name_of words.old) }
+{
+    let column = words.column();
+    let word = words.word()?;
+    at(column, domain_name_word(word))
 }

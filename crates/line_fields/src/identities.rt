@@ -3,7 +3,7 @@
 ghost use Rattle.std.specs.Prelude.{◌≡◌, ◌≤◌};
 ghost use Rattle.std.specs.Option.{option_copied};
 ghost use Rattle.line_fields.specs.Octets.{sized};
-ghost use Rattle.line_fields.specs.Identities.{behind_prefix, identity_in, identity_of};
+ghost use Rattle.line_fields.specs.Identities.{behind_prefix, domain_name_of, identity_in, identity_of};
 
 use crate::fault::LineReason;
 use crate::octet_words::copied_word;
@@ -43,6 +43,16 @@ pub(crate) fn identity_word(word: &[u8]) -> Result<Identity, LineReason>
     }
     if let Some(octets) = behind(b"key:", word) {
         return with_octets(11, 1, 64, octets);
+    }
+    Err(LineReason::Hex)
+}
+
+/// An identity that is a domain name.
+pub(crate) fn domain_name_word(word: &[u8]) -> Result<Identity, LineReason>
+    ensures { result ≡ domain_name_of word.now }
+{
+    if let Some(octets) = behind(b"fqdn:", word) {
+        return with_octets(2, 1, 64, octets);
     }
     Err(LineReason::Hex)
 }

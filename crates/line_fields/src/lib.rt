@@ -9,7 +9,11 @@ mod octet_words;
 mod split;
 mod words;
 
-pub use fault::{Failure, LineFault, LineReason};
-pub use fields::{esp_spi, identity, key_size, number, octet_list, octets, spi};
+pub use fault::{Failure, LineFault, LineReason, at};
+pub use fields::{
+    domain_name, esp_spi, identity, key_size, number, octet, octet_list, octets, short_number, spi,
+};
+pub use numbers::{number_word, short_word};
+pub use octet_words::list_word;
 pub use split::octets_before;
 pub use words::Words;

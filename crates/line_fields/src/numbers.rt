@@ -1,6 +1,6 @@
 //! Numbers as decimal words.
 
-ghost use Rattle.std.specs.Prelude.{◌≡◌, IsTrue};
+ghost use Rattle.std.specs.Prelude.{◌≡◌, ◌^◌, ◌≤◌, ◌<◌, IfOk, IsTrue};
 ghost use Rattle.std.specs.List.{list_all};
 ghost use Rattle.line_fields.specs.Numbers.{is_digit, is_numeral, numeral_of, number_of};
 
@@ -46,12 +46,21 @@ fn numeral(word: &[u8]) -> Option<u64>
     text.parse::<u64>().ok()
 }
 
-/// A number below a limit.
-pub(crate) fn number_below(word: &[u8], limit: u64) -> Result<u64, LineReason>
-    ensures { result ≡ number_of 0 limit word.now }
+/// A number from `least` on, and below a limit.
+pub fn number_word(word: &[u8], least: u64, limit: u64) -> Result<u64, LineReason>
+    ensures value { result ≡ number_of least limit word.now }
+    ensures within { IfOk result (λ number. (least ≤ number) × (number < limit)) }
 {
     match numeral(word) {
-        Some(number) if number < limit => Ok(number),
+        Some(number) if number >= least && number < limit => Ok(number),
         _ => Err(LineReason::Number),
     }
+}
+
+/// A number below 2^32, from `least` on.
+pub fn short_word(word: &[u8], least: u64) -> Result<u32, LineReason>
+    ensures { result ≡ number_of least (2 ^ 32) word.now }
+{
+    let number = number_word(word, least, 1 << 32)?;
+    Ok(number as u32)
 }

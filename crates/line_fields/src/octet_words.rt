@@ -2,7 +2,7 @@
 
 ghost use Rattle.std.specs.Prelude.{◌≡◌, ◌≤◌, ◌/◌, true, length, IfOk, OnOk};
 ghost use Rattle.std.specs.List.{list_all};
-ghost use Rattle.line_fields.specs.Octets.{decoded, esp_spi_of, is_hex, is_lower, spells_octets, size_of, sized, spi_of};
+ghost use Rattle.line_fields.specs.Octets.{decoded, esp_spi_of, is_hex, is_lower, octet_of, spells_octets, size_of, sized, spi_of};
 
 use crate::fault::LineReason;
 use ha_base::{OctetArray, OctetList};
@@ -78,8 +78,16 @@ pub(crate) fn array_word<const N: usize>(word: &[u8]) -> Result<[u8; N], LineRea
     Ok(octets)
 }
 
+/// One octet.
+pub(crate) fn octet_word(word: &[u8]) -> Result<u8, LineReason>
+    ensures { result ≡ octet_of word.now }
+{
+    let [octet]: [u8; 1] = array_word(word)?;
+    Ok(octet)
+}
+
 /// Octets of a number from `least` to `most`.
-pub(crate) fn list_word<const N: usize>(
+pub fn list_word<const N: usize>(
     word: &[u8],
     least: usize,
     most: usize,

@@ -136,6 +136,7 @@ refusal_words refusals.Unknown = codes "unknown" ∷ []
 refusal_words (refusals.Full limit) = codes "full" ∷ decimal limit ∷ []
 refusal_words refusals.SpiInUse = codes "spi-in-use" ∷ []
 refusal_words refusals.NoMember = codes "no-member" ∷ []
+refusal_words refusals.Down = codes "down" ∷ []
 refusal_words refusals.NoDatagram = codes "no-datagram" ∷ []
 refusal_words refusals.NoOctet = codes "no-octet" ∷ []
 refusal_words refusals.DatagramsFull = codes "datagrams-full" ∷ []
@@ -154,6 +155,7 @@ drop_word drops.Padding = codes "padding"
 
 abbrev pub verdict_words : Verdict → List (List ℕ)
 verdict_words verdicts.Configured = codes "configured" ∷ []
+verdict_words verdicts.Down = codes "down" ∷ []
 verdict_words verdicts.Entered = codes "entered" ∷ []
 verdict_words (verdicts.Member member) = codes "member" ∷ decimal member ∷ []
 verdict_words (verdicts.Owned epoch bases) = codes "owned" ∷ decimal epoch ∷ five_words bases

@@ -143,6 +143,10 @@ pub(crate) fn put_event(alloc: Global, out: &mut Octets, event: &Event) -> Resul
             put_number(alloc, out, *member)?;
             put_spi(alloc, out, *spir)
         }
+        Event::Crash { member } => {
+            put_word(out, b"crash")?;
+            put_number(alloc, out, *member)
+        }
         Event::Send {
             from,
             spir,

@@ -170,6 +170,7 @@ fn put_refusal(alloc: Global, out: &mut Octets, refusal: Refusal) -> Result<(), 
         }
         Refusal::SpiInUse => put_word(out, b"spi-in-use"),
         Refusal::NoMember => put_word(out, b"no-member"),
+        Refusal::Down => put_word(out, b"down"),
         Refusal::NoDatagram => put_word(out, b"no-datagram"),
         Refusal::NoOctet => put_word(out, b"no-octet"),
         Refusal::DatagramsFull => put_word(out, b"datagrams-full"),
@@ -201,6 +202,7 @@ fn put_verdict(alloc: Global, out: &mut Octets, verdict: &Verdict) -> Result<(),
 {
     match verdict {
         Verdict::Configured => put_word(out, b"configured"),
+        Verdict::Down => put_word(out, b"down"),
         Verdict::Entered => put_word(out, b"entered"),
         Verdict::Member(member) => {
             put_word(out, b"member")?;

@@ -5,6 +5,9 @@ use Rattle.event_text.proofs.reading.read_line.Goals as goal
 pub returns-in-Ok-clause-found : goal.returns-in-Ok-clause-found
 returns-in-Ok-clause-found c = line_takes _ _ _ c.in-Ok.ensures
 
+pub returns-in-Ok-clause-fits : goal.returns-in-Ok-clause-fits
+returns-in-Ok-clause-fits c = let said = line_takes _ _ _ c.in-Ok.ensures in said.fits
+
 pub returns-in-Ok-clause-only : goal.returns-in-Ok-clause-only
 returns-in-Ok-clause-only c = λ m e h. one_event _ _ _ m _ e c.in-Ok.ensures h
 
