@@ -1,1 +1,4 @@
+pub mod GenuinePackets
+pub mod KeySizes
+pub mod SlotTies
 pub mod Ties

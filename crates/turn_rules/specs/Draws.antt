@@ -96,16 +96,16 @@ DrawsTo held calls verdict now = Ready (reach_of held counter.EspOut) (five_at h
       highs = with_five counter.EspOut high held.highs;
     }))
 
--- what a takeover comes out as
-abbrev pub Grants : KeeperAnswer → Verdict → Type 0
-Grants answer.Done verdict = ⊥
-Grants (answer.Taken taken) verdict = verdict ≡ out.Owned taken.epoch taken.bases
-Grants (answer.Refused why) verdict = MatchOption (refusal_of_fault why) ⊥ (λ r. verdict ≡ out.Refused r)
+-- what a takeover comes out as; what is granted is the record of the association
+abbrev pub Grants : ℕ → KeeperAnswer → Verdict → Type 0
+Grants spir answer.Done verdict = ⊥
+Grants spir (answer.Taken taken) verdict = (taken.sa.spir ≡ spir) × (verdict ≡ out.Owned taken.epoch taken.bases)
+Grants spir (answer.Refused why) verdict = MatchOption (refusal_of_fault why) ⊥ (λ r. verdict ≡ out.Refused r)
 
 -- an association is taken over by one call
 abbrev pub TakesOver : ℕ → ℕ → List Call → Verdict → Type 0
 TakesOver spir member [] verdict = ⊥
-TakesOver spir member (call ∷ []) verdict = (call.asked ≡ ask.TakeOver spir member) × Grants (seen call) verdict
+TakesOver spir member (call ∷ []) verdict = (call.asked ≡ ask.TakeOver spir member) × Grants spir (seen call) verdict
 TakesOver spir member (call ∷ other ∷ more) verdict = ⊥
 
 -- what an import comes out as

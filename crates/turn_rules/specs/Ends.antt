@@ -25,6 +25,7 @@ is_performer (Member a) (Member b) = a == b
 -- the refusals that the run itself makes, before any end sees the event
 abbrev pub is_of_run : Refusal → Bool
 is_of_run refusal.NoMember = true
+is_of_run refusal.Down = true
 is_of_run refusal.NoDatagram = true
 is_of_run refusal.NoOctet = true
 is_of_run refusal.DatagramsFull = true
@@ -50,6 +51,7 @@ performer_of (event.Join fresh) (out.Member number) = Some (Member number)
 performer_of (event.Join fresh) verdict = None
 performer_of (event.Own member spir) verdict = Some (Member member)
 performer_of (event.Draw member spir) verdict = Some (Member member)
+performer_of (event.Crash member) verdict = Some (Member member)
 performer_of (event.Send from spir payload) verdict = Some (end_of_party from)
 performer_of (event.Deliver which to) verdict = Some (end_of_party to)
 performer_of (event.Alter which to place octet) verdict = Some (end_of_party to)

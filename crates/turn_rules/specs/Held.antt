@@ -4,6 +4,7 @@ use Rattle.std.specs.List.{filter_map, flat_map}
 use Rattle.std.specs.Option.{option_map}
 use Rattle.event_text.specs.declared.event.Event.{Event}
 use Rattle.event_text.specs.declared.event.Event.TheVariants as event
+use Rattle.event_text.specs.declared.event.Party.TheVariants as parties
 use Rattle.event_text.specs.declared.turn.Turn.{Turn}
 use Rattle.event_text.specs.declared.verdict.Verdict.{Verdict}
 use Rattle.event_text.specs.declared.verdict.Verdict.TheVariants as out
@@ -73,6 +74,7 @@ covered spir c asked answered = None
 -- the number of the counter of the association that an event used
 abbrev pub used : ℕ → Counter → Event → Verdict → Option ℕ
 used spir counter.EspOut (event.Draw member asked) (out.Number n) = if asked == spir then Some n else None
+used spir counter.EspOut (event.Send (parties.Member member) asked payload) (out.Sent n) = if asked == spir then Some n else None
 used spir c event verdict = None
 
 abbrev pub is_of_spir : ℕ → Option ℕ → Bool

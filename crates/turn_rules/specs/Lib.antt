@@ -1,12 +1,16 @@
+pub mod Datagrams
+pub mod Deliveries
 pub mod Draws
 pub mod Ends
 pub mod Fits
+pub mod Genuine
 pub mod Held
 pub mod Local
 pub mod MemberPackets
 pub mod Packets
 pub mod Peers
 pub mod Safe
+pub mod Scenes
 pub mod Services
 pub mod Slots
 pub mod Steps

@@ -5,7 +5,6 @@ use Rattle.event_text.specs.declared.turn.Turn.{Turn}
 use Rattle.keeper_book.specs.Book.{Book, StandsFor}
 use Rattle.keeper_book.specs.declared.calls.Call.{Call}
 use Rattle.turn_rules.specs.Fits.{Fits}
-use Rattle.turn_rules.specs.Steps.{IsQuiet}
 
 -- no answer was hidden from the end that asked
 abbrev pub AreShown : List Call → Type 0
@@ -13,9 +12,8 @@ AreShown calls = AllByRecursion (λ call. call.hidden ≡ false) calls
 
 -- a turn is explained by the turns before it
 pub record IsExplained (boxes : ℕ) (past : List Turn) (turn : Turn) : Type 0 where
-  pub fits : Fits boxes past turn.event turn.calls turn.step.verdict
+  pub fits : Fits boxes past turn.event turn.calls turn.step
   pub shown : AreShown turn.calls
-  pub quiet : IsQuiet turn.step
 
 -- each turn is explained by those before it; the newest turn comes first
 abbrev pub Local : ℕ → List Turn → Type 0

@@ -1,5 +1,5 @@
 -- What an end does with ESP packets (RFC 4303), by the keys, SPIs and windows that it holds.
-use Rattle.std.specs.Prelude.{ℕ, ◌+◌, ◌≡◌, ◌<◌, ◌≤◌, Option, Some, None, List, [], ◌∷◌, length, Result, Err}
+use Rattle.std.specs.Prelude.{ℕ, ◌+◌, ◌≡◌, ◌≤◌, Some, None, List, [], ◌∷◌, Result}
 use Rattle.aes_gcm.specs.NamedKey.{NamedKey}
 use Rattle.esp_packets.specs.Packet.{IsAnswer, IsDatagram, payload_in, plain_of}
 use Rattle.event_text.specs.declared.seals.Seal.{Seal}

@@ -17,9 +17,9 @@ abbrev pub entered_in : Turn → Option Record
 entered_in turn = entered turn.event turn.step.verdict
 
 -- the associations of the peer, in the order in which they came
-abbrev pub slots_by : List Turn → List Record
-slots_by [] = []
-slots_by (turn ∷ past) = slots_by past ++ option_to_list (entered_in turn)
+abbrev pub associations_by : List Turn → List Record
+associations_by [] = []
+associations_by (turn ∷ past) = associations_by past ++ option_to_list (entered_in turn)
 
 -- an association of the peer has the responder's SPI, or receives at the same SPI
 abbrev pub clashes : Record → Record → Bool

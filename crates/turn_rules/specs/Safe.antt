@@ -1,10 +1,13 @@
 -- What holds across the ends of a run.
-use Rattle.std.specs.Prelude.{ℕ, ◌≢◌, Option, None, IsSome, List, [], ◌∷◌, map}
+use Rattle.std.specs.Prelude.{ℕ, ◌≢◌, Option, Some, None, IsSome, List, [], ◌∷◌, map}
 use Rattle.std.specs.List.{AllByRecursion, filter_map, flat_map}
 use Rattle.event_text.specs.declared.turn.Turn.{Turn}
+use Rattle.event_text.specs.declared.verdict.Verdict.{Verdict}
+use Rattle.event_text.specs.declared.verdict.Verdict.TheVariants as out
 use Rattle.ha_base.specs.declared.counter_names.CounterName.{CounterName}
 use Rattle.ha_base.specs.declared.counter_names.End.{End}
 use Rattle.ha_base.specs.declared.counter_names.Origin.{Origin}
+use Rattle.turn_rules.specs.Genuine.{AreAccepted}
 
 -- nothing stands twice in the list
 abbrev pub IsEachOnce : {X : Type 0} → List X → Type 0
@@ -31,9 +34,13 @@ pub record Request : Type 0 where
 abbrev pub key_ivs : List Turn → List KeyIv
 key_ivs past = flat_map (λ turn. map (λ seal. record { name = seal.name; iv = seal.iv }) turn.step.seals) past
 
--- the packet that an event accepted; none of the events that are handled accepts one
+-- the packet that was accepted, where one was
+abbrev pub accepted_as : Verdict → Option Packet
+accepted_as (out.Accepted name number next_header payload) = Some (record { name = name; number = number })
+accepted_as verdict = None
+
 abbrev pub accepted_in : Turn → Option Packet
-accepted_in turn = None
+accepted_in turn = accepted_as turn.step.verdict
 
 -- the request that an event took; none of the events that are handled takes one
 abbrev pub taken_in : Turn → Option Request
@@ -48,6 +55,8 @@ pub record Safe (past : List Turn) : Type 0 where
   pub no_nonce_reuse : IsEachOnce (key_ivs past)
   -- no packet is accepted twice
   pub packets_once : IsEachOnce (filter_map accepted_in past)
+  -- a covered genuine packet is accepted at first delivery
+  pub genuine_accepted : AreAccepted past
   -- no request is taken twice
   pub requests_once : IsEachOnce (filter_map taken_in past)
   pub served_once : AllByRecursion TakesWhereServed past

@@ -1,10 +1,17 @@
 -- What the peer holds of its associations, and what it does with ESP packets.
-use Rattle.std.specs.Prelude.{ℕ, ◌+◌, ◌^◌, ◌≡◌, ◌<◌, ◌≤◌, ◌==◌, Bool, MatchOption, length, Option, Some, None, List, [], ◌∷◌, map, if◌then◌else◌, Result, Ok, Err}
+use Rattle.std.specs.List.{filter_map}
+use Rattle.std.specs.Prelude.{ℕ, ◌+◌, ◌^◌, ◌≡◌, ◌<◌, ◌≤◌, ◌==◌, Bool, false, MatchOption, length, Option, Some, None, List, [], ◌∷◌, ◌++◌, map, option_to_list, if◌then◌else◌, Result, Ok, Err}
+use Rattle.std.specs.Option.{option_map}
 use Rattle.esp_packets.specs.Packet.{spi_of}
+use Rattle.event_text.specs.declared.event.Event.{Event}
+use Rattle.event_text.specs.declared.event.Event.TheVariants as event
+use Rattle.event_text.specs.declared.event.Party.TheVariants as parties
 use Rattle.event_text.specs.declared.turn.Step.{Step}
+use Rattle.event_text.specs.declared.turn.Turn.{Turn}
 use Rattle.event_text.specs.declared.verdict.EspVerdict.{EspVerdict}
 use Rattle.event_text.specs.declared.verdict.EspVerdict.TheVariants as esp
 use Rattle.event_text.specs.declared.verdict.Refusal.TheVariants as refusal
+use Rattle.event_text.specs.declared.verdict.Verdict.{Verdict}
 use Rattle.event_text.specs.declared.verdict.Verdict.TheVariants as out
 use Rattle.ha_base.specs.declared.counter_names.CounterName.{CounterName}
 use Rattle.ha_base.specs.declared.counter_names.End.TheVariants as end
@@ -16,7 +23,9 @@ use Rattle.keeper_book.specs.declared.counters.Counter.TheVariants as counter
 use Rattle.keeper_book.specs.declared.records.Record.{Record}
 use Rattle.replay_set.specs.Window.{Window, window_of}
 use Rattle.turn_rules.specs.Draws.{child_of, kind_of}
+use Rattle.turn_rules.specs.Held.{after_number, after_received, greatest, received, received_of}
 use Rattle.turn_rules.specs.Packets.{Drops, Inbound, Opens, Outbound, Sends, noted}
+use Rattle.turn_rules.specs.Peers.{associations_by, entered, entered_in}
 use Rattle.turn_rules.specs.Steps.{Says}
 
 -- What the peer holds of an association: the record, the ESP number that it sends next, and which numbers it received.
@@ -45,6 +54,36 @@ slot_inbound slot = record { counter = peer_counter slot.sa counter.EspIn; key =
 abbrev pub records : List Slot → List Record
 records slots = map (λ slot. slot.sa) slots
 
+-- the ESP number under which the peer sent in the association
+abbrev pub sent : ℕ → Event → Verdict → Option ℕ
+sent spir (event.Send parties.Peer asked payload) (out.Sent n) = if asked == spir then Some n else None
+sent spir event verdict = None
+
+abbrev pub sent_of : ℕ → Turn → Option ℕ
+sent_of spir turn = sent spir turn.event turn.step.verdict
+
+abbrev pub is_entered : ℕ → Option Record → Bool
+is_entered spir None = false
+is_entered spir (Some sa) = sa.spir == spir
+
+-- the turns since the association came to the peer
+abbrev pub since_entered : ℕ → List Turn → List Turn
+since_entered spir [] = []
+since_entered spir (turn ∷ past) = if is_entered spir (entered_in turn) then [] else turn ∷ since_entered spir past
+
+-- What the peer's own turns say that it holds of an association: its next number is one more than each under which it
+-- sent since the association came, and no less than the start, and the numbers are noted that were accepted since then.
+abbrev pub slot_by : ℕ → List Turn → Record → Slot
+slot_by size past sa = let mine = since_entered sa.spir past in record {
+  sa = sa;
+  next = greatest sa.starts.esp_in (map (λ n. n + 1) (filter_map (sent_of sa.spir) mine));
+  window = window_of size sa.starts.esp_out (filter_map (received_of sa.spir) mine);
+}
+
+-- the peer's associations, in the order in which they came, with receive windows of this size
+abbrev pub slots_by : ℕ → List Turn → List Slot
+slots_by size past = map (slot_by size past) (associations_by past)
+
 -- the slot of a responder's SPI, and the one that receives at an SPI
 abbrev pub has_spir : ℕ → Slot → Bool
 has_spir spir slot = slot.sa.spir == spir
@@ -61,6 +100,18 @@ first_slot test (slot ∷ slots) = if test slot then Some slot else first_slot t
 abbrev pub with_slot : (Slot → Bool) → Slot → List Slot → List Slot
 with_slot test now [] = []
 with_slot test now (slot ∷ slots) = if test slot then now ∷ slots else slot ∷ with_slot test now slots
+
+-- what the peer holds of an association after one more turn of its own
+abbrev pub slot_after : Event → Verdict → Slot → Slot
+slot_after event verdict slot = record {
+  sa = slot.sa;
+  next = after_number (sent slot.sa.spir event verdict) slot.next;
+  window = after_received (received slot.sa.spir event verdict) slot.window;
+}
+
+-- and what it holds of all of them
+abbrev pub slots_after : ℕ → Event → Verdict → List Slot → List Slot
+slots_after size event verdict slots = map (slot_after event verdict) slots ++ option_to_list (option_map (entered_slot size) (entered event verdict))
 
 -- a payload is sent under the next number, unless the counter is at its end, and what is held then
 pub record SlotSends (slot : Slot) (payload : List ℕ) (step : Step) (now : Slot) : Type 0 where

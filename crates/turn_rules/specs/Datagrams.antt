@@ -1,0 +1,60 @@
+-- The datagrams of a run, and what a delivery hands over.
+use Rattle.std.specs.Prelude.{ℕ, ◌-◌, Option, Some, None, nat_le, nat_lt, length, List, [], ◌∷◌, ◌++◌, option_to_list, slice_get, slice_index_or, slice_set, take, if◌then◌else◌, Result, Ok, Err}
+use Rattle.std.specs.Int.Bits.{bit_xor}
+use Rattle.std.specs.Option.{option_map}
+use Rattle.event_text.specs.declared.event.Event.{Event}
+use Rattle.event_text.specs.declared.event.Event.TheVariants as event
+use Rattle.event_text.specs.declared.event.Which.{Which}
+use Rattle.event_text.specs.declared.event.Which.TheVariants as which
+use Rattle.event_text.specs.declared.turn.Datagram.{Datagram}
+use Rattle.event_text.specs.declared.turn.Medium.{Medium}
+use Rattle.event_text.specs.declared.turn.Turn.{Turn}
+use Rattle.event_text.specs.declared.verdict.Refusal.{Refusal}
+use Rattle.event_text.specs.declared.verdict.Refusal.TheVariants as refusal
+
+-- the most datagrams of a run
+abbrev pub MAX_DATAGRAMS : ℕ
+MAX_DATAGRAMS = 65536
+
+-- a datagram, by what it carries and its octets alone
+pub record PlainDatagram : Type 0 where
+  pub medium : Medium
+  pub octets : List ℕ
+
+abbrev pub plain_datagram : Datagram → PlainDatagram
+plain_datagram datagram = record { medium = datagram.medium; octets = datagram.octets.octets }
+
+-- the datagrams that were given, in their order
+abbrev pub datagrams_of : List Turn → List PlainDatagram
+datagrams_of [] = []
+datagrams_of (turn ∷ past) = datagrams_of past ++ option_to_list (option_map plain_datagram turn.step.gives)
+
+-- the datagram that is meant: they are counted from 1
+abbrev pub datagram_at : Which → List PlainDatagram → Option PlainDatagram
+datagram_at (which.Number number) datagrams = if nat_lt 0 number then slice_get datagrams (number - 1) else None
+datagram_at which.Last datagrams = slice_get datagrams (length datagrams - 1)
+
+-- octets with the one at this place changed by an exclusive or, where there is one
+abbrev pub altered : ℕ → ℕ → List ℕ → Option (List ℕ)
+altered place octet octets = if nat_lt place (length octets) then Some (slice_set octets place (bit_xor (slice_index_or octets place 0) octet)) else None
+
+-- the first octets, where there are so many
+abbrev pub cut : ℕ → List ℕ → Option (List ℕ)
+cut keep octets = if nat_le keep (length octets) then Some (take keep octets) else None
+
+-- a datagram whose octets were changed so, or why there is none
+abbrev pub changed : Option PlainDatagram → (List ℕ → Option (List ℕ)) → Result PlainDatagram Refusal
+changed None change = Err refusal.NoDatagram
+changed (Some datagram) change = with_octets datagram.medium (change datagram.octets)
+  where
+    with_octets : Medium → Option (List ℕ) → Result PlainDatagram Refusal
+    with_octets medium None = Err refusal.NoOctet
+    with_octets medium (Some octets) = Ok (record { medium = medium; octets = octets })
+
+-- what an event delivers of these datagrams, which stay as they are, or why it does not
+abbrev pub arrives : List PlainDatagram → Event → Result PlainDatagram Refusal
+arrives datagrams (event.Deliver which to) = changed (datagram_at which datagrams) Some
+arrives datagrams (event.Alter which to place octet) = changed (datagram_at which datagrams) (altered place octet)
+arrives datagrams (event.Cut which to keep) = changed (datagram_at which datagrams) (cut keep)
+arrives datagrams (event.Inject to medium octets) = Ok (record { medium = medium; octets = octets.octets })
+arrives datagrams event = Err refusal.NoDatagram

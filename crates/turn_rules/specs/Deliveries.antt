@@ -1,0 +1,28 @@
+-- What an end does with a packet that comes to it, as a turn says it.
+use Rattle.std.specs.Prelude.{ℕ, ◌≡◌, Option, List, []}
+use Rattle.event_text.specs.declared.turn.Step.{Step}
+use Rattle.event_text.specs.declared.verdict.EspVerdict.{EspVerdict}
+use Rattle.keeper_book.specs.declared.calls.Call.{Call}
+use Rattle.turn_rules.specs.Held.{Held}
+use Rattle.turn_rules.specs.MemberPackets.{MemberReceives}
+use Rattle.turn_rules.specs.Packets.{IsVerdictOf}
+use Rattle.turn_rules.specs.Slots.{PeerReceives, Slot}
+use Rattle.turn_rules.specs.Steps.{IsQuiet}
+
+-- a member receives a packet by what it holds, and says what it answers
+pub record MemberTakes (held : ℕ → Option Held) (octets : List ℕ) (calls : List Call) (step : Step) : Type 0 where
+  pub answer : EspVerdict
+  pub after : List ℕ
+  pub receives : MemberReceives held octets calls answer after
+  pub worded : IsVerdictOf answer after step.verdict
+  pub quiet : IsQuiet step
+
+-- the peer receives a packet by its associations, and says what it answers
+pub record PeerTakes (slots : List Slot) (octets : List ℕ) (calls : List Call) (step : Step) : Type 0 where
+  pub answer : EspVerdict
+  pub after : List ℕ
+  pub slots_after : List Slot
+  pub receives : PeerReceives slots octets answer after slots_after
+  pub worded : IsVerdictOf answer after step.verdict
+  pub quiet : IsQuiet step
+  pub no_calls : calls ≡ []

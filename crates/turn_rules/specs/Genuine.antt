@@ -1,0 +1,68 @@
+-- Packets that the other end sealed, and what becomes of them.
+use Rattle.std.specs.Prelude.{ℕ, ◌^◌, ◌≡◌, ◌<◌, ◌⊎◌, Some, List, [], ◌∷◌, Ok}
+use Rattle.std.specs.List.{AllByRecursion}
+use Rattle.esp_packets.specs.Laws.{Covers}
+use Rattle.esp_packets.specs.Packet.{IsDatagram, spi_of}
+use Rattle.event_text.specs.declared.turn.Medium.TheVariants as medium
+use Rattle.event_text.specs.declared.turn.Turn.{Turn}
+use Rattle.event_text.specs.declared.verdict.Verdict.{Verdict}
+use Rattle.event_text.specs.declared.verdict.Verdict.TheVariants as out
+use Rattle.ha_base.specs.Octets.{WithRoom}
+use Rattle.ha_base.specs.declared.counter_names.CounterName.{CounterName}
+use Rattle.keeper_book.specs.Told.{seen}
+use Rattle.keeper_book.specs.declared.calls.Call.{Call}
+use Rattle.keeper_book.specs.declared.calls.KeeperAnswer.TheVariants as answers
+use Rattle.keeper_book.specs.declared.counters.Counter.TheVariants as counter
+use Rattle.replay_set.specs.Window.{judged}
+use Rattle.replay_set.specs.declared.judgement.Judgement.TheVariants as judgement
+use Rattle.turn_rules.specs.Datagrams.{arrives, datagrams_of}
+use Rattle.turn_rules.specs.Draws.{counter_name}
+use Rattle.turn_rules.specs.Ends.{Member, Peer, Performer, own, performer}
+use Rattle.turn_rules.specs.Held.{Held, held_by, window_by}
+use Rattle.turn_rules.specs.MemberPackets.{IsReceiver, inbound_of}
+use Rattle.turn_rules.specs.Packets.{Inbound}
+use Rattle.turn_rules.specs.Slots.{Slot, first_slot, peer_counter, receives_at, slot_inbound, slots_by}
+
+-- The octets are the packet of this payload, under the key and the SPI at which it is received, and its number is covered
+-- by the window and was not accepted before.
+pub record IsGenuine (inbound : Inbound) (number : ℕ) (payload octets : List ℕ) : Type 0 where
+  pub spi : inbound.spi < 2 ^ 32
+  pub sealed : IsDatagram inbound.key inbound.spi number payload 4 octets
+  pub covered : Covers inbound.window number
+  pub first : judged inbound.window number ≡ judgement.Fresh
+
+-- the number lies below what was acknowledged, or each call was answered so that it does
+abbrev pub IsAcknowledged : Held → ℕ → List Call → Type 0
+IsAcknowledged held number calls = (number < held.highs.esp_in) ⊎ AllByRecursion (λ call. seen call ≡ answers.Done) calls
+
+-- the payload was accepted under its number, as an IPv4 packet (RFC 4303, section 2.6)
+pub record IsAcceptedAs (name : CounterName) (number : ℕ) (payload : List ℕ) (verdict : Verdict) : Type 0 where
+  pub given : WithRoom
+  pub said : verdict ≡ out.Accepted name number 4 given
+  pub same : given.octets ≡ payload
+
+-- these octets came to an end in the turn, unchanged or not
+pub record Came (past : List Turn) (turn : Turn) (to : Performer) (octets : List ℕ) : Type 0 where
+  pub by_it : performer turn ≡ Some to
+  pub arrived : arrives (datagrams_of past) turn.event ≡ Ok (record { medium = medium.Esp; octets = octets })
+
+-- a covered genuine packet that comes to a member is accepted at first delivery, where its number is acknowledged
+abbrev pub MemberAccepts : List Turn → Turn → Type 0
+MemberAccepts past turn =
+    (member spir number : ℕ) (held : Held) (payload octets : List ℕ) → Came past turn (Member member) octets
+    → IsReceiver (held_by (window_by past) (own (Member member) past)) (spi_of octets) spir held
+    → IsGenuine (inbound_of held) number payload octets → IsAcknowledged held number turn.calls
+    → IsAcceptedAs (counter_name held.sa counter.EspIn) number payload turn.step.verdict
+
+-- and one that comes to the peer
+abbrev pub PeerAccepts : List Turn → Turn → Type 0
+PeerAccepts past turn =
+    (number : ℕ) (slot : Slot) (payload octets : List ℕ) → Came past turn Peer octets
+    → first_slot (receives_at (spi_of octets)) (slots_by (window_by past) (own Peer past)) ≡ Some slot
+    → IsGenuine (slot_inbound slot) number payload octets
+    → IsAcceptedAs (peer_counter slot.sa counter.EspIn) number payload turn.step.verdict
+
+-- each turn does so
+abbrev pub AreAccepted : List Turn → Type 0
+AreAccepted [] = Unit {0}
+AreAccepted (turn ∷ past) = MemberAccepts past turn × PeerAccepts past turn × AreAccepted past
