@@ -1,52 +1,46 @@
 -- Of whole runs: where each turn is explained and the book stands for the calls, all is owned.
-use Rattle.std.proofs.Common.{◌≡◌, ℕ, ◌-◌, ◌<◌, ◌≤◌, ◌==◌, Bool, true, false, Option, Some, None, List, [], ◌∷◌, ◌++◌, map, refl, ap, sym, ◌∙◌, subst, arith}
-use Rattle.std.specs.List.{AllByRecursion, cons_option, filter_map}
-use Rattle.event_text.specs.declared.event.Event.{Event}
-use Rattle.event_text.specs.declared.event.Event.TheVariants as event
+use Rattle.std.proofs.Common.{◌≡◌, ℕ, ◌-◌, ◌<◌, ◌≤◌, Some, List, [], ◌∷◌, ◌++◌, map, refl, sym, ◌∙◌, subst, arith}
+use Rattle.std.specs.List.{AllByRecursion, filter_map}
 use Rattle.event_text.specs.declared.seals.Seal.{Seal}
 use Rattle.event_text.specs.declared.turn.Turn.{Turn}
-use Rattle.event_text.specs.declared.verdict.Verdict.{Verdict}
-use Rattle.event_text.specs.declared.verdict.Verdict.TheVariants as out
 use Rattle.keeper_book.specs.Book.{Book, EntersAll, empty}
 use Rattle.keeper_book.specs.Counters.{five_at}
-use Rattle.keeper_book.specs.Told.{seen}
-use Rattle.keeper_book.specs.declared.calls.Call.{Call}
 use Rattle.keeper_book.specs.declared.counters.Counter.{Counter}
 use Rattle.keeper_book.specs.declared.counters.Counter.TheVariants as counter
-use Rattle.keeper_book.specs.declared.records.Taken.{Taken}
-use Rattle.turn_laws.proofs.Records.{stands-records}
+use Rattle.turn_laws.proofs.Lists.{all-append, all-each}
+use Rattle.turn_laws.proofs.Moves.{IsUseOrEnd, are-uses}
+use Rattle.turn_laws.proofs.Numbers.{counters-hold}
+use Rattle.turn_laws.proofs.Records.{deed-of}
 use Rattle.turn_laws.proofs.Runs.{LeavesBook, enters_all-append, lawful-calls, lawful-quiet, may_do-append, onto-append}
 use Rattle.turn_laws.proofs.Safety.{owned-lawful}
-use Rattle.turn_laws.proofs.Told.{moves-quiet, told-held}
-use Rattle.turn_laws.proofs.Well.{Tells, fits-well, tells}
-use Rattle.turn_laws.specs.Acts.{Act, Calls, MayDoAll, Move, Seals, effect_ours, held_at, numbers_at, onto, uses_at}
-use Rattle.turn_laws.specs.Holdings.{Actor, End, Holding, IsOwned, Use, uses_after}
+use Rattle.turn_laws.proofs.Tells.{Tells, tells}
+use Rattle.turn_laws.proofs.Opened.{peer-may}
+use Rattle.turn_laws.proofs.Told.{told-held}
+use Rattle.turn_laws.proofs.Well.{deed-well}
+use Rattle.turn_laws.specs.Acts.{Calls, Ends, MayDoAll, Move, Seals, Uses, held_at, numbers_at, onto, uses_at}
 use Rattle.turn_laws.specs.Columns.{mark}
+use Rattle.turn_laws.specs.Holdings.{End, Holding, IsOwned}
 use Rattle.turn_laws.specs.Owned.{Lawful, Owned}
 use Rattle.turn_laws.specs.Places.{Ours, Place, column}
 use Rattle.turn_laws.specs.Turns.{actor_of, acts_of, key_iv, moves_of, uses_of}
 use Rattle.turn_rules.specs.Ends.{Member, own}
-use Rattle.turn_rules.specs.Held.{Held, covered, granted, held_by, number_of, used, window_by}
+use Rattle.turn_rules.specs.Held.{Held, held_by, number_of, window_by}
 use Rattle.turn_rules.specs.Local.{IsExplained, Local, Stands, calls_of}
 use Rattle.turn_rules.specs.Safe.{IsEachOnce}
 
 -- the moves of a turn that is explained may be made
-pub turn-well : (boxes : ℕ) (past : List Turn) (book : Book) (turn : Turn) → IsExplained boxes past turn → Local boxes past → Stands past book → MayDoAll (acts_of past) (actor_of turn) (moves_of turn)
-turn-well boxes past book turn explained local stands =
-    subst (λ moves. MayDoAll (acts_of past) (actor_of turn) moves) (sym (moves-quiet boxes past turn explained))
-    (fits-well boxes past (acts_of past) (told-held boxes past local) (stands-records past book stands) turn.event turn.calls turn.step.verdict explained.fits)
+pub turn-well : (boxes : ℕ) (past : List Turn) (turn : Turn) → IsExplained boxes past turn → Local boxes past → MayDoAll (acts_of past) (actor_of turn) (moves_of turn)
+turn-well boxes past turn explained local = deed-well past (acts_of past) (told-held boxes past local) (peer-may boxes past local) turn.event turn.calls turn.step (deed-of boxes past turn explained local)
 
-uses-leave : (event : Event) (verdict : Verdict) → AllByRecursion LeavesBook (uses_of event verdict)
-uses-leave (event.Draw member spir) (out.Number n) = ((λ book. refl), tt)
-uses-leave event verdict = tt
+use-leaves : (move : Move) → IsUseOrEnd move → LeavesBook move
+use-leaves (Calls call) is book = absurd is
+use-leaves (Uses place n) is book = refl
+use-leaves (Seals key) is book = absurd is
+use-leaves Ends is book = refl
 
 seals-leave : (seals : List Seal) → AllByRecursion LeavesBook (map (λ seal. Seals (key_iv seal)) seals)
 seals-leave [] = tt
 seals-leave (seal ∷ seals) = ((λ book. refl), seals-leave seals)
-
-all-append : {X : Type 0} (P : X → Type 0) (xs ys : List X) → AllByRecursion P xs → AllByRecursion P ys → AllByRecursion P (xs ++ ys)
-all-append P [] ys all more = more
-all-append P (x ∷ xs) ys all more = (all.0, all-append P xs ys all.1 more)
 
 -- the acts of a run
 pub lawful-run : (boxes : ℕ) (past : List Turn) (book : Book) → Local boxes past → Stands past book → Lawful (acts_of past) book
@@ -55,10 +49,10 @@ lawful-run boxes (turn ∷ past) book local stands =
     let parts : (mid : Book) × EntersAll empty (calls_of past) mid × EntersAll mid turn.calls book = enters_all-append (calls_of past) turn.calls empty book stands in
     let rest : List Move = uses_of turn.event turn.step.verdict ++ map (λ seal. Seals (key_iv seal)) turn.step.seals in
     let may : MayDoAll (acts_of past) (actor_of turn) (map Calls turn.calls) × MayDoAll (onto (actor_of turn) (map Calls turn.calls) (acts_of past)) (actor_of turn) rest =
-    may_do-append (actor_of turn) (map Calls turn.calls) rest (acts_of past) (turn-well boxes past parts.0 turn local.0 local.1 parts.1) in
+    may_do-append (actor_of turn) (map Calls turn.calls) rest (acts_of past) (turn-well boxes past turn local.0 local.1) in
     subst (λ acts. Lawful acts book) (sym (onto-append (actor_of turn) (map Calls turn.calls) rest (acts_of past)))
     (lawful-quiet (actor_of turn) rest (onto (actor_of turn) (map Calls turn.calls) (acts_of past)) book
-    (all-append LeavesBook (uses_of turn.event turn.step.verdict) (map (λ seal. Seals (key_iv seal)) turn.step.seals) (uses-leave turn.event turn.step.verdict) (seals-leave turn.step.seals))
+    (all-append LeavesBook (uses_of turn.event turn.step.verdict) (map (λ seal. Seals (key_iv seal)) turn.step.seals) (all-each (uses_of turn.event turn.step.verdict) use-leaves (are-uses turn.event turn.step.verdict)) (seals-leave turn.step.seals))
     (lawful-calls (actor_of turn) turn.calls (acts_of past) parts.0 book (lawful-run boxes past parts.0 local.1 parts.1) parts.2 may.0)
     may.1)
 
@@ -69,48 +63,8 @@ owned-run boxes past book local stands = owned-lawful (acts_of past) book (lawfu
 pub numbers-once : (boxes : ℕ) (past : List Turn) (book : Book) → Local boxes past → Stands past book → (p : Place) → IsEachOnce (numbers_at p (acts_of past))
 numbers-once boxes past book local stands p = ((owned-run boxes past book local stands).numbers p).once
 
--- a call uses no number
-call-uses : (w : Actor) (c : Counter) (grant : Option Taken) (upto : Option ℕ) (held : Actor → Option Holding) (us : List Use) → uses_after (effect_ours w c grant upto) held us ≡ us
-call-uses w c (Some taken) upto held us = refl
-call-uses w c None (Some n) held us = refl
-call-uses w c None None held us = refl
-
-module _ (spir : ℕ) (c : Counter) (w : Actor) where
-  calls-use : (calls : List Call) (acts : List Act) → uses_at (Ours spir c) (onto w (map Calls calls) acts) ≡ uses_at (Ours spir c) acts
-  calls-use [] acts = refl
-  calls-use (call ∷ calls) acts =
-      calls-use calls (record { by = w; move = Calls call } ∷ acts)
-      ∙ call-uses w c (granted spir call.asked (seen call)) (covered spir c call.asked (seen call)) (held_at (Ours spir c) acts) (uses_at (Ours spir c) acts)
-
-draw-numbers : (spir asked member n : ℕ) (c : Counter) (w : Actor) (acts : List Act) → numbers_at (Ours spir c) (onto w (uses_of (event.Draw member asked) (out.Number n)) acts) ≡ cons_option (used spir c (event.Draw member asked) (out.Number n)) (numbers_at (Ours spir c) acts)
-draw-numbers spir asked member n counter.EspOut w acts = by_test (asked == spir) refl
-  where
-    by_test : (b : Bool) → (asked == spir) ≡ b → numbers_at (Ours spir counter.EspOut) (onto w (uses_of (event.Draw member asked) (out.Number n)) acts) ≡ cons_option (used spir counter.EspOut (event.Draw member asked) (out.Number n)) (numbers_at (Ours spir counter.EspOut) acts)
-    by_test true t = rw t
-    by_test false t = rw t
-draw-numbers spir asked member n c w acts = by_test (asked == spir) refl
-  where
-    by_test : (b : Bool) → (asked == spir) ≡ b → numbers_at (Ours spir c) (onto w (uses_of (event.Draw member asked) (out.Number n)) acts) ≡ numbers_at (Ours spir c) acts
-    by_test true t = rw t
-    by_test false t = rw t
-
-event-numbers : (spir : ℕ) (c : Counter) (w : Actor) (acts : List Act) (event : Event) (verdict : Verdict) → numbers_at (Ours spir c) (onto w (uses_of event verdict) acts) ≡ cons_option (used spir c event verdict) (numbers_at (Ours spir c) acts)
-event-numbers spir counter.EspOut w acts (event.Draw member asked) (out.Number n) = draw-numbers spir asked member n counter.EspOut w acts
-event-numbers spir c w acts (event.Draw member asked) (out.Number n) = draw-numbers spir asked member n c w acts
-event-numbers spir c w acts event verdict = refl
-
--- the numbers of the cluster's counter that the turns of a run used
-pub run-numbers : (boxes : ℕ) (past : List Turn) → Local boxes past → (spir : ℕ) (c : Counter) → numbers_at (Ours spir c) (acts_of past) ≡ filter_map (number_of spir c) past
-run-numbers boxes [] local spir c = refl
-run-numbers boxes (turn ∷ past) local spir c =
-    ap (λ moves. numbers_at (Ours spir c) (onto (actor_of turn) moves (acts_of past))) (moves-quiet boxes past turn local.0)
-    ∙ (ap (λ acts. numbers_at (Ours spir c) acts) (onto-append (actor_of turn) (map Calls turn.calls) (uses_of turn.event turn.step.verdict) (acts_of past))
-    ∙ (event-numbers spir c (actor_of turn) (onto (actor_of turn) (map Calls turn.calls) (acts_of past)) turn.event turn.step.verdict
-    ∙ (ap (λ us. cons_option (used spir c turn.event turn.step.verdict) (map (λ u. u.number) us)) (calls-use spir c (actor_of turn) turn.calls (acts_of past))
-    ∙ ap (cons_option (used spir c turn.event turn.step.verdict)) (run-numbers boxes past local.1 spir c))))
-
 pub counters-once : (boxes : ℕ) (past : List Turn) (book : Book) → Local boxes past → Stands past book → (spir : ℕ) (c : Counter) → IsEachOnce (filter_map (number_of spir c) past)
-counters-once boxes past book local stands spir c = subst (λ ns. IsEachOnce ns) (run-numbers boxes past local spir c) (numbers-once boxes past book local stands (Ours spir c))
+counters-once boxes past book local stands spir c = counters-hold (λ ns. IsEachOnce ns) tt boxes past local spir c (numbers-once boxes past book local stands (Ours spir c))
 
 -- what a member's own turns say that it holds is its holding at each counter
 held-tells : (boxes : ℕ) (past : List Turn) → Local boxes past → (member spir : ℕ) (held : Held) → held_by (window_by past) (own (Member member) past) spir ≡ Some held → (c : Counter) → (h : Holding) × Tells (own (Member member) past) spir c held h × (held_at (Ours spir c) (acts_of past) (End (Member member)) ≡ Some h)

@@ -10,10 +10,11 @@ use Rattle.keeper_book.specs.declared.calls.Call.{Call}
 use Rattle.keeper_book.specs.declared.calls.KeeperAsk.{KeeperAsk}
 use Rattle.keeper_book.specs.declared.calls.KeeperAsk.TheVariants as ask
 use Rattle.keeper_book.specs.declared.counters.Counter.{Counter}
-use Rattle.turn_laws.proofs.All.{owned-run, run-numbers}
+use Rattle.turn_laws.proofs.All.{owned-run}
 use Rattle.turn_laws.proofs.Books.{answers-entry}
 use Rattle.turn_laws.proofs.Columns.{mark-high}
 use Rattle.turn_laws.proofs.Entries.{entry-entered, entry_after, five_at-with_five, is_counter-true, within_end}
+use Rattle.turn_laws.proofs.Numbers.{counters-hold}
 use Rattle.turn_laws.specs.Acts.{numbers_at, uses_at}
 use Rattle.turn_laws.specs.Columns.{Column, mark}
 use Rattle.turn_laws.specs.Holdings.{IsOwned, IsUseOf, Use}
@@ -102,4 +103,4 @@ numbers-end boxes past book local stands p =
     numbers-below (column p book) (end_at p) owned.rising (high-within past book stands p) (uses_at p (acts_of past)) owned.within
 
 pub counters-end : (boxes : ℕ) (past : List Turn) (book : Book) → Local boxes past → Stands past book → (spir : ℕ) (c : Counter) → AllByRecursion (λ n. n < end_of c) (filter_map (number_of spir c) past)
-counters-end boxes past book local stands spir c = subst (λ ns. AllByRecursion (λ n. n < end_of c) ns) (run-numbers boxes past local spir c) (numbers-end boxes past book local stands (Ours spir c))
+counters-end boxes past book local stands spir c = counters-hold (λ ns. AllByRecursion (λ n. n < end_of c) ns) tt boxes past local spir c (numbers-end boxes past book local stands (Ours spir c))

@@ -5,34 +5,41 @@ use Rattle.std.specs.List.{AllByRecursion, filter_map}
 use Rattle.event_text.specs.declared.turn.Served.{Served}
 use Rattle.event_text.specs.declared.turn.Turn.{Turn}
 use Rattle.keeper_book.specs.Book.{Book}
+use Rattle.turn_laws.proofs.Accepted.{packets-once}
 use Rattle.turn_laws.proofs.Holdings.{is_actor-true}
+use Rattle.turn_laws.proofs.Lists.{all-each}
+use Rattle.turn_laws.proofs.Outcomes.{outcome-of, outcome-served}
+use Rattle.turn_laws.proofs.Records.{deed-of}
 use Rattle.turn_laws.proofs.Runs.{others-hold}
 use Rattle.turn_laws.proofs.Sealed.{no-nonce-reuse}
 use Rattle.turn_laws.specs.Acts.{Act, Move, held_at, onto}
 use Rattle.turn_laws.specs.Holdings.{Actor, is_actor}
 use Rattle.turn_laws.specs.Places.{Place}
 use Rattle.turn_rules.specs.Local.{Local, Stands}
-use Rattle.turn_rules.specs.Safe.{Safe, TakesWhereServed, accepted_in, taken_in}
-
-none_accepted : (past : List Turn) → filter_map accepted_in past ≡ []
-none_accepted [] = refl
-none_accepted (turn ∷ past) = none_accepted past
+use Rattle.turn_rules.specs.Genuine.{AreAccepted}
+use Rattle.turn_rules.specs.Safe.{Safe, TakesWhereServed, taken_in}
 
 none_taken : (past : List Turn) → filter_map taken_in past ≡ []
 none_taken [] = refl
 none_taken (turn ∷ past) = none_taken past
 
-none_served : (boxes : ℕ) (past : List Turn) → Local boxes past → AllByRecursion TakesWhereServed past
-none_served boxes [] local = tt
-none_served boxes (turn ∷ past) local = ((λ some. let no : is_some {T = Served} None ≡ true = subst (λ o. is_some o ≡ true) local.0.quiet.served some in absurd (cc)), none_served boxes past local.1)
+-- no event is executed by a service
+pub none-served : (boxes : ℕ) (past : List Turn) → Local boxes past → AllByRecursion (λ turn. turn.step.served ≡ None) past
+none-served boxes [] local = tt
+none-served boxes (turn ∷ past) local =
+    (outcome-served past turn.event turn.calls turn.step (outcome-of past turn.event turn.calls turn.step (deed-of boxes past turn local.0 local.1)), none-served boxes past local.1)
 
--- a run is safe: no event accepts a packet, takes a request or executes one yet
-pub safe-run : (boxes : ℕ) (past : List Turn) (book : Book) → Local boxes past → Stands past book → Safe past
-safe-run boxes past book local stands = record {
+takes-where_served : (turn : Turn) → turn.step.served ≡ None → TakesWhereServed turn
+takes-where_served turn none some = let no : is_some {T = Served} None ≡ true = subst (λ o. is_some o ≡ true) none some in absurd (cc)
+
+-- a run is safe where covered genuine packets are accepted at first delivery: no event takes a request yet
+pub safe-run : (boxes : ℕ) (past : List Turn) (book : Book) → Local boxes past → Stands past book → AreAccepted past → Safe past
+safe-run boxes past book local stands accepted = record {
   no_nonce_reuse = no-nonce-reuse boxes past book local stands;
-  packets_once = rw (none_accepted past) tt;
+  packets_once = packets-once boxes past book local stands;
+  genuine_accepted = accepted;
   requests_once = rw (none_taken past) tt;
-  served_once = none_served boxes past local;
+  served_once = all-each past takes-where_served (none-served boxes past local);
 }
 
 -- moves of one end leave what every other one holds

@@ -1,30 +1,22 @@
 -- No key and IV seals twice: an IV is a number of the key's counter.
-use Rattle.std.proofs.Common.{◌≡◌, ◌≢◌, ℕ, ◌==◌, true, Option, Some, None, MatchOption, List, [], ◌∷◌, ◌++◌, map, refl, ap, sym, ◌∙◌, subst, append_assoc, append-nil, if◌then◌else◌}
-use Rattle.std.proofs.lemmas.Bool.{eq-eqb}
+use Rattle.std.proofs.Common.{◌≡◌, ◌≢◌, ℕ, true, Option, Some, None, MatchOption, List, [], ◌∷◌, ◌++◌, map, refl, ap, sym, ◌∙◌, subst, append_assoc, append-nil, if◌then◌else◌}
 use Rattle.std.specs.List.{AllByRecursion}
-use Rattle.event_text.specs.declared.event.Event.{Event}
-use Rattle.event_text.specs.declared.event.Event.TheVariants as event
 use Rattle.event_text.specs.declared.seals.Seal.{Seal}
 use Rattle.event_text.specs.declared.turn.Turn.{Turn}
-use Rattle.event_text.specs.declared.verdict.Verdict.{Verdict}
-use Rattle.event_text.specs.declared.verdict.Verdict.TheVariants as out
 use Rattle.keeper_book.specs.Book.{Book}
 use Rattle.keeper_book.specs.declared.calls.Call.{Call}
-use Rattle.keeper_book.specs.declared.counters.Counter.TheVariants as counter
 use Rattle.turn_laws.proofs.All.{lawful-run}
-use Rattle.turn_laws.proofs.Entries.{is_counter-same}
+use Rattle.turn_laws.proofs.Lists.{all-each}
+use Rattle.turn_laws.proofs.Moves.{IsUseOrEnd, are-uses}
+use Rattle.turn_laws.proofs.Names.{is_place-same}
 use Rattle.turn_laws.proofs.Safety.{owned-lawful}
 use Rattle.turn_laws.specs.Acts.{Act, Calls, Ends, HoldsFor, MayDo, Move, Seals, Uses, effect_of, effect_of_use, held_at, numbers_at, onto, uses_at}
 use Rattle.turn_laws.specs.Holdings.{Actor, Begins, Draws, Effect, Holding, IsNotIn, Nothing, Rises, Use, uses_after}
 use Rattle.turn_laws.specs.Owned.{Lawful, Owned}
-use Rattle.turn_laws.specs.Places.{Ours, Place, Theirs, is_place, place_of}
+use Rattle.turn_laws.specs.Places.{Place, is_place, place_of}
 use Rattle.turn_laws.specs.Turns.{actor_of, acts_of, key_iv, uses_of}
 use Rattle.turn_rules.specs.Local.{Local, Stands}
 use Rattle.turn_rules.specs.Safe.{IsEachOnce, KeyIv, key_ivs}
-
-pub is_place-same : (p : Place) → is_place p p ≡ true
-is_place-same (Ours spir c) = let a : (spir == spir) ≡ true = eq-eqb spir spir refl in let b : _ = is_counter-same c in rw (a, b)
-is_place-same (Theirs spir c) = let a : (spir == spir) ≡ true = eq-eqb spir spir refl in let b : _ = is_counter-same c in rw (a, b)
 
 -- the keys and IVs that a move, and that acts, sealed under
 abbrev pub sealed_by : Move → List KeyIv → List KeyIv
@@ -61,10 +53,6 @@ module _ (p : Place) (n : ℕ) where
       by_move (Seals key) none rest = (seal-used act.by key (held_at p acts) (uses_at p acts) none, rest)
       by_move move none rest = rest
 
-all-more : {X : Type 0} {P Q : X → Type 0} (xs : List X) → ((x : X) → P x → Q x) → AllByRecursion P xs → AllByRecursion Q xs
-all-more [] f all = tt
-all-more (x ∷ xs) f all = (f x all.0, all-more xs f all.1)
-
 -- no key and IV stands twice among the seals of acts, each of which may come after those before it
 pub sealed-once : (acts : List Act) (book : Book) → Lawful acts book → IsEachOnce (sealed_in acts)
 sealed-once [] book lawful = tt
@@ -87,7 +75,7 @@ sealed-once (act ∷ acts) book lawful = by_move act.move refl (sealed-once acts
             ap (effect_of p act.by) is ∙ (ap (λ q. effect_of_use p q act.by key.iv) e ∙ ap (λ b. if b then Draws act.by key.iv else Nothing) here) in
             let once : IsEachOnce (map (λ u. u.number) (uses_after (Draws act.by key.iv) (held_at p acts) (uses_at p acts))) =
             subst (λ x. IsEachOnce (map (λ u. u.number) (uses_after x (held_at p acts) (uses_at p acts)))) effect (owned.numbers p).once in
-            all-more (sealed_in acts)
+            all-each (sealed_in acts)
             (λ y other same. other (ap (λ (k : KeyIv). place_of k.name) same ∙ e) (ap (λ (k : KeyIv). k.iv) same))
             (not-sealed p key.iv acts once.0)
 
@@ -117,9 +105,12 @@ module _ (w : Actor) where
   sealed-calls [] rest acts = (acts, refl, refl)
   sealed-calls (call ∷ calls) rest acts = sealed-calls calls rest (record { by = w; move = Calls call } ∷ acts)
 
-  sealed-uses : (event : Event) (verdict : Verdict) (rest : List Move) (acts : List Act) → (now : List Act) × (onto w (uses_of event verdict ++ rest) acts ≡ onto w rest now) × (sealed_in now ≡ sealed_in acts)
-  sealed-uses (event.Draw member spir) (out.Number n) rest acts = (record { by = w; move = Uses (Ours spir counter.EspOut) n } ∷ acts, refl, refl)
-  sealed-uses event verdict rest acts = (acts, refl, refl)
+  sealed-uses : (moves : List Move) → AllByRecursion IsUseOrEnd moves → (rest : List Move) (acts : List Act) → (now : List Act) × (onto w (moves ++ rest) acts ≡ onto w rest now) × (sealed_in now ≡ sealed_in acts)
+  sealed-uses [] uses rest acts = (acts, refl, refl)
+  sealed-uses (Calls call ∷ moves) uses rest acts = absurd uses.0
+  sealed-uses (Uses place n ∷ moves) uses rest acts = sealed-uses moves uses.1 rest (record { by = w; move = Uses place n } ∷ acts)
+  sealed-uses (Seals key ∷ moves) uses rest acts = absurd uses.0
+  sealed-uses (Ends ∷ moves) uses rest acts = sealed-uses moves uses.1 rest (record { by = w; move = Ends } ∷ acts)
 
   -- seals of a turn stand before those of earlier turns
   sealed-seals : (seals : List Seal) (before : List KeyIv) (acts : List Act) → IsEachOnce (before ++ sealed_in (onto w (map (λ seal. Seals (key_iv seal)) seals) acts)) → IsEachOnce ((before ++ map key_iv seals) ++ sealed_in acts)
@@ -138,7 +129,7 @@ key_ivs-once (turn ∷ past) before once =
     let w : Actor = actor_of turn in
     let seals : List Move = map (λ seal. Seals (key_iv seal)) turn.step.seals in
     let one = sealed-calls w turn.calls (uses_of turn.event turn.step.verdict ++ seals) (acts_of past) in
-    let two = sealed-uses w turn.event turn.step.verdict seals one.0 in
+    let two = sealed-uses w (uses_of turn.event turn.step.verdict) (are-uses turn.event turn.step.verdict) seals one.0 in
     let moved : IsEachOnce (before ++ sealed_in (onto w seals two.0)) = subst (λ acts. IsEachOnce (before ++ sealed_in acts)) (one.1 ∙ two.1) once in
     let apart : IsEachOnce ((before ++ map key_iv turn.step.seals) ++ sealed_in (acts_of past)) =
     subst (λ ks. IsEachOnce ((before ++ map key_iv turn.step.seals) ++ ks)) (two.2 ∙ one.2) (sealed-seals w turn.step.seals before two.0 moved) in

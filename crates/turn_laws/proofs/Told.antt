@@ -1,33 +1,39 @@
 -- What an end's own turns say that it holds of a counter is what the acts of all turns make of it.
-use Rattle.std.proofs.Common.{◌≡◌, ℕ, ◌==◌, Bool, true, false, Option, Some, None, List, [], ◌∷◌, ◌++◌, map, ⊎_elim, refl, ap, sym, ◌∙◌, subst, append-nil, if◌then◌else◌}
+use Rattle.std.proofs.Common.{◌≡◌, ℕ, ◌⊎◌, inl, inr, Bool, true, false, Option, Some, None, List, [], ◌∷◌, ◌++◌, map, ⊎_elim, refl, ap, sym, ◌∙◌, subst, if◌then◌else◌}
 use Rattle.std.specs.Prelude.{is_some}
-use Rattle.std.specs.List.{cons_option, filter_map, flat_map}
+use Rattle.std.specs.List.{AllByRecursion, cons_option, filter_map, flat_map}
 use Rattle.std.specs.Option.{option_map}
 use Rattle.event_text.specs.declared.event.Event.{Event}
-use Rattle.event_text.specs.declared.event.Event.TheVariants as event
+use Rattle.event_text.specs.declared.turn.Step.{Step}
 use Rattle.event_text.specs.declared.turn.Turn.{Turn}
 use Rattle.event_text.specs.declared.verdict.Verdict.{Verdict}
 use Rattle.event_text.specs.declared.verdict.Verdict.TheVariants as out
 use Rattle.keeper_book.specs.Counters.{five_at}
+use Rattle.keeper_book.specs.Told.{seen}
 use Rattle.keeper_book.specs.declared.calls.Call.{Call}
 use Rattle.keeper_book.specs.declared.counters.Counter.{Counter}
-use Rattle.keeper_book.specs.declared.counters.Counter.TheVariants as counter
 use Rattle.keeper_book.specs.declared.records.Taken.{Taken}
+use Rattle.turn_laws.proofs.Covers.{ready-calls}
+use Rattle.turn_laws.proofs.Deeds.{Asked, Deed, Ended, Rested, Rests, Used, Used_theirs, UsesIt, performer_at, rest_of}
 use Rattle.turn_laws.proofs.Holdings.{is_actor-same, is_performer-true}
-use Rattle.turn_laws.proofs.Plain.{GrantNone, IsPlain, fits-plain}
+use Rattle.turn_laws.proofs.Outcomes.{Idle, Ours_used, Outcome, Over, Theirs_used, idle-taken, outcome-of, over-rest, over-taken, rests-rest}
+use Rattle.turn_laws.proofs.Records.{deed-of}
 use Rattle.turn_laws.proofs.Runs.{covered_by, held-call, held-covers, is_performer-sym, onto-append, others-hold}
-use Rattle.turn_laws.specs.Acts.{Act, Calls, Seals, begun, held_at, onto}
-use Rattle.turn_laws.specs.Holdings.{Actor, End, Holding, is_actor}
-use Rattle.turn_laws.specs.Places.{Ours}
-use Rattle.turn_laws.specs.Turns.{actor_as, actor_of, acts_of, key_iv, moves_of, told, uses_of}
+use Rattle.turn_laws.proofs.Uses.{held-use}
+use Rattle.turn_laws.specs.Acts.{Act, Calls, begun, held_at, onto}
+use Rattle.turn_laws.specs.Holdings.{Actor, Draws, End, Holding, Nothing, held_after, is_actor}
+use Rattle.turn_laws.specs.Places.{Ours, is_place}
+use Rattle.turn_laws.specs.Turns.{actor_as, actor_of, acts_of, moves_of, taken, taken_of, told}
 use Rattle.turn_rules.proofs.Ties.{greatest-append}
-use Rattle.turn_rules.specs.Ends.{Member, Performer, is_by, is_end, own, performer}
-use Rattle.turn_rules.specs.Held.{covers_in, covers_of, first_of, found, grant_in, grant_of, greatest, number_of, since, used}
-use Rattle.turn_rules.specs.Local.{IsExplained, Local}
+use Rattle.turn_rules.specs.Draws.{reach_of}
+use Rattle.turn_rules.specs.Ends.{Member, Peer, Performer, is_by, is_end, own, performer}
+use Rattle.turn_rules.specs.Held.{covers_in, covers_of, first_of, found, grant_in, grant_of, granted, greatest, since}
+use Rattle.turn_rules.specs.Local.{Local}
+use Rattle.turn_rules.specs.Steps.{IsQuiet}
 
 -- what a turn makes of what is held, where it grants nothing
 abbrev pub told_more : ℕ → Counter → Event → List Call → Verdict → Holding → Holding
-told_more spir c event calls verdict h = record h { high = greatest h.high (covers_in spir c calls); numbers = cons_option (used spir c event verdict) h.numbers }
+told_more spir c event calls verdict h = record h { high = greatest h.high (covers_in spir c calls); numbers = cons_option (taken spir c event verdict) h.numbers }
 
 -- what is held after one more turn of its own
 abbrev pub told_after : ℕ → Counter → Event → List Call → Verdict → Option Holding → Option Holding
@@ -42,7 +48,7 @@ module _ (spir : ℕ) (c : Counter) (turn : Turn) (past : List Turn) where
     epoch = taken.epoch;
     base = five_at taken.bases c;
     high = greatest (five_at taken.bases c) (flat_map (covers_of spir c) turns);
-    numbers = filter_map (number_of spir c) turns;
+    numbers = filter_map (taken_of spir c) turns;
   }
 
   told_later : (taken : Taken) → told_as (turn ∷ since spir past) taken ≡ told_more spir c turn.event turn.calls turn.step.verdict (told_as (since spir past) taken)
@@ -50,7 +56,7 @@ module _ (spir : ℕ) (c : Counter) (turn : Turn) (past : List Turn) where
     epoch = taken.epoch;
     base = five_at taken.bases c;
     high = greatest-append (five_at taken.bases c) (covers_of spir c turn) (flat_map (covers_of spir c) (since spir past)) i;
-    numbers = filter_map (number_of spir c) (turn ∷ since spir past);
+    numbers = filter_map (taken_of spir c) (turn ∷ since spir past);
   }
 
   told_found : (taken : Option Taken) → option_map (told_as (turn ∷ since spir past)) taken ≡ option_map (told_more spir c turn.event turn.calls turn.step.verdict) (option_map (told_as (since spir past)) taken)
@@ -72,58 +78,100 @@ noted_none : (x : Option Holding) → x ≡ option_map (noted None) x
 noted_none None = refl
 noted_none (Some h) = refl
 
--- a number that was drawn
-held-draw : (spir asked member n : ℕ) (c : Counter) (w : Actor) (acts : List Act) → held_at (Ours spir c) (onto w (uses_of (event.Draw member asked) (out.Number n)) acts) w ≡ option_map (noted (used spir c (event.Draw member asked) (out.Number n))) (held_at (Ours spir c) acts w)
-held-draw spir asked member n counter.EspOut w acts = by_test (asked == spir) refl
-  where
-    by_test : (b : Bool) → (asked == spir) ≡ b → held_at (Ours spir counter.EspOut) (onto w (uses_of (event.Draw member asked) (out.Number n)) acts) w ≡ option_map (noted (used spir counter.EspOut (event.Draw member asked) (out.Number n))) (held_at (Ours spir counter.EspOut) acts w)
-    by_test true t = let here : is_actor w w ≡ true = is_actor-same w in rw (t, here)
-    by_test false t = rw t (noted_none (held_at (Ours spir counter.EspOut) acts w))
-held-draw spir asked member n c w acts = by_test (asked == spir) refl
-  where
-    by_test : (b : Bool) → (asked == spir) ≡ b → held_at (Ours spir c) (onto w (uses_of (event.Draw member asked) (out.Number n)) acts) w ≡ option_map (noted None) (held_at (Ours spir c) acts w)
-    by_test true t = rw t (noted_none (held_at (Ours spir c) acts w))
-    by_test false t = rw t (noted_none (held_at (Ours spir c) acts w))
+-- what the moves of a turn beside its calls make of what its end holds
+abbrev Notes : ℕ → Counter → Actor → Event → Step → Type 0
+Notes spir c w event step = (acts : List Act) → held_at (Ours spir c) (onto w (rest_of event step) acts) w ≡ option_map (noted (taken spir c event step.verdict)) (held_at (Ours spir c) acts w)
 
--- the numbers that an event used without a seal
-held-uses : (spir : ℕ) (c : Counter) (w : Actor) (acts : List Act) (event : Event) (verdict : Verdict) → held_at (Ours spir c) (onto w (uses_of event verdict) acts) w ≡ option_map (noted (used spir c event verdict)) (held_at (Ours spir c) acts w)
-held-uses spir counter.EspOut w acts (event.Draw member asked) (out.Number n) = held-draw spir asked member n counter.EspOut w acts
-held-uses spir c w acts (event.Draw member asked) (out.Number n) = held-draw spir asked member n c w acts
-held-uses spir c w acts event verdict = noted_none (held_at (Ours spir c) acts w)
+module _ (spir : ℕ) (c : Counter) (w : Actor) (event : Event) (step : Step) where
+  idle-notes : Rests step → Notes spir c w event step
+  idle-notes rests acts =
+      ap (λ moves. held_at (Ours spir c) (onto w moves acts) w) (rests-rest event step rests)
+      ∙ (noted_none (held_at (Ours spir c) acts w)
+      ∙ ap (λ number. option_map (noted number) (held_at (Ours spir c) acts w)) (sym (idle-taken spir c event step.verdict rests.idle)))
+
+  over-notes : step.verdict ≡ out.Down → IsQuiet step → Notes spir c w event step
+  over-notes said quiet acts =
+      ap (λ moves. held_at (Ours spir c) (onto w moves acts) w) (over-rest event step said quiet)
+      ∙ (noted_none (held_at (Ours spir c) acts w)
+      ∙ ap (λ number. option_map (noted number) (held_at (Ours spir c) acts w)) (sym (ap (taken spir c event) said ∙ over-taken spir c event)))
+
+  use-notes : (a : ℕ) (d : Counter) (n : ℕ) → UsesIt a d n event step → Notes spir c w event step
+  use-notes a d n it acts =
+      held-use (Ours spir c) (Ours a d) n w acts (rest_of event step) it.spends.uses_it
+      ∙ (by_test (is_place (Ours a d) (Ours spir c))
+      ∙ ap (λ number. option_map (noted number) (held_at (Ours spir c) acts w)) (sym (it.told spir c)))
+    where
+      by_test : (b : Bool) → held_after (if b then Draws w n else Nothing) (held_at (Ours spir c) acts) w ≡ option_map (noted (if b then Some n else None)) (held_at (Ours spir c) acts w)
+      by_test true = let here : is_actor w w ≡ true = is_actor-same w in rw here refl
+      by_test false = noted_none (held_at (Ours spir c) acts w)
+
+-- so it is in each turn of a member
+member-notes : (spir : ℕ) (c : Counter) (w : Actor) (member : ℕ) (past : List Turn) (event : Event) (calls : List Call) (step : Step) → performer_at event step.verdict ≡ Some (Member member) → Outcome past event calls step → Notes spir c w event step
+member-notes spir c w member past event calls step by (Idle rests) = idle-notes spir c w event step rests
+member-notes spir c w member past event calls step by (Over said quiet) = over-notes spir c w event step said quiet
+member-notes spir c w member past event calls step by (Ours_used u it) = use-notes spir c w event step u.held.sa.spir u.c u.number it
+member-notes spir c w member past event calls step by (Theirs_used u) = absurd (apart (sym u.by_it ∙ by))
+  where
+    apart : Some Peer ≡ Some (Member member) → ⊥
+    apart same = absurd (cc)
+
+-- none of the calls grants the association
+abbrev GrantNone : ℕ → List Call → Type 0
+GrantNone spir calls = AllByRecursion (λ call. granted spir call.asked (seen call) ≡ None) calls
 
 grants-none : (spir : ℕ) (calls : List Call) → GrantNone spir calls → grant_in spir calls ≡ None
 grants-none spir [] none = refl
 grants-none spir (call ∷ calls) none = ap (λ g. first_of g (grant_in spir calls)) none.0 ∙ grants-none spir calls none.1
 
-module _ (spir : ℕ) (c : Counter) (w : Actor) (event : Event) (calls : List Call) (verdict : Verdict) where
-  told_none : (x : Option Holding) → GrantNone spir calls → option_map (noted (used spir c event verdict)) (option_map (covered_by spir c w calls) x) ≡ told_after spir c event calls verdict x
-  told_none x none = go x ∙ sym (ap (λ g. first_of (option_map (begun c) g) (option_map (told_more spir c event calls verdict) x)) (grants-none spir calls none))
+-- the calls of a turn grant nothing, or there is one call and nothing is used
+abbrev IsPlain : ℕ → Counter → Event → List Call → Verdict → Type 0
+IsPlain spir c event calls verdict = GrantNone spir calls ⊎ ((call : Call) × (calls ≡ call ∷ []) × (taken spir c event verdict ≡ None))
+
+none-made : (spir : ℕ) (calls : List Call) → calls ≡ [] → GrantNone spir calls
+none-made spir calls none = subst (λ cs. GrantNone spir cs) (sym none) tt
+
+deed-plain : (spir : ℕ) (c : Counter) (past : List Turn) (event : Event) (calls : List Call) (step : Step) → Deed past event calls step → IsPlain spir c event calls step.verdict
+deed-plain spir c past event calls step (Rested none rests no_entry) = inl (none-made spir calls none)
+deed-plain spir c past event calls step (Asked asks) = inr (asks.call, asks.one, idle-taken spir c event step.verdict asks.rests.idle)
+deed-plain spir c past event calls step (Ended member by none said quiet) = inl (none-made spir calls none)
+deed-plain spir c past event calls step (Used_theirs u) = inl (none-made spir calls u.no_calls)
+deed-plain spir c past event calls step (Used u) = inl (ready-calls (GrantNone spir) (reach_of u.held u.c) u.number
+    (λ why rest. (rest ≡ []) × Rests step)
+    (λ high rest. (rest ≡ []) × UsesIt u.held.sa.spir u.c u.number event step)
+    (λ call rest asked none. (rw asked, none))
+    (λ why rest s. none-made spir rest s.0)
+    (λ high rest s. none-made spir rest s.0)
+    calls u.ready)
+
+module _ (spir : ℕ) (c : Counter) (w : Actor) (event : Event) (calls : List Call) (step : Step) where
+  told_none : (x : Option Holding) → GrantNone spir calls → option_map (noted (taken spir c event step.verdict)) (option_map (covered_by spir c w calls) x) ≡ told_after spir c event calls step.verdict x
+  told_none x none = go x ∙ sym (ap (λ g. first_of (option_map (begun c) g) (option_map (told_more spir c event calls step.verdict) x)) (grants-none spir calls none))
     where
-      go : (x : Option Holding) → option_map (noted (used spir c event verdict)) (option_map (covered_by spir c w calls) x) ≡ option_map (told_more spir c event calls verdict) x
+      go : (x : Option Holding) → option_map (noted (taken spir c event step.verdict)) (option_map (covered_by spir c w calls) x) ≡ option_map (told_more spir c event calls step.verdict) x
       go None = refl
       go (Some h) = refl
 
-  told_once : (x : Option Holding) → used spir c event verdict ≡ None → option_map (noted (used spir c event verdict)) (first_of (option_map (begun c) (grant_in spir calls)) (option_map (covered_by spir c w calls) x)) ≡ told_after spir c event calls verdict x
+  told_once : (x : Option Holding) → taken spir c event step.verdict ≡ None → option_map (noted (taken spir c event step.verdict)) (first_of (option_map (begun c) (grant_in spir calls)) (option_map (covered_by spir c w calls) x)) ≡ told_after spir c event calls step.verdict x
   told_once x none = go (grant_in spir calls) x
     where
-      go : (g : Option Taken) (x : Option Holding) → option_map (noted (used spir c event verdict)) (first_of (option_map (begun c) g) (option_map (covered_by spir c w calls) x)) ≡ first_of (option_map (begun c) g) (option_map (told_more spir c event calls verdict) x)
+      go : (g : Option Taken) (x : Option Holding) → option_map (noted (taken spir c event step.verdict)) (first_of (option_map (begun c) g) (option_map (covered_by spir c w calls) x)) ≡ first_of (option_map (begun c) g) (option_map (told_more spir c event calls step.verdict) x)
       go (Some taken) x = rw none
       go None None = refl
       go None (Some h) = refl
 
   -- what an end holds after a turn of its own
-  pub held-turn : (acts : List Act) → IsPlain spir c event calls verdict → held_at (Ours spir c) (onto w (map Calls calls ++ uses_of event verdict) acts) w ≡ told_after spir c event calls verdict (held_at (Ours spir c) acts w)
-  held-turn acts plain =
-      ap (λ more. held_at (Ours spir c) more w) (onto-append w (map Calls calls) (uses_of event verdict) acts)
-      ∙ (held-uses spir c w (onto w (map Calls calls) acts) event verdict
+  held-turn : (acts : List Act) → Notes spir c w event step → IsPlain spir c event calls step.verdict → held_at (Ours spir c) (onto w (map Calls calls ++ rest_of event step) acts) w ≡ told_after spir c event calls step.verdict (held_at (Ours spir c) acts w)
+  held-turn acts notes plain =
+      ap (λ more. held_at (Ours spir c) more w) (onto-append w (map Calls calls) (rest_of event step) acts)
+      ∙ (notes (onto w (map Calls calls) acts)
       ∙ ⊎_elim several one plain)
     where
-      several : GrantNone spir calls → option_map (noted (used spir c event verdict)) (held_at (Ours spir c) (onto w (map Calls calls) acts) w) ≡ told_after spir c event calls verdict (held_at (Ours spir c) acts w)
-      several none = ap (option_map (noted (used spir c event verdict))) (held-covers spir c w calls acts none) ∙ told_none (held_at (Ours spir c) acts w) none
+      several : GrantNone spir calls → option_map (noted (taken spir c event step.verdict)) (held_at (Ours spir c) (onto w (map Calls calls) acts) w) ≡ told_after spir c event calls step.verdict (held_at (Ours spir c) acts w)
+      several none = ap (option_map (noted (taken spir c event step.verdict))) (held-covers spir c w calls acts none) ∙ told_none (held_at (Ours spir c) acts w) none
 
-      one : (call : Call) × (calls ≡ call ∷ []) × (used spir c event verdict ≡ None) → option_map (noted (used spir c event verdict)) (held_at (Ours spir c) (onto w (map Calls calls) acts) w) ≡ told_after spir c event calls verdict (held_at (Ours spir c) acts w)
+      one : (call : Call) × (calls ≡ call ∷ []) × (taken spir c event step.verdict ≡ None) → option_map (noted (taken spir c event step.verdict)) (held_at (Ours spir c) (onto w (map Calls calls) acts) w) ≡ told_after spir c event calls step.verdict (held_at (Ours spir c) acts w)
       one is =
-          ap (option_map (noted (used spir c event verdict)))
+          ap (option_map (noted (taken spir c event step.verdict)))
           (subst (λ cs. held_at (Ours spir c) (onto w (map Calls cs) acts) w ≡ first_of (option_map (begun c) (grant_in spir cs)) (option_map (covered_by spir c w cs) (held_at (Ours spir c) acts w))) (sym is.1) (held-call spir c w is.0 acts))
           ∙ told_once (held_at (Ours spir c) acts w) is.2
 
@@ -135,31 +183,28 @@ is_end-false : (end : Performer) (x : Option Performer) → is_end end x ≡ fal
 is_end-false end None e = refl
 is_end-false end (Some other) e = is_performer-sym other end ∙ e
 
--- no turn seals anything yet, so the moves of a turn are its calls and the numbers that its event used
-pub moves-quiet : (boxes : ℕ) (past : List Turn) (turn : Turn) → IsExplained boxes past turn → moves_of turn ≡ map Calls turn.calls ++ uses_of turn.event turn.step.verdict
-moves-quiet boxes past turn explained =
-    ap (λ seals. map Calls turn.calls ++ (uses_of turn.event turn.step.verdict ++ map (λ seal. Seals (key_iv seal)) seals)) explained.quiet.seals
-    ∙ ap (λ moves. map Calls turn.calls ++ moves) (append-nil (uses_of turn.event turn.step.verdict))
-
 -- what a member's own turns say that it holds is what the acts of all turns make of it
 pub told-held : (boxes : ℕ) (past : List Turn) → Local boxes past → (member spir : ℕ) (c : Counter) → told spir c (own (Member member) past) ≡ held_at (Ours spir c) (acts_of past) (End (Member member))
 told-held boxes [] local member spir c = refl
 told-held boxes (turn ∷ past) local member spir c = by_test (told-held boxes past local.1 member spir c) (is_by (Member member) turn) refl
   where
-    mine : (w : Actor) → actor_of turn ≡ w → held_at (Ours spir c) (onto w (moves_of turn) (acts_of past)) w ≡ told_after spir c turn.event turn.calls turn.step.verdict (held_at (Ours spir c) (acts_of past) w)
-    mine w is =
-        ap (λ moves. held_at (Ours spir c) (onto w moves (acts_of past)) w) (moves-quiet boxes past turn local.0)
-        ∙ held-turn spir c w turn.event turn.calls turn.step.verdict (acts_of past) (fits-plain spir c boxes past turn.event turn.calls turn.step.verdict local.0.fits)
+    deed : Deed past turn.event turn.calls turn.step
+    deed = deed-of boxes past turn local.0 local.1
+
+    mine : performer turn ≡ Some (Member member) → held_at (Ours spir c) (onto (actor_of turn) (moves_of turn) (acts_of past)) (actor_of turn) ≡ told_after spir c turn.event turn.calls turn.step.verdict (held_at (Ours spir c) (acts_of past) (actor_of turn))
+    mine by = held-turn spir c (actor_of turn) turn.event turn.calls turn.step (acts_of past)
+        (member-notes spir c (actor_of turn) member past turn.event turn.calls turn.step by (outcome-of past turn.event turn.calls turn.step deed))
+        (deed-plain spir c past turn.event turn.calls turn.step deed)
 
     by_test : told spir c (own (Member member) past) ≡ held_at (Ours spir c) (acts_of past) (End (Member member)) → (b : Bool) → is_by (Member member) turn ≡ b → told spir c (own (Member member) (turn ∷ past)) ≡ held_at (Ours spir c) (acts_of (turn ∷ past)) (End (Member member))
     by_test before true t =
-        let is : actor_of turn ≡ End (Member member) = ap actor_as (is_end-true (Member member) (performer turn) t) in
+        let by : performer turn ≡ Some (Member member) = is_end-true (Member member) (performer turn) t in
+        let is : actor_of turn ≡ End (Member member) = ap actor_as by in
         let more : own (Member member) (turn ∷ past) ≡ turn ∷ own (Member member) past = ap (λ b. if b then turn ∷ own (Member member) past else own (Member member) past) t in
         ap (told spir c) more
         ∙ (told-cons spir c turn (own (Member member) past)
         ∙ (ap (told_after spir c turn.event turn.calls turn.step.verdict) before
-        ∙ (sym (mine (End (Member member)) is)
-        ∙ ap (λ w. held_at (Ours spir c) (onto w (moves_of turn) (acts_of past)) (End (Member member))) (sym is))))
+        ∙ sym (subst (λ w. held_at (Ours spir c) (onto (actor_of turn) (moves_of turn) (acts_of past)) w ≡ told_after spir c turn.event turn.calls turn.step.verdict (held_at (Ours spir c) (acts_of past) w)) is (mine by))))
     by_test before false t =
         let same : own (Member member) (turn ∷ past) ≡ own (Member member) past = ap (λ b. if b then turn ∷ own (Member member) past else own (Member member) past) t in
         ap (told spir c) same

@@ -1,23 +1,15 @@
 -- The moves of every turn that is explained may be made.
-use Rattle.std.proofs.Common.{◌≡◌, ℕ, ◌+◌, ◌<◌, ◌≤◌, ◌==◌, ◌||◌, not, true, false, Option, Some, None, MatchOption, List, [], ◌∷◌, ◌++◌, map, ⊎_elim, refl, ap, sym, ◌∙◌, subst, arith, if◌then◌else◌}
-use Rattle.std.specs.Prelude.{nat_le, nat_lt}
+use Rattle.std.proofs.Common.{◌≡◌, ℕ, ◌<◌, ◌≤◌, ◌==◌, true, Bool, Option, Some, None, MatchOption, List, [], ◌∷◌, ◌++◌, map, ⊎_elim, refl, ap, sym, ◌∙◌, subst, arith}
 use Rattle.std.proofs.lemmas.Bool.{cases_lt, eq-eqb}
-use Rattle.std.proofs.lemmas.Option.{same_Some}
-use Rattle.std.specs.List.{filter_map}
-use Rattle.std.specs.Option.{option_map}
 use Rattle.event_text.specs.declared.event.Event.{Event}
-use Rattle.event_text.specs.declared.event.Event.TheVariants as event
+use Rattle.event_text.specs.declared.turn.Step.{Step}
 use Rattle.event_text.specs.declared.turn.Turn.{Turn}
-use Rattle.event_text.specs.declared.verdict.Refusal.{Refusal}
-use Rattle.event_text.specs.declared.verdict.Refusal.TheVariants as refusal
-use Rattle.event_text.specs.declared.verdict.Verdict.{Verdict}
-use Rattle.event_text.specs.declared.verdict.Verdict.TheVariants as out
 use Rattle.horizons.specs.Reaches.{Reach, cover_of, lead_of}
 use Rattle.horizons.specs.Ready.{Answered, Covers, Ready}
 use Rattle.horizons.specs.Stops.{stop_of}
 use Rattle.horizons.specs.declared.stop.Stop.{Stop}
 use Rattle.horizons.specs.declared.stop.Stop.TheVariants as stop
-use Rattle.keeper_book.specs.Counters.{counter_named, end_of, five_at}
+use Rattle.keeper_book.specs.Counters.{counter_named, end_of}
 use Rattle.keeper_book.specs.Told.{seen}
 use Rattle.keeper_book.specs.declared.calls.Call.{Call}
 use Rattle.keeper_book.specs.declared.calls.KeeperAnswer.{KeeperAnswer}
@@ -25,62 +17,21 @@ use Rattle.keeper_book.specs.declared.calls.KeeperAnswer.TheVariants as answer
 use Rattle.keeper_book.specs.declared.calls.KeeperAsk.TheVariants as ask
 use Rattle.keeper_book.specs.declared.counters.Counter.{Counter}
 use Rattle.keeper_book.specs.declared.counters.Counter.TheVariants as counter
-use Rattle.keeper_book.specs.declared.records.Record.{Record}
-use Rattle.keeper_book.specs.declared.records.Taken.{Taken}
+use Rattle.turn_laws.proofs.Deeds.{Asked, Deed, Ended, IsOpenTo, MemberUses, Rested, Rests, Used, Used_theirs, UsesIt, performer_at, rest_of}
 use Rattle.turn_laws.proofs.Entries.{is_counter-same}
 use Rattle.turn_laws.proofs.Holdings.{is_actor-same}
-use Rattle.turn_laws.proofs.Plain.{ready-calls, unless_refusing}
-use Rattle.turn_laws.proofs.Records.{HaveTheirRecords, granted-spir}
-use Rattle.turn_laws.proofs.Runs.{greatest-least}
-use Rattle.turn_laws.specs.Acts.{Act, Calls, MayDo, MayDoAll, held_at}
+use Rattle.turn_laws.proofs.Names.{counter-named}
+use Rattle.turn_laws.proofs.Outcomes.{over-rest, rests-rest}
+use Rattle.turn_laws.proofs.Tells.{Tells, tells}
+use Rattle.turn_laws.proofs.Uses.{may-use}
+use Rattle.turn_laws.specs.Acts.{Act, Calls, HoldsFor, MayDo, MayDoAll, held_at}
 use Rattle.turn_laws.specs.Holdings.{Actor, End, Holding, IsNotIn, is_actor, raised_to}
-use Rattle.turn_laws.specs.Places.{Ours}
-use Rattle.turn_laws.specs.Turns.{actor_as, told, uses_of}
-use Rattle.turn_rules.proofs.Ties.{five_at-five_of}
-use Rattle.turn_rules.specs.Draws.{Concludes, Draws, Enters, TakesOver, reach_of, refusal_of_stop}
-use Rattle.turn_rules.specs.Ends.{Member, Peer, is_by, is_of_run, is_refused_by_run, own, performer_of}
-use Rattle.turn_rules.specs.Fits.{Fits, MAX_MEMBERS, has_import, has_joined, has_takeover, is_importable, joins}
-use Rattle.turn_rules.specs.Held.{Held, found, grant_of, greatest, held_by, high_of, holding, is_named, next_of, number_of, since, window_by}
-use Rattle.turn_rules.specs.Peers.{admits, slots_by}
-
--- a number at which a counter is ready was not used: it is above each that was
-above-used : (base n : ℕ) (numbers : List ℕ) → n ≡ greatest base (map (λ k. k + 1) numbers) → IsNotIn n numbers
-above-used base n [] is = tt
-above-used base n (k ∷ ks) is =
-    ((λ same. absurd (omega arith)), all_below ks (let rest : greatest base (map (λ k. k + 1) ks) ≤ n = omega arith in rest))
-  where
-    all_below : (ks : List ℕ) → greatest base (map (λ k. k + 1) ks) ≤ n → IsNotIn n ks
-    all_below [] below = tt
-    all_below (k ∷ ks) below = ((λ same. absurd (omega arith)), all_below ks (omega arith))
-
--- what own turns say that a member holds, at one counter
-pub record Tells (mine : List Turn) (spir : ℕ) (c : Counter) (held : Held) (h : Holding) : Type 0 where
-  pub told_so : told spir c mine ≡ Some h
-  pub epoch : h.epoch ≡ held.epoch
-  pub base : h.base ≡ five_at held.bases c
-  pub high : h.high ≡ five_at held.highs c
-  pub may_base : h.base ≤ five_at held.nexts c
-  pub unused : IsNotIn (five_at held.nexts c) h.numbers
-
-pub tells : (size : ℕ) (mine : List Turn) (spir : ℕ) (c : Counter) (held : Held) → held_by size mine spir ≡ Some held → (h : Holding) × Tells mine spir c held h
-tells size mine spir c held is = go (found (grant_of spir) mine) refl is
-  where
-    go : (x : Option Taken) → found (grant_of spir) mine ≡ x → option_map (holding size spir mine) x ≡ Some held → (h : Holding) × Tells mine spir c held h
-    go None e is = absurd (cc)
-    go (Some taken) e is = subst (λ (y : Held). (h : Holding) × Tells mine spir c y h) (same_Some (holding size spir mine taken) held is) (
-      of,
-      record {
-        told_so = ap (option_map {T = Taken} (λ t. record { epoch = t.epoch; base = five_at t.bases c; high = high_of spir c t.bases mine; numbers = filter_map (number_of spir c) (since spir mine) })) e;
-        epoch = refl;
-        base = refl;
-        high = sym (five_at-five_of (λ d. high_of spir d taken.bases mine) c);
-        may_base = let at : five_at (holding size spir mine taken).nexts c ≡ next_of spir c taken.bases mine = five_at-five_of (λ d. next_of spir d taken.bases mine) c in let low : five_at taken.bases c ≤ next_of spir c taken.bases mine = greatest-least (five_at taken.bases c) (map (λ n. n + 1) (filter_map (number_of spir c) (since spir mine))) in omega arith;
-        unused = above-used (five_at taken.bases c) (five_at (holding size spir mine taken).nexts c) (filter_map (number_of spir c) (since spir mine)) (five_at-five_of (λ d. next_of spir d taken.bases mine) c);
-      },
-    )
-      where
-        of : Holding
-        of = record { epoch = taken.epoch; base = five_at taken.bases c; high = high_of spir c taken.bases mine; numbers = filter_map (number_of spir c) (since spir mine) }
+use Rattle.turn_laws.specs.Places.{Ours, Theirs}
+use Rattle.turn_laws.specs.Turns.{actor_as, told}
+use Rattle.turn_rules.specs.Draws.{reach_of}
+use Rattle.turn_rules.specs.Ends.{Member, Peer, own}
+use Rattle.turn_rules.specs.Held.{is_named, window_by}
+use Rattle.turn_rules.specs.Slots.{Slot, first_slot, slots_by}
 
 lead_some : (c : Counter) → 0 < lead_of c
 lead_some counter.EspOut = omega arith
@@ -134,111 +85,54 @@ module _ (w : Actor) (R : List Act → List Call → Type 0) (r : Reach) (at : �
       (λ l. ⊎_elim (λ b. covers-well b calls (ready.asked l b)) (λ e. stopped acts stop.Exhausted calls (ready.ended l e)) (cases_lt at (end_of r.counter)))
       (cases_lt at r.high)
 
-quiet-uses : (event : Event) (why : Refusal) → uses_of event (out.Refused why) ≡ []
-quiet-uses (event.Draw member spir) why = refl
-quiet-uses event why = refl
+-- a member's use of a number of what it holds
+module _ (past : List Turn) (event : Event) (step : Step) (member spir : ℕ) where
+  abbrev w : Actor
+  w = End (Member member)
 
-stop-of_member : (why : Stop) → is_of_run (refusal_of_stop why) ≡ false
-stop-of_member stop.Keeper = refl
-stop-of_member (stop.Replaced epoch) = refl
-stop-of_member stop.Exhausted = refl
-stop-of_member stop.Closed = refl
-stop-of_member stop.Unknown = refl
+  abbrev MayMake : List Act → List Call → Type 0
+  MayMake acts calls = MayDoAll acts w (map Calls calls ++ rest_of event step)
 
--- a draw of what is held is no refusal of the run
-draws-of_member : (held : Held) (calls : List Call) (verdict : Verdict) → Draws held calls verdict → is_refused_by_run verdict ≡ false
-draws-of_member held calls verdict d = ready-calls (λ calls. is_refused_by_run verdict ≡ false) (reach_of held counter.EspOut) (five_at held.nexts counter.EspOut)
-    (λ why rest. Concludes rest verdict (out.Refused (refusal_of_stop why)))
-    (λ high rest. Concludes rest verdict (out.Number (five_at held.nexts counter.EspOut)))
-    (λ call rest asked is. is)
-    (λ why rest c. rw c.said (stop-of_member why))
-    (λ high rest c. rw c.said)
-    calls d
+  rests-well : (acts : List Act) (rest : List Call) → rest ≡ [] → Rests step → MayMake acts rest
+  rests-well acts rest none rests = let quiet : _ = rests-rest event step rests in rw (none, quiet) tt
 
--- who makes the moves of an event that came out so
-abbrev pub actor_at : Event → Verdict → Actor
-actor_at event verdict = actor_as (if is_refused_by_run verdict then None else performer_of event verdict)
-
--- the moves of an event that came out so
-abbrev MayMake : List Act → Actor → Event → Verdict → List Call → Type 0
-MayMake acts w event verdict calls = MayDoAll acts w (map Calls calls ++ uses_of event verdict)
-
-module _ (acts : List Act) (w : Actor) where
-  refused-well : (event : Event) (why : Refusal) (calls : List Call) (verdict : Verdict) → Concludes calls verdict (out.Refused why) → MayMake acts w event verdict calls
-  refused-well event why calls verdict c = rw (c.no_more, c.said, quiet-uses event why) tt
-
-  enters-well : (sa : Record) (calls : List Call) (verdict : Verdict) → Enters sa calls verdict → MayMake acts w (event.Import sa) verdict calls
-  enters-well sa [] verdict e = absurd e
-  enters-well sa (call ∷ []) verdict e = (rw e.0 tt, tt)
-  enters-well sa (call ∷ other ∷ more) verdict e = absurd e
-
-  takes_over-well : (member spir : ℕ) (calls : List Call) (verdict : Verdict) → TakesOver spir member calls verdict → MayMake acts w (event.Own member spir) verdict calls
-  takes_over-well member spir [] verdict t = absurd t
-  takes_over-well member spir (call ∷ []) verdict t = (rw t.0 tt, tt)
-  takes_over-well member spir (call ∷ other ∷ more) verdict t = absurd t
-
--- a draw, by what the member holds
-module _ (member spir : ℕ) (mine : List Turn) (held : Held) (verdict : Verdict) (of_spir : held.sa.spir ≡ spir) (h : Holding) (tells : Tells mine spir counter.EspOut held h) where
-  draws-well : (acts : List Act) (w : Actor) → told spir counter.EspOut mine ≡ held_at (Ours spir counter.EspOut) acts w → (calls : List Call) → Draws held calls verdict → MayMake acts w (event.Draw member spir) verdict calls
-  draws-well acts w agrees calls d = ready-well w (λ acts calls. MayMake acts w (event.Draw member spir) verdict calls) (reach_of held counter.EspOut) (five_at held.nexts counter.EspOut)
-      (λ why rest. Concludes rest verdict (out.Refused (refusal_of_stop why)))
-      (λ high rest. Concludes rest verdict (out.Number (five_at held.nexts counter.EspOut)))
+  uses-well : (calls : List Call) (u : MemberUses past event calls step) (h : Holding) → Tells (own (Member member) past) u.held.sa.spir u.c u.held h → (acts : List Act) → held_at (Ours u.held.sa.spir u.c) acts w ≡ Some h → MayMake acts calls
+  uses-well calls u h tells acts holds = ready-well w MayMake (reach_of u.held u.c) u.number
+      (λ why rest. (rest ≡ []) × Rests step)
+      (λ high rest. (rest ≡ []) × UsesIt u.held.sa.spir u.c u.number event step)
       (λ acts call rest may more. (may, more))
-      (λ acts why rest c. refused-well acts w (event.Draw member spir) (refusal_of_stop why) rest verdict c)
-      acts h (subst (λ n. held_at (Ours n counter.EspOut) acts w ≡ Some h) (sym of_spir) (sym agrees ∙ tells.told_so)) tells.epoch tells.high refl
-      (λ acts now high rest holds readied c. rw (c.no_more, c.said) (
-        record {
-          holding = now;
-          holds = subst (λ n. held_at (Ours n counter.EspOut) acts w ≡ Some now) of_spir holds;
-          may = record {
-            from_base = let base : now.base ≡ h.base = readied.base in let low : h.base ≤ five_at held.nexts counter.EspOut = tells.may_base in omega arith;
-            below_high = readied.above;
-            unused = subst (λ ns. IsNotIn (five_at held.nexts counter.EspOut) ns) (sym readied.numbers) tells.unused;
-          };
-        },
-        tt,
-      ))
-      calls d
-
-module _ (boxes : ℕ) (past : List Turn) (acts : List Act) (agrees : (member spir : ℕ) (c : Counter) → told spir c (own (Member member) past) ≡ held_at (Ours spir c) acts (End (Member member))) (records : HaveTheirRecords past) where
-  draw-well : (member spir : ℕ) (calls : List Call) (verdict : Verdict) (x : Option Held) → held_by (window_by past) (own (Member member) past) spir ≡ x → MatchOption x (Concludes calls verdict (out.Refused refusal.NotOwner)) (λ held. Draws held calls verdict) → MayMake acts (actor_at (event.Draw member spir) verdict) (event.Draw member spir) verdict calls
-  draw-well member spir calls verdict None e d = refused-well acts (actor_at (event.Draw member spir) verdict) (event.Draw member spir) refusal.NotOwner calls verdict d
-  draw-well member spir calls verdict (Some held) e d =
-      let so : (h : Holding) × Tells (own (Member member) past) spir counter.EspOut held h = tells (window_by past) (own (Member member) past) spir counter.EspOut held e in
-      let mine : actor_at (event.Draw member spir) verdict ≡ End (Member member) = ap (λ b. actor_as (if b then None else Some (Member member))) (draws-of_member held calls verdict d) in
-      subst (λ w. MayMake acts w (event.Draw member spir) verdict calls) (sym mine)
-      (draws-well member spir (own (Member member) past) held verdict (spir-held (found (grant_of spir) (own (Member member) past)) refl e) so.0 so.1 acts (End (Member member)) (agrees member spir counter.EspOut) calls d)
+      (λ acts why rest s. rests-well acts rest s.0 s.1)
+      acts h holds tells.epoch tells.high (counter-named u.c)
+      (λ acts now high rest holds readied s. used acts now rest holds readied s.0 s.1)
+      calls u.ready
     where
-      spir-held : (x : Option Taken) → found (grant_of spir) (own (Member member) past) ≡ x → option_map (holding (window_by past) spir (own (Member member) past)) x ≡ Some held → held.sa.spir ≡ spir
-      spir-held None f is = absurd (cc)
-      spir-held (Some taken) f is =
-          subst (λ (y : Held). y.sa.spir ≡ spir) (same_Some (holding (window_by past) spir (own (Member member) past) taken) held is)
-          (granted-spir (is_by (Member member)) past records spir taken f)
+      used : (acts : List Act) (now : Holding) (rest : List Call) → held_at (Ours u.held.sa.spir u.c) acts w ≡ Some now → IsReadied h now u.number → rest ≡ [] → UsesIt u.held.sa.spir u.c u.number event step → MayMake acts rest
+      used acts now rest holds readied none it = rw none (may-use (Ours u.held.sa.spir u.c) u.number w acts (rest_of event step) it.spends.uses_it (record {
+        holding = now;
+        holds = holds;
+        may = record {
+          from_base = let base : now.base ≡ h.base = readied.base in let low : h.base ≤ u.number = (tells.unused u.number u.is_open).0 in omega arith;
+          below_high = readied.above;
+          unused = subst (λ ns. IsNotIn u.number ns) (sym readied.numbers) (tells.unused u.number u.is_open).1;
+        };
+      }))
 
-  -- each event that is explained makes moves that may be made
-  pub fits-well : (event : Event) (calls : List Call) (verdict : Verdict) → Fits boxes past event calls verdict → MayMake acts (actor_at event verdict) event verdict calls
-  fits-well (event.Import sa) calls verdict fits =
-      unless_refusing (has_import past) refusal.NotBuilt calls verdict (refused-well acts (actor_at (event.Import sa) verdict) (event.Import sa) refusal.NotBuilt calls verdict)
-      (unless_refusing (not (is_importable sa)) refusal.SpiRange calls verdict (refused-well acts (actor_at (event.Import sa) verdict) (event.Import sa) refusal.SpiRange calls verdict)
-      (unless_refusing (not (admits (slots_by (own Peer past)) sa)) refusal.SpiInUse calls verdict (refused-well acts (actor_at (event.Import sa) verdict) (event.Import sa) refusal.SpiInUse calls verdict)
-      (enters-well acts (actor_at (event.Import sa) verdict) sa calls verdict))) fits
-  fits-well (event.Join fresh) calls verdict fits =
-      unless_refusing (nat_lt 0 (joins past)) refusal.NotBuilt calls verdict (refused-well acts (actor_at (event.Join fresh) verdict) (event.Join fresh) refusal.NotBuilt calls verdict)
-      (unless_refusing (nat_le MAX_MEMBERS (joins past) || nat_le boxes (joins past)) (refusal.NoRoom (joins past)) calls verdict (refused-well acts (actor_at (event.Join fresh) verdict) (event.Join fresh) (refusal.NoRoom (joins past)) calls verdict)
-      (joins-well (actor_at (event.Join fresh) verdict))) fits
-    where
-      joins-well : (w : Actor) → Concludes calls verdict (out.Member (joins past + 1)) → MayMake acts w (event.Join fresh) verdict calls
-      joins-well w c = rw c.no_more tt
-  fits-well (event.Own member spir) calls verdict fits =
-      unless_refusing (not (has_joined member past)) refusal.NoMember calls verdict (refused-well acts (actor_at (event.Own member spir) verdict) (event.Own member spir) refusal.NoMember calls verdict)
-      (unless_refusing (has_takeover past) refusal.NotBuilt calls verdict (refused-well acts (actor_at (event.Own member spir) verdict) (event.Own member spir) refusal.NotBuilt calls verdict)
-      (takes_over-well acts (actor_at (event.Own member spir) verdict) member spir calls verdict)) fits
-  fits-well (event.Draw member spir) calls verdict fits =
-      unless_refusing (not (has_joined member past)) refusal.NoMember calls verdict (refused-well acts (actor_at (event.Draw member spir) verdict) (event.Draw member spir) refusal.NoMember calls verdict)
-      (draw-well member spir calls verdict (held_by (window_by past) (own (Member member) past) spir) refl) fits
-  fits-well (event.Cluster identity lifetime window ticket_key) calls verdict fits = refused-well acts (actor_at (event.Cluster identity lifetime window ticket_key) verdict) (event.Cluster identity lifetime window ticket_key) refusal.NotBuilt calls verdict fits
-  fits-well (event.Send from spir payload) calls verdict fits = refused-well acts (actor_at (event.Send from spir payload) verdict) (event.Send from spir payload) refusal.NotBuilt calls verdict fits
-  fits-well (event.Deliver which to) calls verdict fits = refused-well acts (actor_at (event.Deliver which to) verdict) (event.Deliver which to) refusal.NotBuilt calls verdict fits
-  fits-well (event.Alter which to place octet) calls verdict fits = refused-well acts (actor_at (event.Alter which to place octet) verdict) (event.Alter which to place octet) refusal.NotBuilt calls verdict fits
-  fits-well (event.Cut which to keep) calls verdict fits = refused-well acts (actor_at (event.Cut which to keep) verdict) (event.Cut which to keep) refusal.NotBuilt calls verdict fits
-  fits-well (event.Inject to medium octets) calls verdict fits = refused-well acts (actor_at (event.Inject to medium octets) verdict) (event.Inject to medium octets) refusal.NotBuilt calls verdict fits
+-- the peer may use what is open to it
+abbrev pub PeerMayUse : List Turn → List Act → Type 0
+PeerMayUse past acts = (test : Slot → Bool) (slot : Slot) → first_slot test (slots_by (window_by past) (own Peer past)) ≡ Some slot → (c : Counter) (n : ℕ) → IsOpenTo slot c n → HoldsFor (held_at (Theirs slot.sa.spir c) acts (End Peer)) n
+
+module _ (past : List Turn) (acts : List Act) (agrees : (member spir : ℕ) (c : Counter) → told spir c (own (Member member) past) ≡ held_at (Ours spir c) acts (End (Member member))) (peer_may : PeerMayUse past acts)
+    (event : Event) (calls : List Call) (step : Step) where
+  -- the moves of a deed may be made
+  pub deed-well : Deed past event calls step → MayDoAll acts (actor_as (performer_at event step.verdict)) (map Calls calls ++ rest_of event step)
+  deed-well (Rested none rests no_entry) = let quiet : _ = rests-rest event step rests in rw (none, quiet) tt
+  deed-well (Asked asks) = let quiet : _ = rests-rest event step asks.rests in let one : _ = asks.one in rw (one, quiet) (asks.may acts (actor_as (performer_at event step.verdict)), tt)
+  deed-well (Ended member by none said quiet) = let over : _ = over-rest event step said quiet in rw (none, over) (tt, tt)
+  deed-well (Used u) =
+      let so : (h : Holding) × Tells (own (Member u.member) past) u.held.sa.spir u.c u.held h = tells (window_by past) (own (Member u.member) past) u.held.sa.spir u.c u.held u.is_held in
+      subst (λ v. MayDoAll acts v (map Calls calls ++ rest_of event step)) (sym (ap actor_as u.by_it))
+      (uses-well past event step u.member u.held.sa.spir calls u so.0 so.1 acts (sym (agrees u.member u.held.sa.spir u.c) ∙ so.1.told_so))
+  deed-well (Used_theirs u) =
+      subst (λ v. MayDoAll acts v (map Calls calls ++ rest_of event step)) (sym (ap actor_as u.by_it))
+      (let none : _ = u.no_calls in rw none
+      (may-use (Theirs u.slot.sa.spir u.c) u.number (End Peer) acts (rest_of event step) u.spends.uses_it (peer_may u.test u.slot u.is_first u.c u.number u.is_open)))

@@ -12,17 +12,29 @@ use Rattle.keeper_book.specs.Book.{Book}
 use Rattle.keeper_book.specs.Counters.{five_at}
 use Rattle.keeper_book.specs.declared.counters.Counter.{Counter}
 use Rattle.keeper_book.specs.declared.counters.Counter.TheVariants as counter
-use Rattle.turn_laws.specs.Acts.{Act, Calls, Move, Seals, Uses, onto}
+use Rattle.turn_laws.specs.Acts.{Act, Calls, Ends, Move, Seals, Uses, onto}
 use Rattle.turn_laws.specs.Holdings.{Actor, End, Holding, Run}
 use Rattle.turn_laws.specs.Owned.{Owned}
-use Rattle.turn_laws.specs.Places.{Ours}
+use Rattle.turn_laws.specs.Places.{Ours, Place, place_of}
 use Rattle.turn_rules.specs.Ends.{Performer, performer}
-use Rattle.turn_rules.specs.Held.{found, grant_of, high_of, number_of, since}
+use Rattle.turn_rules.specs.Held.{found, grant_of, high_of, received, since, used}
 use Rattle.turn_rules.specs.Safe.{KeyIv}
 
--- the numbers that an event used without a seal
+-- a number that was drawn
+abbrev pub drawn_by : Event → ℕ → List Move
+drawn_by (event.Draw member spir) n = Uses (Ours spir counter.EspOut) n ∷ []
+drawn_by event n = []
+
+-- a number that was received
+abbrev pub received_at : Option Place → ℕ → List Move
+received_at None n = []
+received_at (Some p) n = Uses p n ∷ []
+
+-- the numbers that an event used without a seal, or the end of a member
 abbrev pub uses_of : Event → Verdict → List Move
-uses_of (event.Draw member spir) (out.Number n) = Uses (Ours spir counter.EspOut) n ∷ []
+uses_of event (out.Number n) = drawn_by event n
+uses_of event (out.Accepted name n next_header payload) = received_at (place_of name) n
+uses_of event out.Down = Ends ∷ []
 uses_of event verdict = []
 
 abbrev pub key_iv : Seal → KeyIv
@@ -48,11 +60,19 @@ acts_of (turn ∷ past) = onto (actor_of turn) (moves_of turn) (acts_of past)
 abbrev pub AreOwned : List Turn → Book → Type 0
 AreOwned past book = Owned (acts_of past) book
 
+-- the number of the counter of the association that an event used, or received
+abbrev pub taken : ℕ → Counter → Event → Verdict → Option ℕ
+taken spir counter.EspIn event verdict = received spir event verdict
+taken spir c event verdict = used spir c event verdict
+
+abbrev pub taken_of : ℕ → Counter → Turn → Option ℕ
+taken_of spir c turn = taken spir c turn.event turn.step.verdict
+
 -- what an end with these turns of its own holds of a counter of the association, and what it used of it
 abbrev pub told : ℕ → Counter → List Turn → Option Holding
 told spir c past = option_map (λ taken. record {
   epoch = taken.epoch;
   base = five_at taken.bases c;
   high = high_of spir c taken.bases past;
-  numbers = filter_map (number_of spir c) (since spir past);
+  numbers = filter_map (taken_of spir c) (since spir past);
 }) (found (grant_of spir) past)

@@ -1,6 +1,6 @@
 //! The laws. Each is the contract of a function that does nothing.
 
-ghost use Rattle.std.specs.Prelude.{◌≡◌, ◌≢◌, ◌<◌, ◌≤◌, ◌⊎◌, ℕ, Option, Some, List, [], ◌∷◌};
+ghost use Rattle.std.specs.Prelude.{◌≡◌, ◌≢◌, ◌<◌, ◌≤◌, ◌⊎◌, ℕ, Option, Some, None, List, [], ◌∷◌};
 ghost use Rattle.std.specs.List.{AllByRecursion, filter_map};
 ghost use Rattle.event_text.specs.declared.turn.Turn.{Turn};
 ghost use Rattle.keeper_book.specs.Book.{Book, Enters, after};
@@ -9,16 +9,19 @@ ghost use Rattle.keeper_book.specs.declared.calls.Call.{Call};
 ghost use Rattle.keeper_book.specs.declared.calls.KeeperAnswer.TheVariants as answer;
 ghost use Rattle.keeper_book.specs.declared.counters.Counter.{Counter};
 ghost use Rattle.keeper_book.specs.declared.faults.KeeperFault.TheVariants as fault;
-ghost use Rattle.turn_laws.specs.Acts.{Act, Calls, Ends, MayAsk, MayDoAll, Move, held_at, numbers_at, onto};
+ghost use Rattle.turn_laws.specs.Acts.{Act, Calls, Ends, MayAsk, MayDo, MayDoAll, Move, held_at, numbers_at, onto};
 ghost use Rattle.turn_laws.specs.Columns.{Column, GoesOn, mark};
 ghost use Rattle.turn_laws.specs.Holdings.{Actor, Begins, Draws, End, Holding, IsNew, IsOwned, MayUse, Rises, Use, held_after, uses_after};
-ghost use Rattle.turn_laws.specs.Owned.{Owned};
+ghost use Rattle.turn_laws.specs.Owned.{Owned, Writes};
 ghost use Rattle.turn_laws.specs.Places.{Ours, Place, end_at};
 ghost use Rattle.turn_laws.specs.Turns.{AreOwned, actor_of, acts_of, moves_of, told};
 ghost use Rattle.turn_rules.specs.Ends.{Member, own};
+ghost use Rattle.turn_rules.specs.Genuine.{AreAccepted};
 ghost use Rattle.turn_rules.specs.Held.{Held, held_by, number_of, window_by};
 ghost use Rattle.turn_rules.specs.Local.{Local, Stands};
-ghost use Rattle.turn_rules.specs.Safe.{IsEachOnce, Safe};
+ghost use Rattle.turn_rules.specs.Safe.{IsEachOnce, Safe, accepted_in, key_ivs};
+
+use esp_packets::sealed_packets_open;
 
 /// A call of the keeper keeps what is owned: one that is answered or refused by name, its answer seen or hidden, and one
 /// that failed, whether the book took its entry or was left.
@@ -55,6 +58,12 @@ pub fn ends_keep_owned()
     ensures { (acts : List Act) (w : Actor) (book : Book) → Owned acts book → Owned (onto w (Ends ∷ []) acts) book }
 {}
 
+/// A move that may be made, whatever it is, keeps what is owned.
+pub fn moves_keep_owned()
+    ensures { (acts : List Act) (w : Actor) (move : Move) (old new : Book) → Owned acts old → MayDo acts w move → Writes old move new
+        → Owned (onto w (move ∷ []) acts) new }
+{}
+
 /// Moves leave what every other end holds.
 pub fn others_change_nothing()
     ensures { (p : Place) (w v : Actor) → w ≢ v → (moves : List Move) (acts : List Act) → held_at p (onto w moves acts) v ≡ held_at p acts v }
@@ -66,7 +75,7 @@ pub fn own_turns_tell_holdings()
         → told spir c (own (Member member) past) ≡ held_at (Ours spir c) (acts_of past) (End (Member member)) }
 {}
 
-/// Each event that is handled is a list of moves that may be made one after another.
+/// What each event does is a list of moves that may be made one after another.
 pub fn turns_are_moves()
     ensures { (boxes : ℕ) (past : List Turn) (book : Book) (turn : Turn) → Local boxes (turn ∷ past) → Stands past book
         → MayDoAll (acts_of past) (actor_of turn) (moves_of turn) }
@@ -106,7 +115,32 @@ pub fn holdings_are_apart()
         → h.epoch < g.epoch → (c : Counter) → five_at h.highs c ≤ five_at g.bases c }
 {}
 
-/// What holds across the ends: no key and IV seals two plaintexts, since an IV is a number of its key's counter.
+/// No key and IV seals two plaintexts, whatever ends seal: an IV is a number of its key's counter.
+pub fn no_nonce_reuse()
+    ensures { (boxes : ℕ) (past : List Turn) (book : Book) → Local boxes past → Stands past book → IsEachOnce (key_ivs past) }
+{}
+
+/// No packet is accepted twice, by whatever ends: its number is one of the counter that receives it.
+pub fn packets_once()
+    ensures { (boxes : ℕ) (past : List Turn) (book : Book) → Local boxes past → Stands past book → IsEachOnce (filter_map accepted_in past) }
+{}
+
+/// No event is executed by a service.
+pub fn nothing_is_executed()
+    ensures { (boxes : ℕ) (past : List Turn) → Local boxes past → AllByRecursion (λ turn. turn.step.served ≡ None) past }
+{}
+
+/// A covered genuine packet that comes to an end is accepted at first delivery, by a member where its number is acknowledged.
+pub fn genuine_are_accepted()
+    ensures { (boxes : ℕ) (past : List Turn) → Local boxes past → AreAccepted past }
+{
+    sealed_packets_open();
+}
+
+/// What holds across the ends: no key and IV seals two plaintexts, no packet is accepted twice, and covered genuine packets
+/// are accepted at first delivery.
 pub fn runs_are_safe()
     ensures { (boxes : ℕ) (past : List Turn) (book : Book) → Local boxes past → Stands past book → Safe past }
-{}
+{
+    genuine_are_accepted();
+}

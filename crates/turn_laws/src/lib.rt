@@ -1,11 +1,12 @@
 //! Who may use which number: the epochs of the book, what a turn does to them, and the laws that keep them apart. Nothing
-//! here runs: each law is the contract of a function with an empty body.
+//! here runs: each law is the contract of a function that does nothing.
 #![tactic(auto)]
 
 mod laws;
 
 pub use laws::{
-    all_is_owned, beginnings_keep_owned, calls_keep_owned, ends_keep_owned, holdings_are_apart,
-    no_number_past_its_end, no_number_twice, others_change_nothing, own_turns_tell_holdings,
+    all_is_owned, beginnings_keep_owned, calls_keep_owned, ends_keep_owned, genuine_are_accepted,
+    holdings_are_apart, moves_keep_owned, no_nonce_reuse, no_number_past_its_end, no_number_twice,
+    nothing_is_executed, others_change_nothing, own_turns_tell_holdings, packets_once,
     rises_keep_owned, runs_are_safe, turns_are_moves, uses_keep_owned,
 };

@@ -1,0 +1,108 @@
+-- Each event that is refused, or makes one call that asks for no number, is a deed.
+use Rattle.std.proofs.Common.{◌≡◌, ℕ, ◌==◌, Bool, true, false, Option, Some, None, MatchOption, List, [], ◌∷◌, refl, ap, sym, ◌∙◌, subst, if◌then◌else◌}
+use Rattle.std.proofs.lemmas.Option.{same_Some}
+use Rattle.std.proofs.lemmas.Bool.{eqb-true}
+use Rattle.event_text.specs.declared.event.Event.{Event}
+use Rattle.event_text.specs.declared.event.Event.TheVariants as event
+use Rattle.event_text.specs.declared.turn.Step.{Step}
+use Rattle.event_text.specs.declared.turn.Turn.{Turn}
+use Rattle.event_text.specs.declared.verdict.Refusal.{Refusal}
+use Rattle.event_text.specs.declared.verdict.Verdict.{Verdict}
+use Rattle.event_text.specs.declared.verdict.Verdict.TheVariants as out
+use Rattle.keeper_book.specs.Told.{seen}
+use Rattle.keeper_book.specs.declared.calls.Call.{Call}
+use Rattle.keeper_book.specs.declared.calls.KeeperAnswer.{KeeperAnswer}
+use Rattle.keeper_book.specs.declared.calls.KeeperAnswer.TheVariants as answer
+use Rattle.keeper_book.specs.declared.calls.KeeperAsk.TheVariants as ask
+use Rattle.keeper_book.specs.declared.records.Record.{Record}
+use Rattle.keeper_book.specs.declared.records.Taken.{Taken}
+use Rattle.turn_laws.proofs.Arrivals.{came}
+use Rattle.turn_laws.proofs.Deeds.{says-rests, Asked, Deed, IsIdle, Rested}
+use Rattle.turn_laws.specs.Acts.{entered_at}
+use Rattle.turn_laws.specs.Turns.{taken}
+use Rattle.turn_rules.specs.Draws.{Admits, Enters, Grants, TakesOver, refusal_of_fault}
+use Rattle.turn_rules.specs.Fits.{Quietly, Refuses, Yields}
+use Rattle.turn_rules.specs.Held.{granted}
+use Rattle.turn_rules.specs.Peers.{entered}
+
+admits-idle : (answered : KeeperAnswer) (verdict : Verdict) → Admits answered verdict → IsIdle verdict
+admits-idle answer.Done verdict a = subst (λ v. IsIdle v) (sym a) tt
+admits-idle (answer.Taken taken) verdict a = absurd a
+admits-idle (answer.Refused why) verdict a = go (refusal_of_fault why) a
+  where
+    go : (x : Option Refusal) → MatchOption x ⊥ (λ r. verdict ≡ out.Refused r) → IsIdle verdict
+    go None a = absurd a
+    go (Some r) a = subst (λ v. IsIdle v) (sym a) tt
+
+-- an import that is entered brings its record to the peer
+admits-entry : (sa : Record) (spir : ℕ) (answered : KeeperAnswer) (verdict : Verdict) → Admits answered verdict → entered_at spir (ask.Enter sa) answered ≡ came spir (entered (event.Import sa) verdict)
+admits-entry sa spir answer.Done verdict a = sym (ap (λ v. came spir (entered (event.Import sa) v)) a)
+admits-entry sa spir (answer.Taken taken) verdict a = absurd a
+admits-entry sa spir (answer.Refused why) verdict a = go (refusal_of_fault why) a
+  where
+    go : (x : Option Refusal) → MatchOption x ⊥ (λ r. verdict ≡ out.Refused r) → None ≡ came spir (entered (event.Import sa) verdict)
+    go None a = absurd a
+    go (Some r) a = sym (ap (λ v. came spir (entered (event.Import sa) v)) a)
+
+refused-entry : (event : Event) (why : Refusal) → entered event (out.Refused why) ≡ None
+refused-entry (event.Import sa) why = refl
+refused-entry event why = refl
+
+grants-idle : (spir : ℕ) (answered : KeeperAnswer) (verdict : Verdict) → Grants spir answered verdict → IsIdle verdict
+grants-idle spir answer.Done verdict g = absurd g
+grants-idle spir (answer.Taken taken) verdict g = subst (λ v. IsIdle v) (sym g.1) tt
+grants-idle spir (answer.Refused why) verdict g = go (refusal_of_fault why) g
+  where
+    go : (x : Option Refusal) → MatchOption x ⊥ (λ r. verdict ≡ out.Refused r) → IsIdle verdict
+    go None a = absurd a
+    go (Some r) a = subst (λ v. IsIdle v) (sym a) tt
+
+-- a takeover grants the record that was asked for
+grants-record : (spir member : ℕ) (answered : KeeperAnswer) (verdict : Verdict) → Grants spir answered verdict → (other : ℕ) (taken : Taken) → granted other (ask.TakeOver spir member) answered ≡ Some taken → taken.sa.spir ≡ other
+grants-record spir member answer.Done verdict g other taken is = absurd g
+grants-record spir member (answer.Refused why) verdict g other taken is = absurd (cc)
+grants-record spir member (answer.Taken t) verdict g other taken is = by_test (spir == other) refl is
+  where
+    by_test : (b : Bool) → (spir == other) ≡ b → (if b then Some t else None) ≡ Some taken → taken.sa.spir ≡ other
+    by_test true e is = subst (λ (x : Taken). x.sa.spir ≡ other) (same_Some t taken is) (g.0 ∙ eqb-true spir other e)
+    by_test false e is = absurd (cc)
+
+module _ (past : List Turn) (step : Step) where
+  pub refused-deed : (event : Event) (calls : List Call) (why : Refusal) → Refuses why calls step → Deed past event calls step
+  refused-deed event calls why r = Rested r.no_calls (says-rests step (out.Refused why) tt r.says) (ap (entered event) r.says.said ∙ refused-entry event why)
+
+  pub yields-deed : (event : Event) (calls : List Call) (verdict : Verdict) → IsIdle verdict → entered event verdict ≡ None → Yields verdict calls step → Deed past event calls step
+  yields-deed event calls verdict idle none y = Rested y.no_calls (says-rests step verdict idle y.says) (ap (entered event) y.says.said ∙ none)
+
+  pub enters-deed : (sa : Record) (calls : List Call) → Quietly (Enters sa) calls step → Deed past (event.Import sa) calls step
+  enters-deed sa calls quietly = go calls quietly.follows
+    where
+      go : (calls : List Call) → Enters sa calls step.verdict → Deed past (event.Import sa) calls step
+      go [] e = absurd e
+      go (call ∷ other ∷ more) e = absurd e
+      go (call ∷ []) e = Asked (record {
+        call = call;
+        one = refl;
+        may = λ acts w. rw e.0 tt;
+        own_record = λ spir taken is. absurd (not_granted spir taken (rw e.0 at is));
+        entry = λ spir. ap (λ asked. entered_at spir asked (seen call)) e.0 ∙ admits-entry sa spir (seen call) step.verdict e.1;
+        rests = record { idle = admits-idle (seen call) step.verdict e.1; quiet = quietly.quiet };
+      })
+        where
+          not_granted : (spir : ℕ) (taken : Taken) → granted spir (ask.Enter sa) (seen call) ≡ Some taken → ⊥
+          not_granted spir taken is = absurd (cc)
+
+  pub takes_over-deed : (member spir : ℕ) (calls : List Call) → Quietly (TakesOver spir member) calls step → Deed past (event.Own member spir) calls step
+  takes_over-deed member spir calls quietly = go calls quietly.follows
+    where
+      go : (calls : List Call) → TakesOver spir member calls step.verdict → Deed past (event.Own member spir) calls step
+      go [] t = absurd t
+      go (call ∷ other ∷ more) t = absurd t
+      go (call ∷ []) t = Asked (record {
+        call = call;
+        one = refl;
+        may = λ acts w. rw t.0 tt;
+        entry = λ other. ap (λ asked. entered_at other asked (seen call)) t.0;
+        own_record = λ other taken is. grants-record spir member (seen call) step.verdict t.1 other taken (rw t.0 at is);
+        rests = record { idle = grants-idle spir (seen call) step.verdict t.1; quiet = quietly.quiet };
+      })

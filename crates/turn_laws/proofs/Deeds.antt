@@ -1,0 +1,123 @@
+-- What a turn may be: it makes no call or one, a member ends, or a number of a member or of the peer is used.
+use Rattle.std.proofs.Common.{◌≡◌, ℕ, ◌<◌, ◌^◌, Bool, Option, Some, None, List, [], ◌∷◌, ◌++◌, map, sym, subst, if◌then◌else◌}
+use Rattle.event_text.specs.declared.event.Event.{Event}
+use Rattle.event_text.specs.declared.turn.Step.{Step}
+use Rattle.event_text.specs.declared.turn.Turn.{Turn}
+use Rattle.event_text.specs.declared.verdict.Verdict.{Verdict}
+use Rattle.event_text.specs.declared.verdict.Verdict.TheVariants as out
+use Rattle.horizons.specs.Ready.{Ready}
+use Rattle.keeper_book.specs.Counters.{five_at}
+use Rattle.keeper_book.specs.Told.{seen}
+use Rattle.keeper_book.specs.declared.calls.Call.{Call}
+use Rattle.keeper_book.specs.declared.counters.Counter.{Counter}
+use Rattle.keeper_book.specs.declared.counters.Counter.TheVariants as counter
+use Rattle.keeper_book.specs.declared.records.Taken.{Taken}
+use Rattle.replay_set.specs.Window.{judged}
+use Rattle.replay_set.specs.declared.judgement.Judgement.TheVariants.{Fresh}
+use Rattle.turn_laws.proofs.Arrivals.{came, number_theirs}
+use Rattle.turn_laws.proofs.Uses.{IsUse, number_at}
+use Rattle.turn_laws.specs.Acts.{Act, MayAsk, Move, Seals, entered_at}
+use Rattle.turn_laws.specs.Holdings.{Actor}
+use Rattle.turn_laws.specs.Places.{Ours, Place, Theirs, place_of}
+use Rattle.turn_laws.specs.Turns.{key_iv, taken, uses_of}
+use Rattle.turn_rules.specs.Draws.{reach_of}
+use Rattle.turn_rules.specs.Ends.{Member, Peer, Performer, is_refused_by_run, own, performer_of}
+use Rattle.turn_rules.specs.Held.{Held, granted, held_by, used, window_by}
+use Rattle.turn_rules.specs.Peers.{entered}
+use Rattle.turn_rules.specs.Safe.{Packet, accepted_as}
+use Rattle.turn_rules.specs.Slots.{Slot, first_slot, slots_by}
+use Rattle.turn_rules.specs.Steps.{IsQuiet, Says}
+
+-- the verdict uses no number, and ends no member
+abbrev pub IsIdle : Verdict → Type 0
+IsIdle (out.Number n) = ⊥
+IsIdle (out.Sent n) = ⊥
+IsIdle (out.Accepted name n next_header payload) = ⊥
+IsIdle out.Down = ⊥
+IsIdle verdict = Unit {0}
+
+-- the moves of a turn beside its calls
+abbrev pub rest_of : Event → Step → List Move
+rest_of event step = uses_of event step.verdict ++ map (λ seal. Seals (key_iv seal)) step.seals
+
+-- who makes the moves of an event that came out so
+abbrev pub performer_at : Event → Verdict → Option Performer
+performer_at event verdict = if is_refused_by_run verdict then None else performer_of event verdict
+
+-- what a call grants is a record with the SPI that was asked for
+abbrev pub HasItsRecord : Call → Type 0
+HasItsRecord call = (spir : ℕ) (taken : Taken) → granted spir call.asked (seen call) ≡ Some taken → taken.sa.spir ≡ spir
+
+-- nothing is sealed or executed, and nothing is used
+pub record Rests (step : Step) : Type 0 where
+  pub idle : IsIdle step.verdict
+  pub quiet : IsQuiet step
+
+pub says-rests : (step : Step) (verdict : Verdict) → IsIdle verdict → Says verdict step → Rests step
+says-rests step verdict idle says = record { idle = subst (λ v. IsIdle v) (sym says.said) idle; quiet = says.quiet }
+
+-- the numbers that a member may use of what it holds: the next one that it sends, and those that it did not receive
+abbrev pub IsOpen : Held → Counter → ℕ → Type 0
+IsOpen held counter.EspIn n = judged held.window n ≡ Fresh
+IsOpen held c n = n ≡ five_at held.nexts c
+
+-- and those that the peer may use
+abbrev pub IsOpenTo : Slot → Counter → ℕ → Type 0
+IsOpenTo slot counter.EspOut n = (n ≡ slot.next) × (n < 2 ^ 63)
+IsOpenTo slot counter.EspIn n = (n < 2 ^ 63) × (judged slot.window n ≡ Fresh)
+IsOpenTo slot c n = ⊥
+
+-- a number of a place is used, and nothing executed; a packet that was accepted has this number
+pub record Spends (place : Place) (n : ℕ) (event : Event) (step : Step) : Type 0 where
+  pub served : step.served ≡ None
+  pub uses_it : IsUse place n (rest_of event step)
+  pub of_packet : (packet : Packet) → accepted_as step.verdict ≡ Some packet → (place_of packet.name ≡ Some place) × (packet.number ≡ n)
+
+-- a number of the association is used, and own turns tell it
+pub record UsesIt (spir : ℕ) (c : Counter) (n : ℕ) (event : Event) (step : Step) : Type 0 where
+  pub spends : Spends (Ours spir c) n event step
+  pub told : (other : ℕ) (d : Counter) → taken other d event step.verdict ≡ number_at (Ours other d) (Ours spir c) n
+
+-- a member that holds an association uses a number of it, once that is ready
+pub record MemberUses (past : List Turn) (event : Event) (calls : List Call) (step : Step) : Type 0 where
+  pub member : ℕ
+  pub held : Held
+  pub c : Counter
+  pub number : ℕ
+  pub by_it : performer_at event step.verdict ≡ Some (Member member)
+  pub is_held : held_by (window_by past) (own (Member member) past) held.sa.spir ≡ Some held
+  pub is_open : IsOpen held c number
+  pub ready : Ready (reach_of held c) number calls
+      (λ why rest. (rest ≡ []) × Rests step)
+      (λ high rest. (rest ≡ []) × UsesIt held.sa.spir c number event step)
+
+-- the peer uses a number of an association
+pub record PeerUses (past : List Turn) (event : Event) (calls : List Call) (step : Step) : Type 0 where
+  pub test : Slot → Bool
+  pub slot : Slot
+  pub c : Counter
+  pub number : ℕ
+  pub by_it : performer_at event step.verdict ≡ Some Peer
+  pub is_first : first_slot test (slots_by (window_by past) (own Peer past)) ≡ Some slot
+  pub is_open : IsOpenTo slot c number
+  pub no_calls : calls ≡ []
+  pub spends : Spends (Theirs slot.sa.spir c) number event step
+  pub not_ours : (spir : ℕ) (d : Counter) → used spir d event step.verdict ≡ None
+  pub told : (other : ℕ) (d : Counter) → number_theirs other d event step.verdict ≡ number_at (Theirs other d) (Theirs slot.sa.spir c) number
+  pub no_entry : entered event step.verdict ≡ None
+
+-- one call is made that asks for no number
+pub record Asks (event : Event) (calls : List Call) (step : Step) : Type 0 where
+  pub call : Call
+  pub one : calls ≡ call ∷ []
+  pub may : (acts : List Act) (w : Actor) → MayAsk acts w call.asked
+  pub own_record : HasItsRecord call
+  pub entry : (spir : ℕ) → entered_at spir call.asked (seen call) ≡ came spir (entered event step.verdict)
+  pub rests : Rests step
+
+pub data Deed (past : List Turn) (event : Event) (calls : List Call) (step : Step) : Type 0 where
+  Rested : calls ≡ [] → Rests step → entered event step.verdict ≡ None → Deed past event calls step
+  Asked : Asks event calls step → Deed past event calls step
+  Ended : (member : ℕ) → performer_at event step.verdict ≡ Some (Member member) → calls ≡ [] → step.verdict ≡ out.Down → IsQuiet step → Deed past event calls step
+  Used : MemberUses past event calls step → Deed past event calls step
+  Used_theirs : PeerUses past event calls step → Deed past event calls step

@@ -1,0 +1,30 @@
+-- The moves of an event beside its calls and seals are uses of numbers, or the end of a member.
+use Rattle.std.proofs.Common.{ℕ, Option, Some, None}
+use Rattle.std.specs.List.{AllByRecursion}
+use Rattle.event_text.specs.declared.event.Event.{Event}
+use Rattle.event_text.specs.declared.event.Event.TheVariants as event
+use Rattle.event_text.specs.declared.verdict.Verdict.{Verdict}
+use Rattle.event_text.specs.declared.verdict.Verdict.TheVariants as out
+use Rattle.turn_laws.specs.Acts.{Calls, Ends, Move, Seals, Uses}
+use Rattle.turn_laws.specs.Places.{Place, place_of}
+use Rattle.turn_laws.specs.Turns.{drawn_by, received_at, uses_of}
+
+abbrev pub IsUseOrEnd : Move → Type 0
+IsUseOrEnd (Calls call) = ⊥
+IsUseOrEnd (Uses place number) = Unit {0}
+IsUseOrEnd (Seals key) = ⊥
+IsUseOrEnd Ends = Unit {0}
+
+drawn-uses : (event : Event) (n : ℕ) → AllByRecursion IsUseOrEnd (drawn_by event n)
+drawn-uses (event.Draw member spir) n = (tt, tt)
+drawn-uses event n = tt
+
+received-uses : (place : Option Place) (n : ℕ) → AllByRecursion IsUseOrEnd (received_at place n)
+received-uses None n = tt
+received-uses (Some place) n = (tt, tt)
+
+pub are-uses : (event : Event) (verdict : Verdict) → AllByRecursion IsUseOrEnd (uses_of event verdict)
+are-uses event (out.Number n) = drawn-uses event n
+are-uses event (out.Accepted name n next_header payload) = received-uses (place_of name) n
+are-uses event out.Down = (tt, tt)
+are-uses event verdict = tt

@@ -1,0 +1,38 @@
+-- Where the numbers of the counters of an association are.
+use Rattle.std.proofs.Common.{◌≡◌, ℕ, ◌==◌, ◌&&◌, Bool, true, false, Some, None, refl, if◌then◌else◌}
+use Rattle.std.proofs.lemmas.Bool.{eq-eqb}
+use Rattle.keeper_book.specs.Counters.{counter_named}
+use Rattle.keeper_book.specs.declared.counters.Counter.{Counter}
+use Rattle.keeper_book.specs.declared.counters.Counter.TheVariants as counter
+use Rattle.keeper_book.specs.declared.records.Record.{Record}
+use Rattle.turn_laws.proofs.Entries.{is_counter-same}
+use Rattle.turn_laws.specs.Places.{Ours, Place, Theirs, is_place, place_of}
+use Rattle.turn_rules.specs.Draws.{child_of, counter_name, kind_of}
+use Rattle.turn_rules.specs.Slots.{peer_counter}
+
+pub counter-named : (c : Counter) → counter_named (kind_of c) (child_of c) ≡ Some c
+counter-named counter.EspOut = refl
+counter-named counter.EspIn = refl
+counter-named counter.Iv = refl
+counter-named counter.Ask = refl
+counter-named counter.Answer = refl
+
+-- the cluster's counter, and the peer's
+pub place-ours : (sa : Record) (c : Counter) → place_of (counter_name sa c) ≡ Some (Ours sa.spir c)
+place-ours sa c = let own : _ = sa.origin_is_own in let named : _ = counter-named c in rw (own, named)
+
+pub place-theirs : (sa : Record) (c : Counter) → place_of (peer_counter sa c) ≡ Some (Theirs sa.spir c)
+place-theirs sa c = let own : _ = sa.origin_is_own in let named : _ = counter-named c in rw (own, named)
+
+-- a number where a test passes, and one where it fails whatever the test
+pub number-passed : (b : Bool) (n : ℕ) → (if b then Some n else None) ≡ (if b && true then Some n else None)
+number-passed true n = refl
+number-passed false n = refl
+
+pub number-failed : (b : Bool) (n : ℕ) → None ≡ (if b && false then Some n else None)
+number-failed true n = refl
+number-failed false n = refl
+
+pub is_place-same : (p : Place) → is_place p p ≡ true
+is_place-same (Ours spir c) = let a : (spir == spir) ≡ true = eq-eqb spir spir refl in let b : _ = is_counter-same c in rw (a, b)
+is_place-same (Theirs spir c) = let a : (spir == spir) ≡ true = eq-eqb spir spir refl in let b : _ = is_counter-same c in rw (a, b)

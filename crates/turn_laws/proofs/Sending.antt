@@ -1,0 +1,143 @@
+-- Each send that is explained is a deed.
+use Rattle.std.proofs.Common.{◌≡◌, ℕ, ◌<◌, ◌^◌, ◌==◌, false, Option, Some, None, List, [], ⊎_elim, refl, ap, sym, ◌∙◌, subst}
+use Rattle.std.proofs.lemmas.Bool.{cases_lt, eqb-true}
+use Rattle.event_text.specs.declared.event.Event.{Event}
+use Rattle.event_text.specs.declared.event.Event.TheVariants as event
+use Rattle.event_text.specs.declared.event.Party.TheVariants as parties
+use Rattle.event_text.specs.declared.turn.Step.{Step}
+use Rattle.event_text.specs.declared.turn.Turn.{Turn}
+use Rattle.event_text.specs.declared.verdict.Refusal.TheVariants as refusal
+use Rattle.event_text.specs.declared.verdict.Verdict.{Verdict}
+use Rattle.event_text.specs.declared.verdict.Verdict.TheVariants as out
+use Rattle.ha_base.specs.Octets.{WithRoom}
+use Rattle.horizons.specs.declared.stop.Stop.{Stop}
+use Rattle.keeper_book.specs.Counters.{five_at}
+use Rattle.keeper_book.specs.declared.calls.Call.{Call}
+use Rattle.keeper_book.specs.declared.counters.Counter.{Counter}
+use Rattle.keeper_book.specs.declared.counters.Counter.TheVariants as counter
+use Rattle.turn_laws.proofs.Arrivals.{number_theirs}
+use Rattle.turn_laws.proofs.Covers.{ready-as, ready-calls}
+use Rattle.turn_laws.proofs.Deeds.{Deed, Rested, Rests, Spends, Used, Used_theirs, UsesIt, says-rests}
+use Rattle.turn_laws.proofs.Members.{member-performs, stop-of_member}
+use Rattle.turn_laws.proofs.Names.{number-failed, number-passed, place-ours, place-theirs}
+use Rattle.turn_laws.proofs.Uses.{Seals_it, number_at}
+use Rattle.turn_laws.specs.Places.{Ours, Place, Theirs, place_of}
+use Rattle.turn_laws.specs.Turns.{key_iv, taken}
+use Rattle.turn_rules.proofs.SlotTies.{first-passes}
+use Rattle.turn_rules.specs.Draws.{reach_of, refusal_of_stop}
+use Rattle.turn_rules.specs.Ends.{Member, Peer, is_refused_by_run, own}
+use Rattle.turn_rules.specs.Held.{Held, held_by, used, window_by}
+use Rattle.turn_rules.specs.MemberPackets.{SendsData, outbound_of}
+use Rattle.turn_rules.specs.Packets.{Outbound, Sends}
+use Rattle.turn_rules.specs.Safe.{Packet, accepted_as}
+use Rattle.turn_rules.specs.Slots.{PeerSends, Slot, SlotSends, first_slot, has_spir, slot_outbound, slots_by}
+use Rattle.turn_rules.specs.Steps.{Says}
+
+-- the seal of a packet uses its number
+sends-spends : (event : Event) (outbound : Outbound) (place : Place) (n : ℕ) (payload : List ℕ) (step : Step) → place_of outbound.key.name ≡ Some place → Sends outbound n payload step → Spends place n event step
+sends-spends event outbound place n payload step named sends = record {
+  served = sends.served;
+  uses_it = Seals_it (key_iv sends.seal) (ap place_of sends.named ∙ named) sends.iv (let said : _ = sends.said in let seals : _ = sends.seals in rw (said, seals));
+  of_packet = λ packet is. absurd (no_packet packet (ap accepted_as (sym sends.said) ∙ is));
+}
+  where
+    no_packet : (packet : Packet) → accepted_as (out.Sent n) ≡ Some packet → ⊥
+    no_packet packet is = absurd (cc)
+
+-- a number that a member sent under
+sent-told : (member spir n other : ℕ) (d : Counter) (payload : WithRoom) → taken other d (event.Send (parties.Member member) spir payload) (out.Sent n) ≡ number_at (Ours other d) (Ours spir counter.EspOut) n
+sent-told member spir n other counter.EspOut payload = number-passed (spir == other) n
+sent-told member spir n other counter.EspIn payload = number-failed (spir == other) n
+sent-told member spir n other counter.Iv payload = number-failed (spir == other) n
+sent-told member spir n other counter.Ask payload = number-failed (spir == other) n
+sent-told member spir n other counter.Answer payload = number-failed (spir == other) n
+
+-- a number that the peer sent under
+sent_theirs-told : (spir n other : ℕ) (d : Counter) (payload : WithRoom) → number_theirs other d (event.Send parties.Peer spir payload) (out.Sent n) ≡ number_at (Theirs other d) (Theirs spir counter.EspOut) n
+sent_theirs-told spir n other counter.EspOut payload = number-passed (spir == other) n
+sent_theirs-told spir n other counter.EspIn payload = number-failed (spir == other) n
+sent_theirs-told spir n other counter.Iv payload = number-failed (spir == other) n
+sent_theirs-told spir n other counter.Ask payload = number-failed (spir == other) n
+sent_theirs-told spir n other counter.Answer payload = number-failed (spir == other) n
+
+-- what the peer sends uses no number of a member
+sent-not_ours : (spir other : ℕ) (d : Counter) (payload : WithRoom) (verdict : Verdict) → used other d (event.Send parties.Peer spir payload) verdict ≡ None
+sent-not_ours spir other counter.EspOut payload verdict = refl
+sent-not_ours spir other d payload verdict = refl
+
+-- a member sends, by what it holds
+module _ (past : List Turn) (step : Step) (member spir : ℕ) (payload : WithRoom) (held : Held) (own_spir : held.sa.spir ≡ spir)
+    (is_held : held_by (window_by past) (own (Member member) past) spir ≡ Some held) (calls : List Call) (sends : SendsData held payload.octets calls step) where
+  abbrev next : ℕ
+  next = five_at held.nexts counter.EspOut
+
+  abbrev Stopped : Stop → List Call → Type 0
+  Stopped why rest = (rest ≡ []) × Says (out.Refused (refusal_of_stop why)) step
+
+  abbrev Sent : ℕ → List Call → Type 0
+  Sent high rest = (rest ≡ []) × Sends (outbound_of held) next payload.octets step
+
+  send-not_run : is_refused_by_run step.verdict ≡ false
+  send-not_run = ready-calls (λ calls. is_refused_by_run step.verdict ≡ false) (reach_of held counter.EspOut) next Stopped Sent
+      (λ call rest asked is. is)
+      (λ why rest s. let said : _ = s.1.said in rw said (stop-of_member why))
+      (λ high rest s. let said : _ = s.1.said in rw said refl)
+      calls sends
+
+  send-uses : Sends (outbound_of held) next payload.octets step → UsesIt held.sa.spir counter.EspOut next (event.Send (parties.Member member) spir payload) step
+  send-uses s = record {
+    spends = sends-spends (event.Send (parties.Member member) spir payload) (outbound_of held) (Ours held.sa.spir counter.EspOut) next payload.octets step (place-ours held.sa counter.EspOut) s;
+    told = λ other d.
+        ap (taken other d (event.Send (parties.Member member) spir payload)) s.said
+        ∙ (sent-told member spir next other d payload
+        ∙ ap (λ n. number_at (Ours other d) (Ours n counter.EspOut) next) (sym own_spir));
+  }
+
+  pub sends-deed : Deed past (event.Send (parties.Member member) spir payload) calls step
+  sends-deed = Used (record {
+    member = member;
+    held = held;
+    c = counter.EspOut;
+    number = next;
+    by_it = member-performs (event.Send (parties.Member member) spir payload) step.verdict member refl send-not_run;
+    is_held = subst (λ n. held_by (window_by past) (own (Member member) past) n ≡ Some held) (sym own_spir) is_held;
+    is_open = refl;
+    ready = ready-as (reach_of held counter.EspOut) next Stopped (λ why rest. (rest ≡ []) × Rests step) Sent (λ high rest. (rest ≡ []) × UsesIt held.sa.spir counter.EspOut next (event.Send (parties.Member member) spir payload) step)
+        (λ why rest s. (s.0, says-rests step (out.Refused (refusal_of_stop why)) tt s.1))
+        (λ high rest s. (s.0, send-uses s.1))
+        calls sends;
+  })
+
+-- the peer sends, by its associations
+module _ (past : List Turn) (step : Step) (spir : ℕ) (payload : WithRoom) (calls : List Call) (no_calls : calls ≡ []) where
+  slot-deed : (slot now : Slot) → first_slot (has_spir spir) (slots_by (window_by past) (own Peer past)) ≡ Some slot → SlotSends slot payload.octets step now → Deed past (event.Send parties.Peer spir payload) calls step
+  slot-deed slot now is_first sends = ⊎_elim
+      (λ within. sent within (sends.within within).0)
+      (λ ended. Rested no_calls (says-rests step (out.Refused refusal.Exhausted) tt (sends.ended ended).0) refl)
+      (cases_lt slot.next (2 ^ 63))
+    where
+      sent : slot.next < 2 ^ 63 → Sends (slot_outbound slot) slot.next payload.octets step → Deed past (event.Send parties.Peer spir payload) calls step
+      sent within s = Used_theirs (record {
+        test = has_spir spir;
+        slot = slot;
+        c = counter.EspOut;
+        number = slot.next;
+        by_it = let said : _ = s.said in rw said refl;
+        is_first = is_first;
+        is_open = (refl, within);
+        no_calls = no_calls;
+        spends = sends-spends (event.Send parties.Peer spir payload) (slot_outbound slot) (Theirs slot.sa.spir counter.EspOut) slot.next payload.octets step (place-theirs slot.sa counter.EspOut) s;
+        not_ours = λ other d. sent-not_ours spir other d payload step.verdict;
+        told = λ other d.
+            ap (number_theirs other d (event.Send parties.Peer spir payload)) s.said
+            ∙ (sent_theirs-told spir slot.next other d payload
+            ∙ ap (λ n. number_at (Theirs other d) (Theirs n counter.EspOut) slot.next) (sym (eqb-true slot.sa.spir spir (first-passes (has_spir spir) (slots_by (window_by past) (own Peer past)) slot is_first))));
+        no_entry = refl;
+      })
+
+  pub peer_sends-deed : (after : List Slot) → PeerSends spir (slots_by (window_by past) (own Peer past)) payload.octets step after → Deed past (event.Send parties.Peer spir payload) calls step
+  peer_sends-deed after = by_slot (first_slot (has_spir spir) (slots_by (window_by past) (own Peer past))) refl
+    where
+      by_slot : (x : Option Slot) → first_slot (has_spir spir) (slots_by (window_by past) (own Peer past)) ≡ x → PeerSends spir (slots_by (window_by past) (own Peer past)) payload.octets step after → Deed past (event.Send parties.Peer spir payload) calls step
+      by_slot None e sends = Rested no_calls (says-rests step (out.Refused refusal.Unknown) tt (rw e at sends).0) refl
+      by_slot (Some slot) e sends = slot-deed slot (rw e at sends).0 e (rw e at sends).1

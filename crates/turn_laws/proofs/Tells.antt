@@ -1,0 +1,54 @@
+-- What own turns say that a member holds of a counter, and that what is open to it was not used.
+use Rattle.std.proofs.Common.{◌≡◌, ℕ, ◌≤◌, Option, Some, None, List, refl, ap, sym, ◌∙◌, subst}
+use Rattle.std.proofs.lemmas.Option.{same_Some}
+use Rattle.std.specs.List.{filter_map}
+use Rattle.std.specs.Option.{option_map}
+use Rattle.event_text.specs.declared.turn.Turn.{Turn}
+use Rattle.keeper_book.specs.Counters.{five_at}
+use Rattle.keeper_book.specs.declared.counters.Counter.{Counter}
+use Rattle.keeper_book.specs.declared.counters.Counter.TheVariants as counter
+use Rattle.keeper_book.specs.declared.records.Taken.{Taken}
+use Rattle.turn_laws.proofs.Deeds.{IsOpen}
+use Rattle.turn_laws.proofs.Unused.{fresh-unused, next-unused}
+use Rattle.turn_laws.specs.Holdings.{Holding, IsNotIn}
+use Rattle.turn_laws.specs.Turns.{taken_of, told}
+use Rattle.turn_rules.proofs.Ties.{five_at-five_of}
+use Rattle.turn_rules.specs.Held.{Held, found, grant_of, held_by, high_of, holding, next_of, number_of, received_of, since}
+
+-- what own turns say that a member holds, at one counter
+pub record Tells (mine : List Turn) (spir : ℕ) (c : Counter) (held : Held) (h : Holding) : Type 0 where
+  pub told_so : told spir c mine ≡ Some h
+  pub epoch : h.epoch ≡ held.epoch
+  pub base : h.base ≡ five_at held.bases c
+  pub high : h.high ≡ five_at held.highs c
+  pub unused : (n : ℕ) → IsOpen held c n → (h.base ≤ n) × IsNotIn n h.numbers
+
+module _ (size spir : ℕ) (mine : List Turn) (taken : Taken) where
+  next-open : (c : Counter) (n : ℕ) → n ≡ five_at (holding size spir mine taken).nexts c → (five_at taken.bases c ≤ n) × IsNotIn n (filter_map (number_of spir c) (since spir mine))
+  next-open c n is = next-unused (five_at taken.bases c) n (filter_map (number_of spir c) (since spir mine)) (is ∙ five_at-five_of (λ d. next_of spir d taken.bases mine) c)
+
+  open-unused : (c : Counter) (n : ℕ) → IsOpen (holding size spir mine taken) c n → (five_at taken.bases c ≤ n) × IsNotIn n (filter_map (taken_of spir c) (since spir mine))
+  open-unused counter.EspOut n is = next-open counter.EspOut n is
+  open-unused counter.EspIn n fresh = fresh-unused size taken.bases.esp_in n (filter_map (received_of spir) (since spir mine)) fresh
+  open-unused counter.Iv n is = next-open counter.Iv n is
+  open-unused counter.Ask n is = next-open counter.Ask n is
+  open-unused counter.Answer n is = next-open counter.Answer n is
+
+  abbrev as_told : Counter → Taken → Holding
+  as_told c t = record { epoch = t.epoch; base = five_at t.bases c; high = high_of spir c t.bases mine; numbers = filter_map (taken_of spir c) (since spir mine) }
+
+pub tells : (size : ℕ) (mine : List Turn) (spir : ℕ) (c : Counter) (held : Held) → held_by size mine spir ≡ Some held → (h : Holding) × Tells mine spir c held h
+tells size mine spir c held is = go (found (grant_of spir) mine) refl is
+  where
+    go : (x : Option Taken) → found (grant_of spir) mine ≡ x → option_map (holding size spir mine) x ≡ Some held → (h : Holding) × Tells mine spir c held h
+    go None e is = absurd (cc)
+    go (Some taken) e is = subst (λ (y : Held). (h : Holding) × Tells mine spir c y h) (same_Some (holding size spir mine taken) held is) (
+      as_told size spir mine taken c taken,
+      record {
+        told_so = ap (option_map (as_told size spir mine taken c)) e;
+        epoch = refl;
+        base = refl;
+        high = sym (five_at-five_of (λ d. high_of spir d taken.bases mine) c);
+        unused = open-unused size spir mine taken c;
+      },
+    )
