@@ -2,7 +2,7 @@
 use Rattle.std.proofs.Common.{◌≡◌, ℕ, ◌+◌, ◌^◌, ◌<◌, ◌≤◌, ◌==◌, max, Bool, true, false, Option, Some, None, List, [], ◌∷◌, ⊎_elim, refl, ap, sym, ◌∙◌, arith, subst, if◌then◌else◌}
 use Rattle.std.proofs.lemmas.Bool.{cases_lt, eqb-true, eqb-false}
 use Rattle.std.specs.Option.{option_map}
-use Rattle.std.specs.Prelude.{MatchOption}
+use Rattle.std.specs.Prelude.{MatchOption, unwrap_or}
 use Rattle.event_text.specs.declared.event.Event.TheVariants as event
 use Rattle.event_text.specs.declared.verdict.Refusal.{Refusal}
 use Rattle.event_text.specs.declared.verdict.Refusal.TheVariants as refusal
@@ -76,9 +76,18 @@ refused_as : (verdict : Verdict) (old new : List Held) (r : Option Refusal) → 
 refused_as verdict old new None g = absurd g
 refused_as verdict old new (Some r) g = g.0
 
-takes_over_as : (size spir : ℕ) (answered : KeeperAnswer) (old new : List Held) (verdict : Verdict) → GrantsTo size spir answered old verdict new → Grants answered verdict
+-- what is held of an association is its record
+pub held_at-spir : (spir : ℕ) (hs : List Held) (h : Held) → held_at hs spir ≡ Some h → h.sa.spir ≡ spir
+held_at-spir spir [] h is = cc
+held_at-spir spir (g ∷ gs) h is = go (held_at-spir spir gs h) (g.sa.spir == spir) refl is
+  where
+    go : (held_at gs spir ≡ Some h → h.sa.spir ≡ spir) → (b : Bool) → (g.sa.spir == spir) ≡ b → (if b then Some g else held_at gs spir) ≡ Some h → h.sa.spir ≡ spir
+    go later true e is = sym (ap (λ (x : Held). x.sa.spir) (ap (λ o. unwrap_or o h) is)) ∙ eqb-true g.sa.spir spir e
+    go later false e is = later is
+
+takes_over_as : (size spir : ℕ) (answered : KeeperAnswer) (old new : List Held) (verdict : Verdict) → GrantsTo size spir answered old verdict new → Grants spir answered verdict
 takes_over_as size spir answer.Done old new verdict g = absurd g
-takes_over_as size spir (answer.Taken taken) old new verdict g = g.0
+takes_over_as size spir (answer.Taken taken) old new verdict g = (held_at-spir spir new (begun size taken) g.1.granted, g.0)
 takes_over_as size spir (answer.Refused why) old new verdict g = refused_as verdict old new (refusal_of_fault why) g
 
 -- and it is one that fits

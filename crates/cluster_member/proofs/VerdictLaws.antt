@@ -18,7 +18,7 @@ use Rattle.keeper_book.specs.declared.counters.Counter.TheVariants as counter
 use Rattle.keeper_book.specs.declared.faults.KeeperFault.TheVariants as fault
 use Rattle.turn_rules.specs.Draws.{Concludes, Draws, Grants, TakesOver, reach_of, refusal_of_stop}
 use Rattle.turn_rules.specs.Ends.{is_of_run, is_refused_by_run}
-use Rattle.turn_rules.specs.Fits.{is_join, is_takeover}
+use Rattle.turn_rules.specs.Scenes.{is_join}
 use Rattle.turn_rules.specs.Held.{Held}
 
 -- a verdict that a member itself comes to
@@ -26,29 +26,28 @@ pub record IsOfMember (v : Verdict) : Type 0 where
   pub no_join : is_join v ≡ false
   pub heard : is_refused_by_run v ≡ false
 
-grants_member : (answered : KeeperAnswer) (v : Verdict) → Grants answered v → IsOfMember v
-grants_member answer.Done v g = absurd g
-grants_member (answer.Taken taken) v g = record { no_join = rw g; heard = rw g }
-grants_member (answer.Refused fault.Failed) v g = record { no_join = rw g; heard = rw g }
-grants_member (answer.Refused fault.Unknown) v g = record { no_join = rw g; heard = rw g }
-grants_member (answer.Refused fault.Closed) v g = record { no_join = rw g; heard = rw g }
-grants_member (answer.Refused (fault.Full limit)) v g = record { no_join = rw g; heard = rw g }
-grants_member (answer.Refused fault.SpiInUse) v g = record { no_join = rw g; heard = rw g }
-grants_member (answer.Refused (fault.Replaced epoch)) v g = absurd g
-grants_member (answer.Refused fault.Spent) v g = absurd g
-grants_member (answer.Refused fault.Memory) v g = absurd g
+grants_member : (spir : ℕ) (answered : KeeperAnswer) (v : Verdict) → Grants spir answered v → IsOfMember v
+grants_member spir answer.Done v g = absurd g
+grants_member spir (answer.Taken taken) v g = record { no_join = rw g.1; heard = rw g.1 }
+grants_member spir (answer.Refused fault.Failed) v g = record { no_join = rw g; heard = rw g }
+grants_member spir (answer.Refused fault.Unknown) v g = record { no_join = rw g; heard = rw g }
+grants_member spir (answer.Refused fault.Closed) v g = record { no_join = rw g; heard = rw g }
+grants_member spir (answer.Refused (fault.Full limit)) v g = record { no_join = rw g; heard = rw g }
+grants_member spir (answer.Refused fault.SpiInUse) v g = record { no_join = rw g; heard = rw g }
+grants_member spir (answer.Refused (fault.Replaced epoch)) v g = absurd g
+grants_member spir (answer.Refused fault.Spent) v g = absurd g
+grants_member spir (answer.Refused fault.Memory) v g = absurd g
 
 -- a takeover comes out so
 pub takes_member : (spir member : ℕ) (calls : List Call) (v : Verdict) → TakesOver spir member calls v → IsOfMember v
 takes_member spir member [] v t = absurd t
-takes_member spir member (call ∷ []) v t = grants_member (seen call) v t.1
+takes_member spir member (call ∷ []) v t = grants_member spir (seen call) v t.1
 takes_member spir member (call ∷ other ∷ more) v t = absurd t
 
 -- what a draw comes out as: a number, or a refusal that is the member's own, by one call at most
 pub record IsDrawn (calls : List Call) (v : Verdict) : Type 0 where
   pub few : length calls ≤ 1
   pub said : IsOfMember v
-  pub no_takeover : is_takeover v ≡ false
 
 stop_heard : (why : Stop) → is_of_run (refusal_of_stop why) ≡ false
 stop_heard stop.Keeper = refl
@@ -58,10 +57,10 @@ stop_heard stop.Closed = refl
 stop_heard stop.Unknown = refl
 
 drawn_refused : (calls : List Call) (v : Verdict) (why : Refusal) → is_of_run why ≡ false → length calls ≤ 1 → v ≡ out.Refused why → IsDrawn calls v
-drawn_refused calls v why own few e = record { few = few; said = record { no_join = rw e; heard = rw (e, own) }; no_takeover = rw e }
+drawn_refused calls v why own few e = record { few = few; said = record { no_join = rw e; heard = rw (e, own) } }
 
 drawn_number : (calls : List Call) (v : Verdict) (n : ℕ) → length calls ≤ 1 → v ≡ out.Number n → IsDrawn calls v
-drawn_number calls v n few e = record { few = few; said = record { no_join = rw e; heard = rw e }; no_takeover = rw e }
+drawn_number calls v n few e = record { few = few; said = record { no_join = rw e; heard = rw e } }
 
 no_calls : (calls : List Call) → calls ≡ [] → length calls ≤ 1
 no_calls calls e = omega (arith, ap length e)

@@ -29,6 +29,13 @@ impl Octets {
         }
     }
 
+    /// These octets.
+    pub fn of(kept: Vec<u8>) -> Octets
+        ensures { result.octets ≡ kept.items }
+    {
+        Octets { kept }
+    }
+
     /// No octets, and room for `room` of them at least. An error is want of memory.
     pub fn with_room(alloc: Global, room: usize) -> Result<Octets, Memory>
         ensures none { IfOk result (λ o. o.octets ≡ []) }

@@ -1,7 +1,7 @@
 -- A packet that is dropped.
-use Rattle.std.proofs.Common.{◌≡◌, [], Result, Err, refl, rules}
+use Rattle.std.proofs.Common.{[], Err, refl, rules}
 use Rattle.keeper_book.proofs.Asking.{asks_none}
-use Rattle.turn_rules.specs.MemberPackets.{ReceivesPacketTo, inbound_of}
+use Rattle.turn_rules.specs.MemberPackets.{inbound_of}
 use Rattle.turn_rules.specs.Packets.{Opens}
 use Rattle.cluster_member.proofs.holding.Holding.receive.Goals as goal
 

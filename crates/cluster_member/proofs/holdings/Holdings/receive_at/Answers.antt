@@ -1,9 +1,9 @@
 -- A packet is received at the place of what receives at its SPI.
-use Rattle.std.proofs.Common.{◌≡◌, ◌≢◌, ℕ, Some, None, [], inl, inr, refl, ap, sym, ◌∙◌, subst}
+use Rattle.std.proofs.Common.{◌≡◌, [], inl, inr, refl, ap, ◌∙◌, subst}
 use Rattle.std.proofs.Math.ListN.{set}
 use Rattle.keeper_book.proofs.Asking.{asks_none}
 use Rattle.keeper_book.specs.declared.records.Record.{Record}
-use Rattle.turn_rules.specs.Held.{Held, held_at}
+use Rattle.turn_rules.specs.Held.{held_at}
 use Rattle.turn_rules.specs.MemberPackets.{IsReceiver}
 use Rattle.cluster_member.specs.Members.{Becomes}
 use Rattle.cluster_member.specs.Places.{AllHeld, IsLeastAt, IsPlaceOf, NoneReceives}
