@@ -1,5 +1,2 @@
-pub mod EventLaws
-pub mod MirrorLaws
-pub mod PlayedLaws
-pub mod TurnLaws
 mod OwnedLaws
+pub mod PlayedLaws

@@ -9,7 +9,8 @@ use Rattle.event_text.specs.declared.turn.Turn.{Turn}
 use Rattle.ha_base.specs.declared.outside.Moment.{Moment}
 use Rattle.keeper_book.specs.Book.{Book}
 use Rattle.ha_base.specs.Faults.{AppendsFront}
-use Rattle.replay_world.specs.Runs.{CausedSince, OwnedTold, StandsTold}
+use Rattle.replay_world.specs.Owning.{OwnedTold}
+use Rattle.run_ends.specs.Runs.{CausedSince, StandsTold}
 use Rattle.turn_rules.specs.Local.{Local}
 use Rattle.turn_rules.specs.Safe.{Safe}
 
@@ -33,13 +34,14 @@ pub record IsPlayed (given : List Turn → Type 0) (boxes : ℕ) (input : List �
   pub events : contents_of input ≡ record { events = titles trace; fault = fault }
   pub written : text ≡ report trace
   pub local : Local boxes trace
-  pub safe : Safe trace
   -- what was executed, the services may give
   pub serves : given trace
   -- where the keeper told an empty book, it tells the one that the calls of the trace lead to
   pub stands : StandsTold [] book → StandsTold trace now_book
   -- and the numbers of its epochs belong to one end each
   pub owned : StandsTold [] book → OwnedTold trace now_book
+  -- and what holds across the ends holds
+  pub safe : StandsTold [] book → Safe trace
   -- a call failed only where the keeper's count of faults rose
   pub caused : CausedSince faults now_faults trace
 

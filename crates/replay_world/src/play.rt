@@ -2,7 +2,7 @@ ghost use Rattle.std.specs.Prelude.{◌≡◌, ℕ, List, [], ◌++◌, false, v
 ghost use Rattle.event_text.specs.Input.{contents_of, left_contents};
 ghost use Rattle.report_text.specs.Report.{report, turns_text};
 ghost use Rattle.replay_world.specs.Played.{IsPlayed, prefixed, titles};
-ghost use Rattle.replay_world.specs.Runs.{CausedSince, StandsTold};
+ghost use Rattle.run_ends.specs.Runs.{CausedSince, StandsTold};
 ghost use Rattle.turn_rules.specs.Local.{Local};
 ghost use Rattle.turn_rules.specs.Services.{AreGiven, service_of};
 
@@ -12,6 +12,7 @@ use ha_base::{Memory, Octets, Service};
 use keeper_book::{Gate, Keeper};
 use report_text::{write_end, write_head, write_turn};
 use std::alloc::Global;
+use turn_laws::{nothing_is_executed, runs_are_safe};
 
 /// A report, and the fault of the input at which it ends, if there is one.
 #[derive(Drop)]
@@ -51,7 +52,7 @@ fn play_events<K: Keeper>(
             Err(fault) => return Ok(Some(fault)),
         }
         if let Some(turn) = world.last() {
-            write_turn(alloc, world.turns(), 0, turn, report)?;
+            write_turn(alloc, world.turns(), world.datagrams(), turn, report)?;
         }
     }
 }
@@ -125,7 +126,9 @@ fn play_run<K: Keeper>(
     ensures played { IfOk result (λ played. IsPlayed (AreGiven gives (service_of peer_service services.items)) (vec_len services) input.now played.fault played.report.octets
         (K.book keeper.old.keeper) (K.book keeper.new.keeper) (K.faults keeper.old.keeper) (K.faults keeper.new.keeper)) }
 {
-    let mut world = World::new(alloc, peer_service, services);
+    nothing_is_executed();
+    runs_are_safe();
+    let mut world = World::new(alloc, peer_service, services)?;
     let played = play(alloc, input, &mut world, keeper)?;
     Ok(played)
 }

@@ -1,44 +1,54 @@
-ghost use Rattle.std.specs.Prelude.{◌≡◌, ℕ, [], OnOk, OnErr, false, length, slice_get, vec_len};
+ghost use Rattle.std.specs.Prelude.{◌≡◌, ℕ, [], IfOk, OnOk, OnErr, Some, false, length, map, slice_get, vec_len};
 ghost use Rattle.std.specs.Option.{option_copied};
+ghost use Rattle.event_text.specs.Events.{plain};
+ghost use Rattle.event_text.specs.Grammar.{Fits};
+ghost use Rattle.run_ends.specs.Runs.{CausedSince, Grows, StandsTold};
+ghost use Rattle.turn_rules.specs.Datagrams.{datagrams_of};
 ghost use Rattle.turn_rules.specs.Local.{Local};
-ghost use Rattle.replay_world.specs.Runs.{CausedSince, Grows, OwnedTold, StandsTold};
+ghost use Rattle.turn_rules.specs.Safe.{Safe};
+ghost use Rattle.replay_world.specs.Crashes.{ended_last, services_after};
+ghost use Rattle.replay_world.specs.Owning.{OwnedTold};
 
-use crate::ends::Ends;
+use crate::services::{all_kept, drop_service, ended_in};
 use event_text::{Event, Turn};
 use ha_base::{Memory, Moment, Service};
 use keeper_book::{Gate, Keeper};
+use run_ends::Ends;
 use std::alloc::Global;
+use turn_laws::runs_are_safe;
 
 /// A run: the ends and what they did, and the services that execute requests for them.
 #[derive(Drop)]
 pub struct World {
     ends: Ends,
     peer_service: Box<dyn Service>,
-    // the member that joined as the n-th has the n-th of these
-    services: Vec<Box<dyn Service>>,
+    // the member that joined as the n-th has the n-th of these, until it ends
+    services: Vec<Option<Box<dyn Service>>>,
 }
 
 impl World {
     /// A run in which nothing has happened. The peer and each member that joins has a service of its own, the members in
-    /// the order of `services`.
+    /// the order of `services`. An error is want of memory.
     pub fn new(
         alloc: Global,
         peer_service: Box<dyn Service>,
         services: Vec<Box<dyn Service>>,
-    ) -> World
-        ensures ends { result.ends ≡ record { boxes = vec_len services; past = [] } }
-        ensures peer_service { result.peer_service ≡ peer_service }
-        ensures services { result.services ≡ services }
+    ) -> Result<World, Memory>
+        ensures ends { IfOk result (λ world. world.ends ≡ record { boxes = vec_len services; past = [] }) }
+        ensures peer_service { IfOk result (λ world. world.peer_service ≡ peer_service) }
+        ensures services { IfOk result (λ world. world.services.items ≡ map Some services.items) }
     {
-        World {
-            ends: Ends::new(alloc, services.len()),
+        let ends = Ends::new(alloc, services.len());
+        let services = all_kept(alloc, services)?;
+        Ok(World {
+            ends,
             peer_service,
             services,
-        }
+        })
     }
 
-    /// Plays an event at a moment: the ends act, and one turn is appended to the trace. An error is want of memory; the
-    /// trace has no new turn then.
+    /// Plays an event at a moment, one that a line spells: the ends act, and one turn is appended to the trace. A member that
+    /// ends drops its service. An error is want of memory; the run is then as it was.
     pub fn turn<K: Keeper>(
         &mut self,
         keeper: &mut Gate<K>,
@@ -47,6 +57,7 @@ impl World {
     ) -> Result<(), Memory>
         requires empty { keeper.old.calls ≡ [] }
         requires told { keeper.old.missed ≡ false }
+        requires fits { Fits (plain event) }
         ensures grows { OnOk result (Grows self.old.ends now event self.new.ends) }
         ensures local { Local self.new.ends.boxes self.new.ends.past }
         ensures stands { StandsTold self.old.ends.past (K.book keeper.old.keeper)
@@ -55,16 +66,31 @@ impl World {
             → OwnedTold self.old.ends.past (K.book keeper.old.keeper) }
         ensures owned { StandsTold self.old.ends.past (K.book keeper.old.keeper)
             → OnOk result (OwnedTold self.new.ends.past (K.book keeper.new.keeper)) }
+        ensures safe { StandsTold self.old.ends.past (K.book keeper.old.keeper) → OnOk result (Safe self.new.ends.past) }
         ensures caused { (start : ℕ) → CausedSince start (K.faults keeper.old.keeper) self.old.ends.past
             → OnOk result (CausedSince start (K.faults keeper.new.keeper) self.new.ends.past) }
         ensures empty { OnOk result (keeper.new.calls ≡ []) }
         ensures told { OnOk result (keeper.new.missed ≡ false) }
         ensures err { OnErr result (self.new ≡ self.old) }
         ensures peer_service { self.new.peer_service ≡ self.old.peer_service }
-        ensures services { self.new.services ≡ self.old.services }
+        ensures services { OnOk result (self.new.services.items ≡ services_after (ended_last self.new.ends.past) self.old.services.items) }
         ensures held { K.held keeper.new.keeper ≡ K.held keeper.old.keeper }
     {
-        self.ends.turn(keeper, now, event)
+        runs_are_safe();
+        self.ends.turn(keeper, now, event)?;
+        let ended = self.last_ended();
+        drop_service(&mut self.services, ended);
+        Ok(())
+    }
+
+    // The member that ended in the newest turn, if one did.
+    fn last_ended(&self) -> Option<u64>
+        ensures { result ≡ ended_last self.now.ends.past }
+    {
+        match self.ends.last() {
+            Some(turn) => ended_in(turn),
+            None => None,
+        }
     }
 
     /// The newest turn, where there is one.
@@ -72,6 +98,13 @@ impl World {
         ensures { option_copied result ≡ slice_get self.now.ends.past 0 }
     {
         self.ends.last()
+    }
+
+    /// How many datagrams were given.
+    pub fn datagrams(&self) -> u64
+        ensures { result ≡ length (datagrams_of self.now.ends.past) }
+    {
+        self.ends.datagrams()
     }
 
     /// How many turns there are.

@@ -1,10 +1,9 @@
 -- One more turn: the event that was read, and its text.
-use Rattle.std.proofs.Common.{◌≡◌, Some, rules, ap, subst, sym, ◌∙◌}
+use Rattle.std.proofs.Common.{◌≡◌, Some, rules, ap, sym, ◌∙◌}
 use Rattle.std.specs.Prelude.{slice_get}
 use Rattle.event_text.specs.Events.{plain}
 use Rattle.event_text.specs.Input.{left_contents, with_event}
 use Rattle.replay_world.specs.Played.{prefixed, titles}
-use Rattle.turn_rules.specs.Local.{Local}
 use Rattle.replay_world.proofs.PlayedLaws.{newest, prefixed-turn, text-turn}
 use Rattle.replay_world.proofs.play.play_events.Goals as goal
 
@@ -17,7 +16,6 @@ loop-moment-preserved-in-Continue-branch-2 g c =
     let rest = left_contents c.next_event.new.self in
     let read : left_contents c.loop-moment.reader ≡ with_event (c.in-Ok-Some.moment, plain c.in-Ok-Some.event) rest = search rules in
     let newest_is : Some c.in-Some.turn.now ≡ slice_get c.turn.new.self.ends.past 0 = search rules in
-    let explained = subst (λ p. Local c.turn.new.self.ends.boxes p) grown.more t.local in
     record {
       held = search rules;
       told = search rules;
@@ -27,7 +25,7 @@ loop-moment-preserved-in-Continue-branch-2 g c =
           ∙ prefixed-turn past grown.turn (c.in-Ok-Some.moment, plain c.in-Ok-Some.event) rest (λ k. (grown.at_moment k, plain (grown.of_event k)))
           ∙ ap (λ p. prefixed (titles p) rest) (sym grown.more);
       text = λ head was. text-turn head c.loop-moment.report.octets c.write_turn.new.out.octets past c.turn.new.self.ends.past grown.turn c.in-Some.turn.now c.turns.result
-          (i.text head was) grown.more (newest past c.turn.new.self.ends.past grown.turn c.in-Some.turn.now grown.more newest_is) c.turns.ensures explained.0.quiet.gives c.in_ok-write_turn.ensures.ok;
+          c.datagrams.result (i.text head was) grown.more (newest past c.turn.new.self.ends.past grown.turn c.in-Some.turn.now grown.more newest_is) c.turns.ensures c.datagrams.ensures c.in_ok-write_turn.ensures.ok;
       boxes = search rules;
       local = t.local;
       stands = λ before. t.stands (i.stands before);

@@ -2,7 +2,7 @@ use Rattle.std.proofs.Common.{◌≡◌, ℕ, false, List, [], ◌++◌, length}
 use Rattle.event_text.specs.Input.{left_contents}
 use Rattle.report_text.specs.Report.{turns_text}
 use Rattle.replay_world.specs.Played.{prefixed, titles}
-use Rattle.replay_world.specs.Runs.{CausedSince, StandsTold}
+use Rattle.run_ends.specs.Runs.{CausedSince, StandsTold}
 use Rattle.turn_rules.specs.Local.{Local}
 use Rattle.replay_world.proofs.play.play_events.Given as goal
 

@@ -1,24 +1,24 @@
--- A run begins with no turn, and each turn is safe as it is explained.
+-- A run begins with no turn, and what holds of it follows from the laws of whole runs.
 use Rattle.std.proofs.Common.{ap, subst, ◌∙◌}
-use Rattle.replay_world.specs.Runs.{Run}
+use Rattle.run_ends.specs.Runs.{Run}
 use Rattle.turn_rules.specs.Local.{Local}
-use Rattle.replay_world.proofs.OwnedLaws.{owned_told}
-use Rattle.replay_world.proofs.PlayedLaws.{local_is_safe, none_caused, none_given}
+use Rattle.replay_world.proofs.OwnedLaws.{owned_told, safe_told}
+use Rattle.replay_world.proofs.PlayedLaws.{none_caused, none_given}
 use Rattle.replay_world.proofs.play.play_run.Goals as goal
 
 pub returns-clause-played : goal.returns-clause-played
 returns-clause-played g c =
     let p = c.in_ok-played.ensures in
     let past = c.play.new.world.ends.past in
-    let boxes = p.boxes ∙ ap (λ (run : Run). run.boxes) c.new-world.ensures.ends in
+    let boxes = p.boxes ∙ ap (λ (run : Run). run.boxes) c.in_ok-world.ensures.ends in
     record {
       trace = past;
       events = p.events;
       written = p.text;
       local = subst (λ n. Local n past) boxes p.local;
-      safe = local_is_safe c.play.new.world.ends.boxes past p.local;
-      serves = none_given _ _ c.play.new.world.ends.boxes past p.local;
+      serves = none_given _ _ past (c.nothing_is_executed.ensures c.play.new.world.ends.boxes past p.local);
       stands = p.stands;
       owned = λ before. owned_told c.play.new.world.ends.boxes past _ p.local (p.stands before);
+      safe = λ before. safe_told c.runs_are_safe.ensures c.play.new.world.ends.boxes past _ p.local (p.stands before);
       caused = p.caused _ (none_caused _);
     }

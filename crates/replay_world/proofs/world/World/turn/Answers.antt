@@ -1,16 +1,33 @@
--- Before and after a turn all is owned, by the law of whole runs.
-use Rattle.std.proofs.lemmas.Result.{on_ok_weaker}
-use Rattle.replay_world.proofs.OwnedLaws.{local_old, owned_told}
+-- Before and after a turn all is owned, by the law of whole runs, and what holds across the ends holds.
+use Rattle.std.proofs.Common.{subst}
+use Rattle.run_ends.specs.Runs.{Run}
+use Rattle.turn_rules.specs.Local.{Local}
+use Rattle.replay_world.proofs.OwnedLaws.{local_before, owned_told, safe_told}
 use Rattle.replay_world.proofs.world.World.turn.Goals as goal
 
 pub returns-clause-owned_before : goal.returns-clause-owned_before
 returns-clause-owned_before g c =
-    let t = c.turn.ensures in
+    let t = c.in_ok-turn.ensures in
     let old = c.args.self.now.ends in
-    owned_told old.boxes old.past _ (local_old c.turn.result old c.turn.new.self c.args.now c.args.event t.grows t.err t.local)
+    owned_told old.boxes old.past _ (local_before old c.turn.new.self c.args.now c.args.event t.grows t.local)
+
+pub returns-in_err-turn-clause-owned_before : goal.returns-in_err-turn-clause-owned_before
+returns-in_err-turn-clause-owned_before g c =
+    let t = c.in_err-turn.ensures in
+    let old = c.args.self.now.ends in
+    owned_told old.boxes old.past _ (subst (λ (run : Run). Local run.boxes run.past) t.err t.local)
 
 pub returns-clause-owned : goal.returns-clause-owned
 returns-clause-owned g c stands =
-    let t = c.turn.ensures in
+    let t = c.in_ok-turn.ensures in
     let new = c.turn.new.self in
-    on_ok_weaker c.turn.result (owned_told new.boxes new.past _ t.local) (t.stands stands)
+    owned_told new.boxes new.past _ t.local (t.stands stands)
+
+pub returns-clause-safe : goal.returns-clause-safe
+returns-clause-safe g c stands =
+    let t = c.in_ok-turn.ensures in
+    let new = c.turn.new.self in
+    safe_told c.runs_are_safe.ensures new.boxes new.past _ t.local (t.stands stands)
+
+pub returns-clause-caused : goal.returns-clause-caused
+returns-clause-caused g c start caused = c.in_ok-turn.ensures.caused start caused

@@ -1,0 +1,25 @@
+-- The ends of members, and the services that are left then.
+use Rattle.std.specs.Prelude.{ℕ, ◌-◌, Option, Some, None, List, [], ◌∷◌, slice_set}
+use Rattle.event_text.specs.declared.event.Event.{Event}
+use Rattle.event_text.specs.declared.event.Event.TheVariants as event
+use Rattle.event_text.specs.declared.turn.Turn.{Turn}
+use Rattle.event_text.specs.declared.verdict.Verdict.{Verdict}
+use Rattle.event_text.specs.declared.verdict.Verdict.TheVariants as out
+
+-- the member that ended
+abbrev pub ended : Event → Verdict → Option ℕ
+ended (event.Crash member) out.Down = Some member
+ended event verdict = None
+
+abbrev pub ended_in : Turn → Option ℕ
+ended_in turn = ended turn.event turn.step.verdict
+
+-- the member that ended in the newest turn
+abbrev pub ended_last : List Turn → Option ℕ
+ended_last [] = None
+ended_last (turn ∷ past) = ended_in turn
+
+-- the services that are left: a member that ends drops its own, which stood at its place, counted from 1
+abbrev pub services_after : {B : Type 0} → Option ℕ → List (Option B) → List (Option B)
+services_after None services = services
+services_after (Some member) services = slice_set services (member - 1) None

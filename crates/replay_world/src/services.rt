@@ -1,0 +1,45 @@
+//! The services that execute requests for members, each until its member ends.
+
+ghost use Rattle.std.specs.Prelude.{◌≡◌, map, Some, IfOk};
+ghost use Rattle.replay_world.specs.Crashes.{ended_in, services_after};
+
+use event_text::{Event, Turn, Verdict};
+use ha_base::{Memory, Service};
+use std::alloc::Global;
+
+/// All services, of which none was dropped.
+pub(crate) fn all_kept(
+    alloc: Global,
+    services: Vec<Box<dyn Service>>,
+) -> Result<Vec<Option<Box<dyn Service>>>, Memory>
+    ensures { IfOk result (λ kept. kept.items ≡ map Some services.items) }
+{
+    let mut kept = Vec::new(alloc);
+    for service in services {
+        if kept.push(Some(service)).is_err() {
+            return Err(Memory);
+        }
+    }
+    Ok(kept)
+}
+
+/// The member that ended in a turn, if one did.
+pub(crate) fn ended_in(turn: &Turn) -> Option<u64>
+    ensures { result ≡ ended_in turn.now }
+{
+    match (&turn.event, &turn.step.verdict) {
+        (Event::Crash { member }, Verdict::Down) => Some(*member),
+        _ => None,
+    }
+}
+
+/// Drops the service of a member that ended.
+pub(crate) fn drop_service(services: &mut Vec<Option<Box<dyn Service>>>, ended: Option<u64>)
+    ensures { services.new.items ≡ services_after ended services.old.items }
+{
+    let Some(member) = ended else { return };
+    let place = member.saturating_sub(1);
+    if place < services.len() as u64 {
+        services[place as usize] = None;
+    }
+}

@@ -1,0 +1,9 @@
+pub mod Bounds
+pub mod EventLaws
+pub mod FitLaws
+pub mod KeptLaws
+pub mod MirrorLaws
+pub mod ReceiveLaws
+pub mod Refusing
+pub mod SendLaws
+pub mod TurnLaws

@@ -1,0 +1,55 @@
+-- What the calls of one more turn are, and what they do to the keeper.
+use Rattle.std.proofs.Common.{◌≡◌, ℕ, ◌≤◌, Bool, true, false, Option, Some, None, List, [], ◌∷◌, ◌++◌, length, ⊎_elim, ◌⊎◌, inl, inr, sym, arith, subst}
+use Rattle.event_text.specs.declared.turn.Turn.{Turn}
+use Rattle.keeper_book.specs.Book.{Book, EntersAll, EntersAllTold}
+use Rattle.keeper_book.specs.Gates.{told_calls}
+use Rattle.keeper_book.specs.Spoken.{EachGives, Spoken}
+use Rattle.keeper_book.specs.Told.{AddsAllTold, AnyFailed, HaveCause, Rose}
+use Rattle.keeper_book.specs.declared.calls.Call.{Call}
+use Rattle.turn_rules.specs.Local.{AreShown, calls_of}
+use Rattle.run_ends.specs.Runs.{CausedSince, StandsTold}
+
+got_all : (calls got : List Call) (missed : Bool) → told_calls missed got ≡ Some calls → got ≡ calls
+got_all calls got true e = absurd (cc)
+got_all calls got false e = cc
+
+-- a gate that had told no call has recorded these
+pub told-all : (calls before got : List Call) (missed missed' : Bool) → before ≡ [] → missed ≡ false → length calls ≤ 1 → AddsAllTold (told_calls missed before) calls (told_calls missed' got) → got ≡ calls
+told-all calls before got missed missed' none told few adds =
+    let said : AddsAllTold (Some []) calls (told_calls missed' got) = subst (λ m. AddsAllTold (told_calls m []) calls (told_calls missed' got)) told (subst (λ b. AddsAllTold (told_calls missed b) calls (told_calls missed' got)) none adds) in
+    got_all calls got missed' (said (omega arith))
+
+pub shown-all : {G : Type 0} (gives : G → Call → G → Type 0) → ((a : G) (call : Call) (b : G) → gives a call b → call.hidden ≡ false) → (old : G) (calls : List Call) (new : G) → EachGives gives old calls new → AreShown calls
+shown-all gives plain old [] new e = tt
+shown-all gives plain old (call ∷ calls) new e = (plain old call e.0 e.1, shown-all gives plain e.0 calls new e.2)
+
+entered_then : (old : Book) (xs ys : List Call) (mid new : Book) → EntersAll old xs mid → EntersAll mid ys new → EntersAll old (xs ++ ys) new
+entered_then old [] ys mid new e f = subst (λ b. EntersAll b ys new) e f
+entered_then old (x ∷ xs) ys mid new e f = (e.0, e.1, entered_then e.0 xs ys mid new e.2 f)
+
+-- the book goes on by the calls of the newest turn
+pub stands-more : (turn : Turn) (past : List Turn) (old new : Option Book) → EntersAllTold old turn.calls new → StandsTold past old → StandsTold (turn ∷ past) new
+stands-more turn past None new e s = absurd s
+stands-more turn past (Some old) None e s = absurd e
+stands-more turn past (Some old) (Some new) e s = entered_then _ (calls_of past) turn.calls old new s e
+
+failed_then : (xs ys : List Call) → AnyFailed (xs ++ ys) → AnyFailed xs ⊎ AnyFailed ys
+failed_then [] ys f = inr f
+failed_then (x ∷ xs) ys f = ⊎_elim (λ h. inl (inl h)) (λ h. ⊎_elim (λ t. inl (inr t)) (λ t. inr t) (failed_then xs ys h)) f
+
+rose_before : (before mid now : ℕ) → Rose before mid → mid ≤ now → Rose before now
+rose_before before mid now r l = omega (arith, r, l)
+
+rose_after : (before mid now : ℕ) → before ≤ mid → Rose mid now → Rose before now
+rose_after before mid now l r = omega (arith, r, l)
+
+-- and a call of it failed only where the count rose
+pub caused-more : (turn : Turn) (past : List Turn) (start mid now : ℕ) → HaveCause mid now turn.calls → CausedSince start mid past → CausedSince start now (turn ∷ past)
+caused-more turn past start mid now b a = record {
+  later = omega (arith, a.later, b.later);
+  failed = λ f. ⊎_elim (λ h. rose_before start mid now (a.failed h) b.later) (λ h. rose_after start mid now a.later (b.failed h)) (failed_then (calls_of past) turn.calls f);
+}
+
+-- no answer was hidden from the end that asked
+pub spoken-shown : {G : Type 0} {book : G → Option Book} {told : G → Option (List Call)} {faults : G → ℕ} {gives : G → Call → G → Type 0} (old : G) (calls : List Call) (new : G) → Spoken book told faults gives old calls new → ((a : G) (call : Call) (b : G) → gives a call b → call.hidden ≡ false) → AreShown calls
+spoken-shown {gives = gives} old calls new s plain = shown-all gives plain old calls new s.each

@@ -1,0 +1,74 @@
+-- One turn more.
+use Rattle.std.proofs.Common.{◌≡◌, List, ◌∷◌, refl, ap, sym, ◌∙◌, subst}
+use Rattle.event_text.specs.declared.turn.Turn.{Turn}
+use Rattle.keeper_book.specs.Book.{EntersAllTold}
+use Rattle.keeper_book.specs.Told.{HaveCause}
+use Rattle.keeper_book.specs.declared.calls.Call.{Call}
+use Rattle.turn_rules.specs.Local.{AreShown}
+use Rattle.run_ends.specs.Casts.{AreKept, Plays}
+use Rattle.run_ends.specs.Runs.{CausedSince, Run, StandsTold}
+use Rattle.run_ends.proofs.KeptLaws.{boxes-stay, few, kept}
+use Rattle.run_ends.proofs.TurnLaws.{caused-more, spoken-shown, stands-more, told-all}
+use Rattle.run_ends.proofs.ends.Ends.turn.Goals as goal
+
+module _ (g : _) (c : goal.After-push g) where
+  abbrev turn : Turn
+  turn = record { moment = c.args.now; event = c.args.event; calls = c.take_calls-calls.result; step = c.in_ok-step.step }
+
+  abbrev past : List Turn
+  past = c.self.inside.trace.past
+
+  more : c.push.new.self.past ≡ turn ∷ past
+  more = c.push.ensures ∙ ap (λ (ts : List Turn). turn ∷ ts) c.in_ok-reserve.ensures.past
+
+  plays : Plays past c.self.inside.cast c.args.event c.in_ok-step.ensures.plays.0 c.in_ok-step.step c.play.new.self
+  plays = subst (λ (ts : List Turn). Plays ts c.self.inside.cast c.args.event c.in_ok-step.ensures.plays.0 c.in_ok-step.step c.play.new.self) c.in_ok-reserve.ensures.past c.in_ok-step.ensures.plays.1
+
+  shown : AreShown c.in_ok-step.ensures.plays.0
+  shown = spoken-shown c.args.keeper.now c.in_ok-step.ensures.plays.0 c.play.new.keeper c.in_ok-step.ensures.plays.2 (λ a call b passed. passed.open_answer)
+
+  calls_are : c.take_calls-calls.result ≡ c.in_ok-step.ensures.plays.0
+  calls_are =
+      let p = c.in_ok-step.ensures.plays in
+      c.take_calls-calls.ensures.calls
+      ∙ told-all p.0 c.args.keeper.now.calls c.play.new.keeper.calls c.args.keeper.now.missed c.play.new.keeper.missed c.requires.empty c.requires.told
+      (few past c.self.inside.cast p.0 c.in_ok-step.step c.play.new.self c.args.event plays)
+      p.2.adds
+
+  are_kept : AreKept (turn ∷ past) c.play.new.self
+  are_kept =
+      subst (λ (cs : List Call). AreKept (record { moment = c.args.now; event = c.args.event; calls = cs; step = c.in_ok-step.step } ∷ past) c.play.new.self) (sym calls_are)
+      (kept c.args.now c.in_ok-step.ensures.plays.0 c.in_ok-step.step c.play.new.self past c.self.inside.cast c.self.invariant shown c.args.event c.requires.fits plays)
+
+pub invariant_of-self-2 : goal.invariant_of-self-2
+invariant_of-self-2 g c = subst (λ (turns : List Turn). AreKept turns c.play.new.self) (sym (more g c)) (are_kept g c)
+
+pub returns-clause-grows : goal.returns-clause-grows
+returns-clause-grows g c = record {
+  turn = turn g c;
+  more = more g c ∙ ap (λ (run : Run). turn g c ∷ run.past) c.self.view_is;
+  of_event = refl;
+  at_moment = refl;
+  boxes = boxes-stay c.args.now c.in_ok-step.ensures.plays.0 c.in_ok-step.step c.play.new.self (past g c) c.self.inside.cast c.self.invariant (shown g c) c.args.event c.requires.fits (plays g c) ∙ ap (λ (run : Run). run.boxes) c.self.view_is;
+}
+
+pub returns-clause-local : goal.returns-clause-local
+returns-clause-local g c = (invariant_of-self-2 g c).local
+
+pub returns-clause-stands : goal.returns-clause-stands
+returns-clause-stands g c = λ stood.
+    let before : StandsTold (past g c) (g.K.Keeper.book c.args.keeper.now.keeper) = subst (λ (run : Run). StandsTold run.past (g.K.Keeper.book c.args.keeper.now.keeper)) (sym c.self.view_is) stood in
+    let enters : EntersAllTold (g.K.Keeper.book c.args.keeper.now.keeper) (turn g c).calls (g.K.Keeper.book c.play.new.keeper.keeper) =
+    subst (λ (cs : List Call). EntersAllTold (g.K.Keeper.book c.args.keeper.now.keeper) cs (g.K.Keeper.book c.play.new.keeper.keeper)) (sym (calls_are g c)) c.in_ok-step.ensures.plays.2.enters in
+    let after : StandsTold (turn g c ∷ past g c) (g.K.Keeper.book c.play.new.keeper.keeper) = stands-more (turn g c) (past g c) _ _ enters before in
+    let there : StandsTold (turn g c ∷ past g c) (g.K.Keeper.book c.take_calls-calls.new.self.keeper) = subst (λ k. StandsTold (turn g c ∷ past g c) (g.K.Keeper.book k)) (sym c.take_calls-calls.ensures.keeper) after in
+    subst (λ (turns : List Turn). StandsTold turns (g.K.Keeper.book c.take_calls-calls.new.self.keeper)) (sym (more g c)) there
+
+pub returns-clause-caused : goal.returns-clause-caused
+returns-clause-caused g c = λ start caused.
+    let before : CausedSince start (g.K.Keeper.faults c.args.keeper.now.keeper) (past g c) = subst (λ (run : Run). CausedSince start (g.K.Keeper.faults c.args.keeper.now.keeper) run.past) (sym c.self.view_is) caused in
+    let cause : HaveCause (g.K.Keeper.faults c.args.keeper.now.keeper) (g.K.Keeper.faults c.play.new.keeper.keeper) (turn g c).calls =
+    subst (λ (cs : List Call). HaveCause (g.K.Keeper.faults c.args.keeper.now.keeper) (g.K.Keeper.faults c.play.new.keeper.keeper) cs) (sym (calls_are g c)) c.in_ok-step.ensures.plays.2.cause in
+    let after : CausedSince start (g.K.Keeper.faults c.play.new.keeper.keeper) (turn g c ∷ past g c) = caused-more (turn g c) (past g c) start _ _ cause before in
+    let there : CausedSince start (g.K.Keeper.faults c.take_calls-calls.new.self.keeper) (turn g c ∷ past g c) = rw c.take_calls-calls.ensures.keeper after in
+    subst (λ (turns : List Turn). CausedSince start (g.K.Keeper.faults c.take_calls-calls.new.self.keeper) turns) (sym (more g c)) there

@@ -1,0 +1,174 @@
+//! The ends of a run, and what they do at an event.
+
+ghost use Rattle.std.specs.Prelude.{◌≡◌, ◌<◌, ◌≤◌, [], List, MatchOption, IfOk, OnErr, length, Ok};
+ghost use Rattle.std.specs.List.{AllByRecursion};
+ghost use Rattle.event_text.specs.Events.{plain};
+ghost use Rattle.event_text.specs.Grammar.{Fits};
+ghost use Rattle.keeper_book.specs.Asks.{Asks};
+ghost use Rattle.keeper_book.specs.declared.calls.Call.{Call};
+ghost use Rattle.replay_set.specs.Window.{IsWindowSize};
+ghost use Rattle.turn_rules.specs.Datagrams.{datagrams_of};
+ghost use Rattle.turn_rules.specs.Fits.{is_importable};
+ghost use Rattle.turn_rules.specs.Steps.{Says};
+ghost use Rattle.run_ends.specs.Casts.{ConfiguresFirst, Imports, IsShort, Plays};
+
+use crate::settings::Settings;
+use cluster_member::{Member, of_fault};
+use cluster_peer::Peer;
+use event_text::{Event, Refusal, Step, Verdict};
+use ha_base::{Identity, Memory};
+use keeper_book::{Keeper, Record};
+use std::alloc::Global;
+use std::marker::Model;
+use turn_trace::Trace;
+
+/// The least SPI of an IKE association that may be imported.
+const LEAST_SPI: u64 = 1 << 48;
+
+/// The least ESP SPI that may be imported.
+const LEAST_ESP_SPI: u32 = 65_536;
+
+/// The peer, and the members that joined.
+#[derive(Drop)]
+pub(crate) struct Cast {
+    pub(crate) alloc: Global,
+    // how many services were handed in for members
+    pub(crate) boxes: usize,
+    pub(crate) settings: Settings,
+    pub(crate) peer: Peer,
+    // a member that ended leaves its place empty
+    pub(crate) members: Vec<Option<Member>>,
+}
+
+impl Model for Cast {
+    ghost use Rattle.std.specs.Prelude.{◌≡◌, ◌≤◌, length};
+    ghost use Rattle.replay_set.specs.Window.{IsWindowSize};
+    ghost use Rattle.run_ends.specs.Casts.{Standing};
+
+    ghost Value = { Standing };
+
+    ghost view = { λ c. record {
+      boxes = c.boxes;
+      window = c.settings.window;
+      slots = c.peer.slots;
+      members = c.members.items;
+    } };
+
+    ghost invariant = { λ c. IsWindowSize c.settings.window × (c.peer.window ≡ c.settings.window) × (length c.members.items ≤ 64) };
+}
+
+pub(crate) fn refused(refusal: Refusal) -> Step
+    ensures { Says (Verdict.Refused refusal) result }
+{
+    Step::quiet(Verdict::Refused(refusal))
+}
+
+// the SPIs that a run may import; the smaller ones are for what the cluster draws itself
+fn is_importable(sa: &Record) -> bool
+    ensures { result ≡ is_importable sa.now }
+{
+    sa.spii >= LEAST_SPI
+        && sa.spir >= LEAST_SPI
+        && sa.spi_in >= LEAST_ESP_SPI
+        && sa.spi_out >= LEAST_ESP_SPI
+        && sa.starts.esp_out > 0
+        && sa.starts.esp_in > 0
+        && sa.starts.iv > 0
+}
+
+impl Cast {
+    /// Ends that have done nothing, and services for as many members as `boxes` says.
+    pub fn new(alloc: Global, boxes: usize) -> Cast
+        ensures { result ≡ record { boxes = boxes; window = 64; slots = []; members = [] } }
+    {
+        let settings = Settings::by_default();
+        Cast {
+            alloc,
+            boxes,
+            peer: Peer::new(alloc, settings.gateway(), settings.window),
+            settings,
+            members: Vec::new(alloc),
+        }
+    }
+
+    /// What the ends do at an event, where these turns were before. An error is want of memory, and the ends are then as they
+    /// were.
+    pub fn play<K: Keeper>(
+        &mut self,
+        keeper: &mut K,
+        trace: &Trace,
+        event: &Event,
+    ) -> Result<Step, Memory>
+        requires fits { Fits (plain event.now) }
+        requires short { AllByRecursion IsShort (datagrams_of trace.now.past) }
+        requires first { trace.now.past ≡ [] → self.old.slots ≡ [] }
+        ensures plays { IfOk result (λ step. (calls : List Call) × Plays trace.now.past self.old event.now calls step self.new
+            × Asks K.Keeper keeper.old calls keeper.new) }
+        ensures err { OnErr result (self.new ≡ self.old) }
+        ensures held { K.held keeper.new ≡ K.held keeper.old }
+    {
+        match event {
+            Event::Cluster {
+                identity,
+                lifetime,
+                window,
+                ..
+            } => return Ok(self.configure(trace, *identity, *lifetime, *window)),
+            Event::Import { sa } => return self.import(keeper, sa),
+            Event::Join { fresh } => return self.join(*fresh),
+            Event::Own { member, spir } => return self.own(keeper, *member, *spir),
+            Event::Draw { member, spir } => return Ok(self.draw(keeper, *member, *spir)),
+            Event::Crash { member } => return Ok(self.crash(*member)),
+            Event::Send {
+                from,
+                spir,
+                payload,
+            } => return self.send(keeper, trace, *from, *spir, payload.as_slice()),
+            Event::Deliver { to, .. } => return self.deliver(keeper, trace, *to, event),
+            Event::Alter { to, .. } => return self.deliver(keeper, trace, *to, event),
+            Event::Cut { to, .. } => return self.deliver(keeper, trace, *to, event),
+            Event::Inject { to, .. } => return self.deliver(keeper, trace, *to, event),
+        }
+    }
+
+    fn configure(&mut self, trace: &Trace, identity: Identity, lifetime: u32, window: u32) -> Step
+        requires window { IsWindowSize window }
+        requires first { trace.now.past ≡ [] → self.old.slots ≡ [] }
+        ensures { ConfiguresFirst trace.now.past self.old window [] result self.new }
+    {
+        if trace.turns() > 0 {
+            return refused(Refusal::Late);
+        }
+        self.settings = Settings {
+            identity,
+            lifetime,
+            window,
+        };
+        self.peer.configure(self.settings.gateway(), window);
+        Step::quiet(Verdict::Configured)
+    }
+
+    fn import<K: Keeper>(&mut self, keeper: &mut K, sa: &Record) -> Result<Step, Memory>
+        ensures imports { IfOk result (λ step. (calls : List Call) × Imports self.old sa.now calls step self.new
+            × Asks K.Keeper keeper.old calls keeper.new) }
+        ensures err { OnErr result (self.new ≡ self.old) }
+        ensures held { K.held keeper.new ≡ K.held keeper.old }
+    {
+        if !is_importable(sa) {
+            return Ok(refused(Refusal::SpiRange));
+        }
+        if !self.peer.admits(sa) {
+            return Ok(refused(Refusal::SpiInUse));
+        }
+        match keeper.enter(sa) {
+            Ok(()) => {
+                let step = self.peer.enter(sa)?;
+                Ok(step)
+            }
+            Err(fault) => match of_fault(fault) {
+                Some(refusal) => Ok(refused(refusal)),
+                None => Err(Memory),
+            },
+        }
+    }
+}

@@ -1,0 +1,100 @@
+ghost use Rattle.std.specs.Prelude.{◌≡◌, ℕ, [], OnOk, OnErr, false, length, slice_get};
+ghost use Rattle.std.specs.Option.{option_copied};
+ghost use Rattle.turn_rules.specs.Local.{Local};
+ghost use Rattle.event_text.specs.Events.{plain};
+ghost use Rattle.event_text.specs.Grammar.{Fits};
+ghost use Rattle.turn_rules.specs.Datagrams.{datagrams_of};
+ghost use Rattle.run_ends.specs.Runs.{CausedSince, Grows, StandsTold};
+
+use crate::cast::Cast;
+use event_text::{Event, Turn};
+use ha_base::{Memory, Moment};
+use keeper_book::{Gate, Keeper};
+use std::alloc::Global;
+use std::marker::Model;
+use turn_trace::Trace;
+
+/// The members of a cluster, the peer, and what they did.
+#[derive(Drop)]
+pub struct Ends {
+    cast: Cast,
+    trace: Trace,
+}
+
+impl Model for Ends {
+    ghost use Rattle.run_ends.specs.Casts.{AreKept};
+    ghost use Rattle.run_ends.specs.Runs.{Run};
+
+    ghost Value = { Run };
+
+    ghost view = { λ e. record { boxes = e.cast.boxes; past = e.trace.past } };
+
+    ghost invariant = { λ e. AreKept e.trace.past e.cast };
+}
+
+impl Ends {
+    /// Ends that have done nothing, and services for as many members as `boxes` says.
+    pub fn new(alloc: Global, boxes: usize) -> Ends
+        ensures { result ≡ record { boxes = boxes; past = [] } }
+    {
+        Ends {
+            cast: Cast::new(alloc, boxes),
+            trace: Trace::new(alloc),
+        }
+    }
+
+    /// Plays an event at a moment: the ends act, and one turn is appended. An error is want of memory; there is no new turn
+    /// then.
+    pub fn turn<K: Keeper>(
+        &mut self,
+        keeper: &mut Gate<K>,
+        now: Moment,
+        event: Event,
+    ) -> Result<(), Memory>
+        requires empty { keeper.old.calls ≡ [] }
+        requires told { keeper.old.missed ≡ false }
+        requires fits { Fits (plain event) }
+        ensures grows { OnOk result (Grows self.old now event self.new) }
+        ensures local { Local self.new.boxes self.new.past }
+        ensures stands { StandsTold self.old.past (K.book keeper.old.keeper)
+            → OnOk result (StandsTold self.new.past (K.book keeper.new.keeper)) }
+        ensures caused { (start : ℕ) → CausedSince start (K.faults keeper.old.keeper) self.old.past
+            → OnOk result (CausedSince start (K.faults keeper.new.keeper) self.new.past) }
+        ensures empty { OnOk result (keeper.new.calls ≡ []) }
+        ensures told { OnOk result (keeper.new.missed ≡ false) }
+        ensures err { OnErr result (self.new ≡ self.old) }
+        ensures held { K.held keeper.new.keeper ≡ K.held keeper.old.keeper }
+    {
+        self.trace.reserve()?;
+        let step = self.cast.play(keeper, &self.trace, &event)?;
+        let calls = keeper.take_calls();
+        self.trace.push(Turn {
+            moment: now,
+            event,
+            calls,
+            step,
+        });
+        Ok(())
+    }
+
+    /// The newest turn, where there is one.
+    pub fn last(&self) -> Option<&Turn>
+        ensures { option_copied result ≡ slice_get self.now.past 0 }
+    {
+        self.trace.last()
+    }
+
+    /// How many datagrams were given.
+    pub fn datagrams(&self) -> u64
+        ensures { result ≡ length (datagrams_of self.now.past) }
+    {
+        self.trace.datagrams() as u64
+    }
+
+    /// How many turns there are.
+    pub fn turns(&self) -> u64
+        ensures { result ≡ length self.now.past }
+    {
+        self.trace.turns()
+    }
+}

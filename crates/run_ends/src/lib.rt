@@ -1,0 +1,12 @@
+//! The ends of a run: the members of a cluster and the peer, and what they do at an event.
+#![tactic(auto)]
+
+mod arrivals;
+mod cast;
+mod deliveries;
+mod ends;
+mod members;
+mod sends;
+mod settings;
+
+pub use ends::Ends;

@@ -1,0 +1,92 @@
+//! What members do that send and receive nothing.
+
+ghost use Rattle.std.specs.Prelude.{◌≡◌, false, [], List, MatchOption, IfOk, OnErr};
+ghost use Rattle.keeper_book.specs.Asks.{Asks};
+ghost use Rattle.keeper_book.specs.declared.calls.Call.{Call};
+ghost use Rattle.run_ends.specs.Casts.{ActsUp, Crashes, DrawsAs, IsPlaceOf, Joins, TakesOverAs, WhereUpAs, has_member};
+
+use crate::cast::{Cast, refused};
+use cluster_member::Member;
+use event_text::{Refusal, Step, Verdict};
+use ha_base::Memory;
+use keeper_book::Keeper;
+
+/// The most members of a run.
+const MAX_MEMBERS: usize = 64;
+
+impl Cast {
+    pub(crate) fn join(&mut self, fresh: [u8; 24]) -> Result<Step, Memory>
+        ensures joins { IfOk result (λ step. Joins self.old [] step self.new) }
+        ensures err { OnErr result (self.new ≡ self.old) }
+    {
+        let joined = self.members.len();
+        if joined >= MAX_MEMBERS || joined >= self.boxes {
+            return Ok(refused(Refusal::NoRoom(joined as u32)));
+        }
+        if self.members.reserve(1).is_err() {
+            return Err(Memory);
+        }
+        let number = joined as u32 + 1;
+        let member = Member::join(self.alloc, number, self.settings.config(), fresh);
+        self.members.push_reserved(Some(member));
+        Ok(Step::quiet(Verdict::Member(number)))
+    }
+
+    /// Where a member of this number stands among those that joined.
+    pub(crate) fn place_of(&self, member: u64) -> Option<usize>
+        ensures { MatchOption result (has_member member self.now.members ≡ false) (λ place. IsPlaceOf member place self.now.members) }
+    {
+        if member == 0 || member > self.members.len() as u64 {
+            return None;
+        }
+        Some((member - 1) as usize)
+    }
+
+    pub(crate) fn own<K: Keeper>(
+        &mut self,
+        keeper: &mut K,
+        member: u64,
+        spir: u64,
+    ) -> Result<Step, Memory>
+        ensures owns { IfOk result (λ step. (calls : List Call) × ActsUp self.old member (TakesOverAs spir calls step) calls step self.new
+            × Asks K.Keeper keeper.old calls keeper.new) }
+        ensures err { OnErr result (self.new ≡ self.old) }
+        ensures held { K.held keeper.new ≡ K.held keeper.old }
+    {
+        let Some(place) = self.place_of(member) else {
+            return Ok(refused(Refusal::NoMember));
+        };
+        match &mut self.members[place] {
+            Some(member) => return member.take_over(keeper, spir),
+            None => return Ok(refused(Refusal::Down)),
+        }
+    }
+
+    pub(crate) fn draw<K: Keeper>(&mut self, keeper: &mut K, member: u64, spir: u64) -> Step
+        ensures draws { (calls : List Call) × ActsUp self.old member (DrawsAs spir calls result) calls result self.new
+            × Asks K.Keeper keeper.old calls keeper.new }
+        ensures held { K.held keeper.new ≡ K.held keeper.old }
+    {
+        let Some(place) = self.place_of(member) else {
+            return refused(Refusal::NoMember);
+        };
+        match &mut self.members[place] {
+            Some(member) => return Step::quiet(member.draw(keeper, spir)),
+            None => return refused(Refusal::Down),
+        }
+    }
+
+    // A member that crashed never returns.
+    pub(crate) fn crash(&mut self, member: u64) -> Step
+        ensures { WhereUpAs self.old member [] result self.new (Crashes self.old member [] result self.new) }
+    {
+        let Some(place) = self.place_of(member) else {
+            return refused(Refusal::NoMember);
+        };
+        if self.members[place].is_none() {
+            return refused(Refusal::Down);
+        }
+        self.members[place] = None;
+        Step::quiet(Verdict::Down)
+    }
+}
