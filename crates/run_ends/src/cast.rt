@@ -16,7 +16,7 @@ use crate::settings::Settings;
 use cluster_member::{Member, of_fault};
 use cluster_peer::Peer;
 use event_text::{Event, Refusal, Step, Verdict};
-use ha_base::{Identity, Memory};
+use ha_base::Memory;
 use keeper_book::{Keeper, Record};
 use std::alloc::Global;
 use std::marker::Model;
@@ -112,8 +112,11 @@ impl Cast {
                 identity,
                 lifetime,
                 window,
-                ..
-            } => return Ok(self.configure(trace, *identity, *lifetime, *window)),
+                ticket_key,
+            } => {
+                let settings = Settings::of(*identity, *lifetime, *window, ticket_key);
+                return Ok(self.configure(trace, settings));
+            }
             Event::Import { sa } => return self.import(keeper, sa),
             Event::Join { fresh } => return self.join(*fresh),
             Event::Own { member, spir } => return self.own(keeper, *member, *spir),
@@ -131,20 +134,16 @@ impl Cast {
         }
     }
 
-    fn configure(&mut self, trace: &Trace, identity: Identity, lifetime: u32, window: u32) -> Step
-        requires window { IsWindowSize window }
+    fn configure(&mut self, trace: &Trace, settings: Settings) -> Step
+        requires window { IsWindowSize settings.window }
         requires first { trace.now.past ≡ [] → self.old.slots ≡ [] }
-        ensures { ConfiguresFirst trace.now.past self.old window [] result self.new }
+        ensures { ConfiguresFirst trace.now.past self.old settings.window [] result self.new }
     {
         if trace.turns() > 0 {
             return refused(Refusal::Late);
         }
-        self.settings = Settings {
-            identity,
-            lifetime,
-            window,
-        };
-        self.peer.configure(self.settings.gateway(), window);
+        self.peer.configure(settings.gateway(), settings.window);
+        self.settings = settings;
         Step::quiet(Verdict::Configured)
     }
 

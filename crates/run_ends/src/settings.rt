@@ -2,8 +2,9 @@
 
 ghost use Rattle.std.specs.Prelude.{◌≡◌};
 
+use aes_gcm::Key;
 use cluster_member::Config;
-use ha_base::{GatewayId, Identity, OctetArray};
+use ha_base::{CounterName, End, GatewayId, Identity, Kind, OctetArray, OctetList, Origin};
 
 /// The receive window of ESP where nothing configures it.
 const DEFAULT_WINDOW: u32 = 64;
@@ -14,6 +15,18 @@ pub(crate) struct Settings {
     pub(crate) identity: Identity,
     pub(crate) lifetime: u32,
     pub(crate) window: u32,
+    // of no octets where there is none
+    pub(crate) ticket_key: OctetList<36>,
+}
+
+// the counter of the IVs under the first ticket key
+fn ticket_counter() -> CounterName {
+    CounterName {
+        origin: Origin::TicketKey(1),
+        kind: Kind::TicketIv,
+        child: 0,
+        end: End::Cluster,
+    }
 }
 
 impl Settings {
@@ -28,6 +41,24 @@ impl Settings {
             },
             lifetime: 3600,
             window: DEFAULT_WINDOW,
+            ticket_key: OctetList::new(),
+        }
+    }
+
+    /// How they are configured by the event that does so.
+    pub(crate) fn of(
+        identity: Identity,
+        lifetime: u32,
+        window: u32,
+        key: &OctetList<36>,
+    ) -> Settings
+        ensures { result.window ≡ window }
+    {
+        Settings {
+            identity,
+            lifetime,
+            window,
+            ticket_key: OctetList::from_slice(key.as_slice()),
         }
     }
 
@@ -39,7 +70,7 @@ impl Settings {
             identity: self.identity,
             lifetime: self.lifetime,
             window: self.window,
-            ticket_key: None,
+            ticket_key: Key::new(ticket_counter(), self.ticket_key.as_slice()),
         }
     }
 
