@@ -1,4 +1,4 @@
-ghost use Rattle.std.specs.Prelude.{◌≡◌, ◌<◌, ◌≤◌, ◌==◌, [], ◌∷◌, ◌++◌, length, slice_get};
+ghost use Rattle.std.specs.Prelude.{◌≡◌, ◌+◌, ◌<◌, ◌≤◌, ◌==◌, [], ◌∷◌, ◌++◌, length, slice_get, vec_capacity, vec_len};
 ghost use Rattle.std.specs.Option.{option_copied};
 
 use ha_base::{CounterName, Octets};
@@ -84,6 +84,20 @@ impl Seals {
             0 => self.first.as_ref(),
             1 => self.second.as_ref(),
             _ => None,
+        }
+    }
+
+    /// Moves the seals to the end of a list that has room for them. It takes no memory.
+    pub fn append_to(self, list: &mut Vec<Seal>)
+        requires { vec_len list.old + length self ≤ vec_capacity list.old }
+        ensures { list.new.items ≡ list.old.items ++ self }
+    {
+        let Seals { first, second } = self;
+        if let Some(seal) = first {
+            list.push_reserved(seal);
+        }
+        if let Some(seal) = second {
+            list.push_reserved(seal);
         }
     }
 }

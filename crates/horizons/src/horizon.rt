@@ -13,7 +13,6 @@ use std::marker::Model;
 /// A counter of an association in an epoch.
 #[derive(Drop)]
 pub struct Horizon {
-    name: CounterName,
     counter: Counter,
     spir: u64,
     epoch: u64,
@@ -29,7 +28,7 @@ impl Model for Horizon {
     ghost Value = { Reach };
 
     ghost view = { λ h. record {
-      name = h.name;
+      name = h.lot.name;
       counter = h.counter;
       spir = h.spir;
       epoch = h.epoch;
@@ -38,7 +37,7 @@ impl Model for Horizon {
       high = h.high;
     } };
 
-    ghost invariant = { λ h. IsWell h.name h.counter h.base h.high h.lot };
+    ghost invariant = { λ h. IsWell h.counter h.base h.high h.lot };
 }
 
 /// How many numbers a cover asks for at once: 1,024 of ESP, 64 IVs, 16 Message IDs.
@@ -68,7 +67,6 @@ impl Horizon {
     {
         match Counter::named(name.kind, name.child) {
             Some(counter) => Horizon {
-                name,
                 counter,
                 spir,
                 epoch,
@@ -118,7 +116,8 @@ impl Horizon {
             return Err(Stop::Exhausted);
         }
         let upto = (at + lead(self.counter)).min(end);
-        match keeper.cover(self.spir, self.name.kind, self.name.child, self.epoch, upto) {
+        let CounterName { kind, child, .. } = self.lot.name();
+        match keeper.cover(self.spir, kind, child, self.epoch, upto) {
             Ok(()) => {
                 self.high = upto;
                 self.lot.extend(upto.max(self.lot.next()));
@@ -138,7 +137,7 @@ impl Horizon {
         ensures held { K.held keeper.new ≡ K.held keeper.old }
         ensures same { IsSameCounter self.old self.new }
     {
-        let _ = &self.base;
+        prove!(self.base <= at);
         self.cover_to(keeper, at)
     }
 

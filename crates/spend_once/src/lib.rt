@@ -47,6 +47,13 @@ impl Lot {
         Lot { name, next, end }
     }
 
+    /// The counter that the numbers are of.
+    pub fn name(&self) -> CounterName
+        ensures { result ≡ self.now.name }
+    {
+        self.name
+    }
+
     /// The number that the next draw gives, where it is below the end.
     pub fn next(&self) -> u64
         ensures value { result ≡ self.now.next }

@@ -3,6 +3,7 @@ use Rattle.std.specs.Prelude.{ℕ, ◌-◌, Bool, List, [], ◌∷◌, ◌++◌,
 use Rattle.std.specs.Option.{option_map}
 use Rattle.event_text.specs.declared.event.Which.{Which}
 use Rattle.event_text.specs.declared.event.Which.TheVariants as which
+use Rattle.event_text.specs.declared.seals.Seal.{Seal}
 use Rattle.event_text.specs.declared.turn.Turn.{Turn}
 use Rattle.keeper_book.specs.declared.calls.Call.{Call}
 
@@ -20,6 +21,10 @@ abbrev pub calls_of : Option Turn → List Call
 calls_of None = []
 calls_of (Some turn) = turn.calls
 
+abbrev pub seals_of : Option Turn → List Seal
+seals_of None = []
+seals_of (Some turn) = turn.step.seals
+
 -- where the turns stand that gave a datagram, counted from 0, the oldest first
 abbrev pub giving_places : List Turn → List ℕ
 giving_places [] = []
@@ -30,8 +35,9 @@ abbrev pub place_meant : Which → List ℕ → Option ℕ
 place_meant (which.Number number) places = if nat_lt 0 number then slice_get places (number - 1) else None
 place_meant which.Last places = slice_get places (length places - 1)
 
--- the places are those of the turns that gave a datagram, the room is empty, and only a newest turn has earlier ones
-pub record AreTraced (given : List ℕ) (room : List Call) (earlier : List Turn) (newest : Option Turn) : Type 0 where
+-- the places are those of the turns that gave a datagram, the rooms are empty, and only a newest turn has earlier ones
+pub record AreTraced (given : List ℕ) (calls_room : List Call) (seals_room : List Seal) (earlier : List Turn) (newest : Option Turn) : Type 0 where
   pub places : given ≡ giving_places (past_of earlier newest)
-  pub empty : room ≡ []
+  pub no_calls : calls_room ≡ []
+  pub no_seals : seals_room ≡ []
   pub begun : IfNone newest (earlier ≡ [])

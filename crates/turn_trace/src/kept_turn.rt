@@ -3,18 +3,21 @@
 ghost use Rattle.std.specs.Prelude.{◌≡◌, ◌+◌, ◌≤◌, ◌++◌, [], length, vec_capacity, vec_len};
 ghost use Rattle.std.specs.Option.{option_copied};
 
-use event_text::{Datagram, Event, Step, Turn};
+use event_text::{Datagram, Event, Seal, Served, Step, Turn, Verdict};
 use ha_base::Moment;
 use keeper_book::{Call, Calls};
 use std::marker::Model;
 
-/// A turn with no more memory for calls than it has calls.
+/// A turn with no more memory for calls and seals than it has of them.
 #[derive(Drop)]
 pub(crate) struct KeptTurn {
     moment: Moment,
     event: Event,
     calls: Vec<Call>,
-    step: Step,
+    verdict: Verdict,
+    served: Option<Served>,
+    seals: Vec<Seal>,
+    gives: Option<Datagram>,
 }
 
 impl Model for KeptTurn {
@@ -22,14 +25,21 @@ impl Model for KeptTurn {
 
     ghost Value = { Turn };
 
-    ghost view = { λ k. record { moment = k.moment; event = k.event; calls = k.calls.items; step = k.step } };
+    ghost view = { λ k. record {
+      moment = k.moment;
+      event = k.event;
+      calls = k.calls.items;
+      step = record { verdict = k.verdict; served = k.served; seals = k.seals.items; gives = k.gives };
+    } };
 }
 
 impl KeptTurn {
-    /// Keeps a turn, with its calls in this room. It takes no memory.
-    pub fn new(turn: Turn, room: Vec<Call>) -> KeptTurn
-        requires empty { room.items ≡ [] }
-        requires room { vec_len room + length turn.calls ≤ vec_capacity room }
+    /// Keeps a turn, with its calls and its seals in this room. It takes no memory.
+    pub fn new(turn: Turn, calls_room: Vec<Call>, seals_room: Vec<Seal>) -> KeptTurn
+        requires no_calls { calls_room.items ≡ [] }
+        requires room_for_calls { vec_len calls_room + length turn.calls ≤ vec_capacity calls_room }
+        requires no_seals { seals_room.items ≡ [] }
+        requires room_for_seals { vec_len seals_room + length turn.step.seals ≤ vec_capacity seals_room }
         ensures { result ≡ turn }
     {
         let Turn {
@@ -38,13 +48,24 @@ impl KeptTurn {
             calls,
             step,
         } = turn;
-        let mut kept = room;
-        copy_calls(&calls, &mut kept);
+        let Step {
+            verdict,
+            served,
+            seals,
+            gives,
+        } = step;
+        let mut kept_calls = calls_room;
+        copy_calls(&calls, &mut kept_calls);
+        let mut kept_seals = seals_room;
+        seals.append_to(&mut kept_seals);
         KeptTurn {
             moment,
             event,
-            calls: kept,
-            step,
+            calls: kept_calls,
+            verdict,
+            served,
+            seals: kept_seals,
+            gives,
         }
     }
 
@@ -52,7 +73,7 @@ impl KeptTurn {
     pub fn gives(&self) -> Option<&Datagram>
         ensures { option_copied result ≡ self.now.step.gives }
     {
-        self.step.gives.as_ref()
+        self.gives.as_ref()
     }
 }
 

@@ -1,11 +1,11 @@
 use super::*;
-use event_text::{Datagram, Event, Medium, Party, Step, Turn, Verdict, Which};
-use ha_base::{Memory, Moment, Octets};
+use event_text::{Datagram, Event, Medium, Party, Seal, Step, Turn, Verdict, Which};
+use ha_base::{CounterName, End, Kind, Memory, Moment, Octets, Origin};
 use keeper_book::{Call, Calls, KeeperAnswer, KeeperAsk};
 use std::alloc::Global;
 use std::test::Fail;
 
-// How many calls each turn makes, and the octets that it gives: none where it gives no datagram.
+// How many calls each turn makes, and the octets that it seals and gives: none where it gives no datagram.
 const TURNS: [(u32, &[u8]); 7] = [
     (0, b""),
     (1, b""),
@@ -53,8 +53,27 @@ fn gives(alloc: Global, octets: &[u8]) -> Result<Option<Datagram>, Memory> {
     }))
 }
 
+fn seal(alloc: Global, iv: u64, octets: &[u8]) -> Result<Seal, Memory> {
+    let mut plain = Octets::new(alloc);
+    plain.extend(octets)?;
+    Ok(Seal {
+        name: CounterName {
+            origin: Origin::Imported(1),
+            kind: Kind::EspOut,
+            child: 1,
+            end: End::Cluster,
+        },
+        iv,
+        plain,
+        sealed: Octets::new(alloc),
+    })
+}
+
 fn turn(alloc: Global, at: u64, count: u32, octets: &[u8]) -> Result<Turn, Memory> {
     let mut step = Step::quiet(Verdict::Sent(at));
+    if !octets.is_empty() {
+        step.seals.push(seal(alloc, at, octets)?);
+    }
     step.gives = gives(alloc, octets)?;
     Ok(Turn {
         moment: Moment(at),
@@ -85,6 +104,7 @@ fn datagrams_by_their_numbers(rt: HostRuntime) -> Result<(), Fail> {
         let newest = trace.last().ok_or("a turn was pushed")?;
         assert_eq!(rt; newest.moment, Moment(at as u64));
         assert_eq!(rt; newest.calls.len(), *count as usize);
+        assert_eq!(rt; newest.step.seals.is_empty(), octets.is_empty());
         assert_eq!(rt; trace.turns(), at as u64 + 1);
     }
     assert_eq!(rt; trace.datagrams(), 3);

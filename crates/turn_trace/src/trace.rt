@@ -6,7 +6,7 @@ ghost use Rattle.turn_rules.specs.Datagrams.{datagram_at, datagrams_of, plain_da
 ghost use Rattle.turn_trace.specs.Traces.{place_meant};
 
 use crate::kept_turn::KeptTurn;
-use event_text::{Datagram, Turn, Which};
+use event_text::{Datagram, Seal, Turn, Which};
 use ha_base::Memory;
 use keeper_book::Call;
 use std::alloc::Global;
@@ -19,21 +19,27 @@ pub struct Trace {
     alloc: Global,
     earlier: Vec<KeptTurn>,
     newest: Option<Turn>,
-    /// Room for the calls of the newest turn, when it is no more the newest.
-    room: Vec<Call>,
+    /// Room for the calls and the seals of the newest turn, when it is no more the newest.
+    calls_room: Vec<Call>,
+    seals_room: Vec<Seal>,
     /// Where the turns stand that gave a datagram.
     given: Vec<usize>,
 }
 
 impl Model for Trace {
     ghost use Rattle.std.specs.Prelude.{◌+◌, ◌&&◌, length, nat_le, nat_lt};
-    ghost use Rattle.turn_trace.specs.Traces.{Traced, AreTraced, calls_of, past_of};
+    ghost use Rattle.turn_trace.specs.Traces.{Traced, AreTraced, calls_of, past_of, seals_of};
 
     ghost Value = { Traced };
 
-    ghost view = { λ t. record { past = past_of t.earlier.items t.newest; ready = nat_lt t.earlier.len t.earlier.cap && nat_lt t.given.len t.given.cap && nat_le (t.room.len + length (calls_of t.newest)) t.room.cap } };
+    ghost view = { λ t. record {
+      past = past_of t.earlier.items t.newest;
+      ready = nat_lt t.earlier.len t.earlier.cap && nat_lt t.given.len t.given.cap
+          && nat_le (t.calls_room.len + length (calls_of t.newest)) t.calls_room.cap
+          && nat_le (t.seals_room.len + length (seals_of t.newest)) t.seals_room.cap;
+    } };
 
-    ghost invariant = { λ t. AreTraced t.given.items t.room.items t.earlier.items t.newest };
+    ghost invariant = { λ t. AreTraced t.given.items t.calls_room.items t.seals_room.items t.earlier.items t.newest };
 }
 
 impl Trace {
@@ -45,7 +51,8 @@ impl Trace {
             alloc,
             earlier: Vec::new(alloc),
             newest: None,
-            room: Vec::new(alloc),
+            calls_room: Vec::new(alloc),
+            seals_room: Vec::new(alloc),
             given: Vec::new(alloc),
         }
     }
@@ -55,17 +62,21 @@ impl Trace {
         ensures past { self.new.past ≡ self.old.past }
         ensures ready { OnOk result (self.new.ready ≡ true) }
     {
-        let calls = match &self.newest {
-            Some(turn) => turn.calls.len(),
-            None => 0,
+        let (calls, seals) = match &self.newest {
+            Some(turn) => (turn.calls.len(), turn.step.seals.len()),
+            None => (0, 0),
         };
-        let Ok(room) = Vec::with_capacity(self.alloc, calls) else {
+        let Ok(calls_room) = Vec::with_capacity(self.alloc, calls) else {
+            return Err(Memory);
+        };
+        let Ok(seals_room) = Vec::with_capacity(self.alloc, seals) else {
             return Err(Memory);
         };
         if self.earlier.reserve(1).is_err() || self.given.reserve(1).is_err() {
             return Err(Memory);
         }
-        self.room = room;
+        self.calls_room = calls_room;
+        self.seals_room = seals_room;
         Ok(())
     }
 
@@ -79,8 +90,10 @@ impl Trace {
             self.given.push_reserved(place);
         }
         if let Some(earlier) = self.newest.replace(turn) {
-            let room = mem::replace(&mut self.room, Vec::new(self.alloc));
-            self.earlier.push_reserved(KeptTurn::new(earlier, room));
+            let calls_room = mem::replace(&mut self.calls_room, Vec::new(self.alloc));
+            let seals_room = mem::replace(&mut self.seals_room, Vec::new(self.alloc));
+            let kept = KeptTurn::new(earlier, calls_room, seals_room);
+            self.earlier.push_reserved(kept);
         }
     }
 
