@@ -163,7 +163,8 @@ impl Holding {
     }
     /// Sends a payload of at most 1,400 octets under the next ESP number.
     pub fn send<K: Keeper>(&mut self, keeper: &mut K, room: Room, payload: &[u8]) -> Step
-        requires { length payload.now ≤ 1400 }
+        requires size { length payload.now ≤ 1400 }
+        requires room { length payload.now ≤ room }
         ensures sends { (calls : List Call) × SendsDataTo self.old payload.now calls result self.new
             × Asks K.Keeper keeper.old calls keeper.new }
         ensures sa { self.new.sa ≡ self.old.sa }

@@ -128,7 +128,8 @@ impl Holdings {
 
     /// Sends a payload of at most 1,400 octets in an association that is held.
     pub fn send<K: Keeper>(&mut self, keeper: &mut K, spir: u64, room: Room, payload: &[u8]) -> Step
-        requires { length payload.now ≤ 1400 }
+        requires size { length payload.now ≤ 1400 }
+        requires room { length payload.now ≤ room }
         ensures sends { (calls : List Call) × SendsFrom spir self.old.held payload.now calls result self.new.held
             × Asks K.Keeper keeper.old calls keeper.new }
         ensures held { K.held keeper.new ≡ K.held keeper.old }

@@ -113,7 +113,7 @@ impl Member {
         ensures err { OnErr result ((self.new ≡ self.old) × (keeper.new ≡ keeper.old)) }
         ensures held { K.held keeper.new ≡ K.held keeper.old }
     {
-        let room = Room::new(self.alloc)?;
+        let room = Room::new(self.alloc, payload.len())?;
         Ok(self.holdings.send(keeper, spir, room, payload))
     }
 

@@ -109,7 +109,8 @@ impl Association {
 
     /// Sends a payload of at most 1,400 octets. It is refused `Exhausted` exactly where the counter is at its end.
     pub fn send(&mut self, room: Room, payload: &[u8]) -> Step
-        requires { length payload.now ≤ 1400 }
+        requires size { length payload.now ≤ 1400 }
+        requires room { length payload.now ≤ room }
         ensures { SlotSends self.old payload.now result self.new }
     {
         match self.lot.draw() {

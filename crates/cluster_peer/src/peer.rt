@@ -94,7 +94,7 @@ impl Peer {
         ensures window { self.new.window ≡ self.old.window }
         ensures err { OnErr result (self.new ≡ self.old) }
     {
-        let room = Room::new(self.alloc)?;
+        let room = Room::new(self.alloc, payload.len())?;
         Ok(self.slots.send(spir, room, payload))
     }
 

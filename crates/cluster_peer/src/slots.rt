@@ -96,7 +96,8 @@ impl Slots {
 
     /// Sends a payload of at most 1,400 octets in an association.
     pub fn send(&mut self, spir: u64, room: Room, payload: &[u8]) -> Step
-        requires { length payload.now ≤ 1400 }
+        requires size { length payload.now ≤ 1400 }
+        requires room { length payload.now ≤ room }
         ensures { PeerSends spir self.old.slots payload.now result self.new.slots }
     {
         match place_of(&self.items, spir) {

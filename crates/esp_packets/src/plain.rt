@@ -1,4 +1,4 @@
-ghost use Rattle.std.specs.Prelude.{◌≡◌, ◌≤◌, length, take};
+ghost use Rattle.std.specs.Prelude.{◌≡◌, ◌+◌, ◌≤◌, length, take};
 ghost use Rattle.esp_packets.specs.Packet.{plain_of};
 
 /// How many octets a payload has at most.
@@ -7,6 +7,10 @@ pub const MAX_PAYLOAD: usize = 1400;
 /// How many octets a plaintext has at most, written with the shortest padding.
 pub const MAX_PLAIN: usize = 1404;
 
+/// How many octets a packet has more than its payload, at most: SPI, low half, IV, the longest padding, pad length, next header
+/// and integrity check value.
+pub const PACKET_OVERHEAD: usize = 37;
+
 /// The longest padding.
 const PADDING: [u8; 3] = [1, 2, 3];
 
@@ -14,6 +18,7 @@ const PADDING: [u8; 3] = [1, 2, 3];
 pub fn write_plain(payload: &[u8], next_header: u8, buffer: &mut [u8; MAX_PLAIN]) -> usize
     requires { length payload.now ≤ MAX_PAYLOAD }
     ensures fits { result ≤ 1404 }
+    ensures short { result ≤ length payload.now + 5 }
     ensures plain { take result buffer.new ≡ plain_of payload.now next_header }
 {
     let end = payload.len();

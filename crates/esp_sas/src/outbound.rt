@@ -37,10 +37,12 @@ impl OutboundSa {
         }
     }
 
-    /// Sends a payload of at most 1,400 octets under this number, which is spent. It takes no memory but the room.
+    /// Sends a payload of at most 1,400 octets, for which there is room, under this number, which is spent. It takes no memory but
+    /// the room.
     pub fn send(&self, room: Room, number: Number, payload: &[u8]) -> Step
         requires named { number.name ≡ self.now.key.name }
         requires size { length payload.now ≤ 1400 }
+        requires room { length payload.now ≤ room }
         ensures { Sends self.now number.value payload.now result }
     {
         room.send(&self.key, self.spi, number, payload)

@@ -1,55 +1,61 @@
-ghost use Rattle.std.specs.Prelude.{◌≡◌, ◌≤◌, [], length};
+ghost use Rattle.std.specs.Prelude.{◌≡◌, ◌≤◌, [], length, IfOk};
 ghost use Rattle.turn_rules.specs.Packets.{Sends};
 
 use aes_gcm::Key;
-use esp_packets::{seal_packet, spell_plain};
+use esp_packets::{PACKET_OVERHEAD, seal_packet, spell_plain};
 use event_text::{Datagram, Medium, Seal, Seals, Step, Verdict};
 use ha_base::{Memory, Octets};
 use spend_once::Number;
 use std::alloc::Global;
 use std::marker::Model;
 
-/// How many octets a datagram has at most.
-const DATAGRAM: usize = 2048;
-
 /// The next header of an IPv4 packet (RFC 4303, section 2.6).
 const IPV4: u8 = 4;
 
-/// Room for all that a send writes.
+/// Room for all that the send of a payload of so many octets writes.
 #[derive(Drop)]
 pub struct Room {
+    payload: usize,
     plain: Octets,
     sealed: Octets,
     given: Octets,
 }
 
 impl Model for Room {
+    ghost use Rattle.std.specs.Prelude.{ℕ};
     ghost use Rattle.esp_sas.specs.Rooms.{IsRoom};
 
-    ghost Value = { Unit {0} };
+    ghost Value = { ℕ };
 
-    ghost view = { λ r. tt };
+    ghost view = { λ r. r.payload };
 
-    ghost invariant = { λ r. IsRoom r.plain r.sealed r.given };
+    ghost invariant = { λ r. IsRoom r.payload r.plain r.sealed r.given };
 }
 
 impl Room {
-    /// Makes the room. An error is want of memory.
-    pub fn new(alloc: Global) -> Result<Room, Memory> {
+    /// Makes the room for a payload of so many octets, at most 1,400. An error is want of memory.
+    pub fn new(alloc: Global, payload: usize) -> Result<Room, Memory>
+        requires { payload ≤ 1400 }
+        ensures { IfOk result (λ room. room ≡ payload) }
+    {
+        let octets = payload + PACKET_OVERHEAD;
         Ok(Room {
-            plain: Octets::with_room(alloc, DATAGRAM)?,
-            sealed: Octets::with_room(alloc, DATAGRAM)?,
-            given: Octets::with_room(alloc, DATAGRAM)?,
+            payload,
+            plain: Octets::with_room(alloc, octets)?,
+            sealed: Octets::with_room(alloc, octets)?,
+            given: Octets::with_room(alloc, octets)?,
         })
     }
 
-    /// Sends a payload of at most 1,400 octets in an ESP packet under this number, which is spent.
+    /// Sends a payload, for which there is room, in an ESP packet under this number, which is spent.
     pub fn send(self, key: &Key, spi: u32, number: Number, payload: &[u8]) -> Step
         requires named { number.name ≡ key.now.name }
         requires size { length payload.now ≤ 1400 }
+        requires room { length payload.now ≤ self }
         ensures { Sends (record { key = key.now; spi = spi }) number.value payload.now result }
     {
         let Room {
+            payload: _,
             mut plain,
             mut sealed,
             mut given,
