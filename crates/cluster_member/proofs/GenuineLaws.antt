@@ -5,12 +5,14 @@ use Rattle.esp_packets.specs.Laws.{Accepts, SealedPacketsOpen}
 use Rattle.esp_packets.specs.Packet.{spi_of}
 use Rattle.event_text.specs.declared.verdict.EspVerdict.{EspVerdict}
 use Rattle.keeper_book.specs.declared.calls.Call.{Call}
+use Rattle.keeper_book.specs.declared.counters.Counter.TheVariants as counter
 use Rattle.turn_rules.proofs.GenuinePackets.{IsSized, genuine-long, genuine-opens, ready-goes, same_receiver}
 use Rattle.turn_rules.proofs.KeySizes.{sized_to_cluster}
-use Rattle.turn_rules.specs.Genuine.{IsAcknowledged, IsGenuine}
+use Rattle.turn_rules.specs.Draws.{counter_name}
+use Rattle.turn_rules.specs.Genuine.{IsAcknowledged, IsGenuine, IsTakenAs}
 use Rattle.turn_rules.specs.Held.{Held, held_at}
 use Rattle.turn_rules.specs.MemberPackets.{ReceivesPacketTo, TakesPacketTo, inbound_of}
-use Rattle.cluster_member.specs.Genuine.{GenuineAreAccepted, IsAccepted}
+use Rattle.cluster_member.specs.Genuine.{GenuineAreAccepted}
 use Rattle.cluster_member.specs.Members.{ReceivesFrom}
 
 module _ (law : SealedPacketsOpen) (held : Held) (number : ℕ) (payload octets : List ℕ) (genuine : IsGenuine (inbound_of held) number payload octets) where
@@ -20,7 +22,7 @@ module _ (law : SealedPacketsOpen) (held : Held) (number : ℕ) (payload octets 
   not_short : length octets < 34 → ⊥
   not_short short = genuine-long law (inbound_of held) its_key number payload octets genuine short
 
-  received_accepted : (calls : List Call) (answer : EspVerdict) (after : List ℕ) (now : Held) → IsAcknowledged held number calls → ReceivesPacketTo held octets calls answer after now → IsAccepted held number payload answer after
+  received_accepted : (calls : List Call) (answer : EspVerdict) (after : List ℕ) (now : Held) → IsAcknowledged held number calls → ReceivesPacketTo held octets calls answer after now → IsTakenAs (counter_name held.sa counter.EspIn) number payload answer after
   received_accepted calls answer after now allowed r =
       let opened : Accepts number payload 4 r.opened after = genuine-opens law (inbound_of held) its_key number payload octets genuine r.opened after r.opens in
       let packet = opened.packet in

@@ -1,2 +1,3 @@
+mod GenuineLaws
 pub mod KeySizes
 mod SlotLemmas

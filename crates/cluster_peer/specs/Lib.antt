@@ -1,2 +1,3 @@
 pub mod Associations
+pub mod Genuine
 pub mod Slots

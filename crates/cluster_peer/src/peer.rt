@@ -1,4 +1,5 @@
 ghost use Rattle.std.specs.Prelude.{◌≡◌, ◌≤◌, [], ◌∷◌, ◌++◌, true, false, IfOk, OnErr, OnOk, length};
+ghost use Rattle.cluster_peer.specs.Genuine.{GenuineAreAccepted};
 ghost use Rattle.event_text.specs.declared.verdict.Refusal.TheVariants as refusal;
 ghost use Rattle.replay_set.specs.Window.{IsWindowSize};
 ghost use Rattle.turn_rules.specs.Packets.{LiesWithin};
@@ -7,6 +8,7 @@ ghost use Rattle.turn_rules.specs.Slots.{PeerReceives, PeerSends, entered_slot, 
 ghost use Rattle.turn_rules.specs.Steps.{Says};
 
 use crate::slots::Slots;
+use esp_packets::sealed_packets_open;
 use esp_sas::Room;
 use event_text::{EspVerdict, Refusal, Step, Verdict};
 use ha_base::{GatewayId, Memory};
@@ -98,15 +100,17 @@ impl Peer {
         Ok(self.slots.send(spir, room, payload))
     }
 
-    /// Opens in place an ESP packet that came, and notes its number where it is accepted (RFC 4303, section 3.4). It takes no
-    /// memory.
+    /// Opens in place an ESP packet that came, of at most 2,048 octets, and notes its number where it is accepted (RFC 4303,
+    /// section 3.4). It takes no memory.
     pub fn receive_esp(&mut self, bytes: &mut [u8]) -> EspVerdict
         requires { length bytes.old ≤ 2048 }
         ensures receives { PeerReceives self.old.slots bytes.old result bytes.new self.new.slots }
+        ensures genuine { GenuineAreAccepted self.old.slots bytes.old result bytes.new }
         ensures gateway { self.new.gateway ≡ self.old.gateway }
         ensures window { self.new.window ≡ self.old.window }
         ensures within { LiesWithin result (length bytes.new) }
     {
+        sealed_packets_open();
         self.slots.receive(bytes)
     }
 }

@@ -2,13 +2,16 @@
 use Rattle.std.specs.Prelude.{ℕ, ◌^◌, ◌≡◌, ◌<◌, ◌⊎◌, Some, List, [], ◌∷◌, Ok}
 use Rattle.std.specs.List.{AllByRecursion}
 use Rattle.esp_packets.specs.Laws.{Covers}
-use Rattle.esp_packets.specs.Packet.{IsDatagram, spi_of}
+use Rattle.esp_packets.specs.Packet.{IsDatagram, payload_in, spi_of}
 use Rattle.event_text.specs.declared.turn.Medium.TheVariants as medium
 use Rattle.event_text.specs.declared.turn.Turn.{Turn}
+use Rattle.event_text.specs.declared.verdict.EspVerdict.{EspVerdict}
+use Rattle.event_text.specs.declared.verdict.EspVerdict.TheVariants as esp
 use Rattle.event_text.specs.declared.verdict.Verdict.{Verdict}
 use Rattle.event_text.specs.declared.verdict.Verdict.TheVariants as out
 use Rattle.ha_base.specs.Octets.{WithRoom}
 use Rattle.ha_base.specs.declared.counter_names.CounterName.{CounterName}
+use Rattle.ha_base.specs.declared.esp_outcomes.EspOpened.{EspOpened}
 use Rattle.keeper_book.specs.Told.{seen}
 use Rattle.keeper_book.specs.declared.calls.Call.{Call}
 use Rattle.keeper_book.specs.declared.calls.KeeperAnswer.TheVariants as answers
@@ -40,6 +43,14 @@ pub record IsAcceptedAs (name : CounterName) (number : ℕ) (payload : List ℕ)
   pub given : WithRoom
   pub said : verdict ≡ out.Accepted name number 4 given
   pub same : given.octets ≡ payload
+
+-- the same of the answer to its octets, which are then these
+pub record IsTakenAs (name : CounterName) (number : ℕ) (payload : List ℕ) (answer : EspVerdict) (after : List ℕ) : Type 0 where
+  pub packet : EspOpened
+  pub said : answer ≡ esp.Accepted name packet
+  pub number_is : packet.number ≡ number
+  pub next_header_is : packet.next_header ≡ 4
+  pub payload_is : payload_in packet after ≡ payload
 
 -- these octets came to an end in the turn, unchanged or not
 pub record Came (past : List Turn) (turn : Turn) (to : Performer) (octets : List ℕ) : Type 0 where
