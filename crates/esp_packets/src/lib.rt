@@ -12,7 +12,7 @@ mod seal;
 
 pub use ha_base::{EspDrop, EspOpened};
 pub use laws::{padding_is_shortest, sealed_packets_open};
-pub use open::open_packet;
+pub use open::{SHORTEST_PACKET, open_packet};
 pub use plain::PACKET_OVERHEAD;
 pub use seal::{seal_packet, spell_plain};
 

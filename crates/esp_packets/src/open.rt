@@ -10,9 +10,9 @@ use ha_base::{EspDrop, EspOpened};
 use replay_set::{Judgement, ReplaySet};
 
 /// How many octets a packet has at least: its header, pad length, next header and integrity check value.
-const SHORTEST: usize = 34;
+pub const SHORTEST_PACKET: usize = 34;
 
-/// Opens in place a packet that came to this SPI, and tells where its payload lies (RFC 4303, section 3.4).
+/// Opens in place a packet of at most 65,536 octets that came to this SPI, and tells where its payload lies (RFC 4303, section 3.4).
 ///
 /// The error is the first check that fails. The octets stay as they were but where the last check, that of the pad
 /// length, is the one that fails.
@@ -26,7 +26,7 @@ pub fn open_packet(
     ensures answer { IsAnswer key.now.octets spi set.now bytes.old result bytes.new }
     ensures within { IfOk result (λ packet. packet.start + packet.length ≤ length bytes.new) }
 {
-    if bytes.len() < SHORTEST {
+    if bytes.len() < SHORTEST_PACKET {
         return Err(EspDrop::Short);
     }
     if read_u32(&bytes[..4]) != spi {

@@ -5,19 +5,16 @@ ghost use Rattle.replay_set.specs.declared.judgement.Judgement.TheVariants as ju
 ghost use Rattle.turn_rules.specs.Packets.{Opens, noted};
 
 use aes_gcm::Key;
-use esp_packets::open_packet;
+use esp_packets::{SHORTEST_PACKET, open_packet};
 use ha_base::{CounterName, EspDrop, EspOpened};
 use replay_set::ReplaySet;
 use std::marker::Model;
-
-/// How many octets a packet has at least: its header, pad length, next header and integrity check value.
-const SHORTEST: usize = 34;
 
 /// The SPI of a packet. None exactly where it has fewer than 34 octets, and so is none.
 pub fn packet_spi(bytes: &[u8]) -> Option<u32>
     ensures { MatchOption result (length bytes.now < 34) (λ spi. (34 ≤ length bytes.now) × (spi ≡ spi_of bytes.now)) }
 {
-    if bytes.len() < SHORTEST {
+    if bytes.len() < SHORTEST_PACKET {
         return None;
     }
     Some(u32::from_be_bytes([bytes[0], bytes[1], bytes[2], bytes[3]]))

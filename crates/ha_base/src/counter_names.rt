@@ -27,9 +27,12 @@ pub enum Kind {
 /// What the keys of a resumed association were derived from (RFC 5723, section 5.1).
 #[derive(Clone, Copy, Debug, PartialEq, Eq)]
 pub struct Derivation {
+    /// The responder's SPI of the association that the ticket was issued in.
     pub old_spir: u64,
+    /// The nonces of the initiator and of the responder.
     pub ni: [u8; 32],
     pub nr: [u8; 32],
+    /// The SPIs of the resumed association.
     pub spii: u64,
     pub spir: u64,
 }

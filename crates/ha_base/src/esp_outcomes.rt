@@ -3,7 +3,9 @@
 pub struct EspOpened {
     /// The 64-bit sequence number (RFC 4303, section 2.2.1).
     pub number: u64,
+    /// The protocol of the payload, 4 for an IPv4 packet (RFC 4303, section 2.6).
     pub next_header: u8,
+    /// The payload's place in the octets of the packet, counted from 0, and how many octets it has.
     pub start: usize,
     pub length: usize,
 }

@@ -13,17 +13,24 @@ pub enum KeySize {
 /// AES key and 4 of salt.
 #[derive(Clone, Debug, PartialEq, Eq, Drop)]
 pub struct SaKeys {
+    /// From which the keys of child associations, and of a resumed association, are derived.
     pub sk_d: [u8; 32],
+    /// Seals what the initiator sends, which is the peer.
     pub sk_ei: OctetList<36>,
+    /// Seals what the responder sends, which is the cluster.
     pub sk_er: OctetList<36>,
+    /// Makes the AUTH code of the initiator.
     pub sk_pi: [u8; 32],
+    /// Makes the AUTH code of the responder.
     pub sk_pr: [u8; 32],
 }
 
 /// The keys of the child association (RFC 7296, section 2.17), of the same form as the sealing keys.
 #[derive(Clone, Debug, PartialEq, Eq, Drop)]
 pub struct ChildKeys {
+    /// Seals the packets that the cluster receives.
     pub to_cluster: OctetList<36>,
+    /// Seals the packets that the peer receives.
     pub to_peer: OctetList<36>,
 }
 

@@ -12,12 +12,12 @@ pub enum KeeperAsk {
     Enter {
         sa: Record,
     },
-    /// To begin an epoch of an association, for a member.
+    /// To begin an epoch of the association with this responder's SPI, for a member; members are counted from 1.
     TakeOver {
         spir: u64,
         member: u32,
     },
-    /// To raise the high of a counter in an epoch.
+    /// To raise the high of a counter in an epoch, so that all numbers below `upto` may be used.
     Cover {
         spir: u64,
         kind: Kind,
@@ -30,8 +30,11 @@ pub enum KeeperAsk {
 /// What a keeper answers.
 #[derive(Debug, PartialEq, Eq, Drop)]
 pub enum KeeperAnswer {
+    /// An association was added, or a high raised.
     Done,
+    /// An epoch began.
     Taken(Taken),
+    /// The call failed, or was refused.
     Refused(KeeperFault),
 }
 

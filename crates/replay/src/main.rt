@@ -1,4 +1,5 @@
-//! The command `replay`: it plays an event file from standard input, and writes the report to standard output.
+//! The command `replay`: with `run` it plays an event file from standard input, and writes the report to standard output; with
+//! `show` it reads IKE messages, and writes what each says.
 #![tactic(auto)]
 
 use ha_base::{Service, StdSink, StdSource, TallyService, are_fresh};
