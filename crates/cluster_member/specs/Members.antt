@@ -7,11 +7,14 @@ use Rattle.ha_base.specs.declared.esp_outcomes.EspDrop.TheVariants as drop
 use Rattle.event_text.specs.declared.verdict.Refusal.TheVariants as refusal
 use Rattle.event_text.specs.declared.verdict.Verdict.{Verdict}
 use Rattle.event_text.specs.declared.verdict.Verdict.TheVariants as out
+use Rattle.keeper_book.specs.Asks.{Asks}
 use Rattle.keeper_book.specs.Told.{seen}
 use Rattle.keeper_book.specs.declared.calls.Call.{Call}
 use Rattle.keeper_book.specs.declared.calls.KeeperAnswer.{KeeperAnswer}
 use Rattle.keeper_book.specs.declared.calls.KeeperAnswer.TheVariants as answer
 use Rattle.keeper_book.specs.declared.calls.KeeperAsk.TheVariants as ask
+use Rattle.keeper_book.specs.declared.faults.KeeperFault.TheVariants as fault
+use Rattle.keeper_book.specs.declared.keepers.Keeper.{Ghosts}
 use Rattle.keeper_book.specs.declared.records.Taken.{Taken}
 use Rattle.turn_rules.specs.Draws.{Concludes, DrawsTo, refusal_of_fault}
 use Rattle.turn_rules.specs.Held.{Held, begun, held_at}
@@ -41,6 +44,10 @@ abbrev pub TakesTo : ℕ → ℕ → ℕ → List Held → List Call → Verdict
 TakesTo size spir member old [] verdict new = ⊥
 TakesTo size spir member old (call ∷ []) verdict new = (call.asked ≡ ask.TakeOver spir member) × GrantsTo size spir (seen call) old verdict new
 TakesTo size spir member old (call ∷ other ∷ more) verdict new = ⊥
+
+-- for want of memory: the keeper is as it was, or it was asked once and lacked the memory itself
+abbrev pub AsksInVain : {K : Type 0} → Ghosts K → K → K → Type 0
+AsksInVain keeper old new = (new ≡ old) ⊎ ((call : Call) × (seen call ≡ answer.Refused fault.Memory) × Asks keeper old (call ∷ []) new)
 
 -- an association is held so, and every other one as before
 pub record Becomes (spir : ℕ) (now : Held) (old new : List Held) : Type 0 where

@@ -5,7 +5,7 @@ ghost use Rattle.replay_set.specs.Window.{IsWindowSize};
 ghost use Rattle.turn_rules.specs.Packets.{LiesWithin};
 ghost use Rattle.turn_rules.specs.Steps.{IsQuiet};
 ghost use Rattle.cluster_member.specs.Genuine.{GenuineAreAccepted};
-ghost use Rattle.cluster_member.specs.Members.{DrawsFrom, ReceivesFrom, SendsFrom, TakesTo};
+ghost use Rattle.cluster_member.specs.Members.{AsksInVain, DrawsFrom, ReceivesFrom, SendsFrom, TakesTo};
 
 use crate::config::Config;
 use crate::holding::Holding;
@@ -56,7 +56,8 @@ impl Member {
     }
 
     /// Takes over an association: an epoch begins, in which this member may use numbers. What it held of the association
-    /// begins anew. An error is want of memory, and the member is then as it was.
+    /// begins anew. An error is want of memory; the member is then as it was, and the keeper was asked only where it lacked
+    /// the memory itself.
     pub fn take_over<K: Keeper>(&mut self, keeper: &mut K, spir: u64) -> Result<Step, Memory>
         ensures takes { IfOk result (λ step. (calls : List Call)
             × TakesTo self.old.window spir self.old.number self.old.held calls step.verdict self.new.held
@@ -65,6 +66,7 @@ impl Member {
         ensures number { self.new.number ≡ self.old.number }
         ensures window { self.new.window ≡ self.old.window }
         ensures err { OnErr result (self.new ≡ self.old) }
+        ensures in_vain { OnErr result (AsksInVain K.Keeper keeper.old keeper.new) }
         ensures held { K.held keeper.new ≡ K.held keeper.old }
     {
         self.holdings.reserve()?;

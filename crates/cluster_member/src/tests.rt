@@ -2,9 +2,10 @@ ghost use Rattle.std.specs.Prelude.{◌≡◌, length};
 ghost use Rattle.keeper_book.specs.Counters.{AreWithinEnds};
 
 use crate::{Config, Member};
-use event_text::{Refusal, Step, Verdict};
-use ha_base::{ChildKeys, Identity, KeySize, OctetArray, OctetList, Origin, SaKeys};
+use event_text::{Refusal, Verdict};
+use ha_base::{ChildKeys, Identity, KeySize, Memory, OctetArray, OctetList, Origin, SaKeys};
 use keeper_book::{Five, Keeper, MemoryKeeper, Record};
+use std::alloc::Global;
 use std::test::Fail;
 
 const SPIR: u64 = 0x0001_0000_0000_0002;
@@ -68,49 +69,79 @@ fn config() -> Config
     }
 }
 
-// The epoch that a takeover began, and where it began the ESP numbers.
-fn owned(step: &Step) -> Option<(u64, u64)> {
-    match &step.verdict {
-        Verdict::Owned { epoch, bases } => Some((*epoch, bases.esp_out)),
-        _ => None,
+#[derive(Clone, Copy, Debug, PartialEq, Eq)]
+enum Answer {
+    // The epoch that a takeover began, and where it began the ESP numbers.
+    Owned(u64, u64),
+    Number(u64),
+    Refused(Refusal),
+    Memory,
+    Other,
+}
+
+fn answer_of(verdict: &Verdict) -> Answer {
+    match verdict {
+        Verdict::Owned { epoch, bases } => Answer::Owned(*epoch, bases.esp_out),
+        Verdict::Number(number) => Answer::Number(*number),
+        Verdict::Refused(refusal) => Answer::Refused(*refusal),
+        _ => Answer::Other,
     }
 }
 
-fn drawn(verdict: &Verdict) -> Option<u64> {
-    match verdict {
-        Verdict::Number(number) => Some(*number),
-        _ => None,
+// A keeper that knows the association.
+fn keeper(alloc: Global) -> Option<MemoryKeeper> {
+    let mut keeper = MemoryKeeper::new(alloc);
+    match keeper.enter(&record()) {
+        Ok(()) => Some(keeper),
+        Err(_) => None,
     }
+}
+
+fn takes_over(member: &mut Member, keeper: &mut MemoryKeeper, spir: u64) -> Answer {
+    match member.take_over(keeper, spir) {
+        Ok(step) => answer_of(&step.verdict),
+        Err(Memory) => Answer::Memory,
+    }
+}
+
+fn draws(member: &mut Member, keeper: &mut MemoryKeeper, spir: u64) -> Answer {
+    answer_of(&member.draw(keeper, spir))
+}
+
+// Two members draw from one association; the first covers the numbers below 1025, the second those below 2049. What a
+// member held begins anew with its takeover.
+fn answers(alloc: Global, keeper: &mut MemoryKeeper) -> [Answer; 9] {
+    let mut first = Member::join(alloc, 1, config(), [0x01; 24]);
+    let mut second = Member::join(alloc, 2, config(), [0x02; 24]);
+    [
+        draws(&mut first, keeper, SPIR),
+        takes_over(&mut first, keeper, SPIR + 1),
+        takes_over(&mut first, keeper, SPIR),
+        draws(&mut first, keeper, SPIR),
+        draws(&mut first, keeper, SPIR),
+        takes_over(&mut second, keeper, SPIR),
+        draws(&mut second, keeper, SPIR),
+        takes_over(&mut first, keeper, SPIR),
+        draws(&mut first, keeper, SPIR),
+    ]
 }
 
 #[test]
 fn a_member_goes_on_above_the_high(rt: HostRuntime) -> Result<(), Fail> {
-    let mut keeper = MemoryKeeper::new(rt.alloc());
-    keeper.enter(&record())?;
-    let mut first = Member::join(rt.alloc(), 1, config(), [0x01; 24]);
-    let mut second = Member::join(rt.alloc(), 2, config(), [0x02; 24]);
-
-    let verdict = first.draw(&mut keeper, SPIR);
-    assert!(rt; matches!(&verdict, Verdict::Refused(Refusal::NotOwner)));
-    let step = first.take_over(&mut keeper, SPIR + 1)?;
-    assert!(rt; matches!(&step.verdict, Verdict::Refused(Refusal::Unknown)));
-
-    assert_eq!(rt; owned(&first.take_over(&mut keeper, SPIR)?), Some((1, 1)));
-    assert_eq!(rt; drawn(&first.draw(&mut keeper, SPIR)), Some(1));
-    assert_eq!(rt; drawn(&first.draw(&mut keeper, SPIR)), Some(2));
-
-    // the first member covered the numbers below 1025
+    let mut keeper = keeper(rt.alloc()).ok_or("want of memory")?;
     assert_eq!(rt;
-        owned(&second.take_over(&mut keeper, SPIR)?),
-        Some((2, 1025))
+        answers(rt.alloc(), &mut keeper),
+        [
+            Answer::Refused(Refusal::NotOwner),
+            Answer::Refused(Refusal::Unknown),
+            Answer::Owned(1, 1),
+            Answer::Number(1),
+            Answer::Number(2),
+            Answer::Owned(2, 1025),
+            Answer::Number(1025),
+            Answer::Owned(3, 2049),
+            Answer::Number(2049),
+        ]
     );
-    assert_eq!(rt; drawn(&second.draw(&mut keeper, SPIR)), Some(1025));
-
-    // and what it held begins anew
-    assert_eq!(rt;
-        owned(&first.take_over(&mut keeper, SPIR)?),
-        Some((3, 2049))
-    );
-    assert_eq!(rt; drawn(&first.draw(&mut keeper, SPIR)), Some(2049));
     Ok(())
 }

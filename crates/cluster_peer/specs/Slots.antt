@@ -3,11 +3,13 @@ use Rattle.std.specs.Prelude.{ℕ, ◌≡◌, ◌<◌, Bool, true, None, List, l
 use Rattle.ha_base.specs.declared.identities.GatewayId.{GatewayId}
 use Rattle.turn_rules.specs.Slots.{Slot, first_slot}
 
--- what the peer holds: its gateway, the receive window of associations that come, and its associations
+-- what the peer holds: its gateway, the receive window of associations that come, its associations, and for how many more
+-- there is room
 pub record PeerHeld : Type 0 where
   pub gateway : GatewayId
   pub window : ℕ
   pub slots : List Slot
+  pub spare : ℕ
 
 -- associations, and for how many more there is room
 pub record Slotted : Type 0 where

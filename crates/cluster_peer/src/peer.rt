@@ -1,4 +1,4 @@
-ghost use Rattle.std.specs.Prelude.{◌≡◌, ◌≤◌, [], ◌∷◌, ◌++◌, true, false, IfOk, OnErr, OnOk, length};
+ghost use Rattle.std.specs.Prelude.{◌≡◌, ◌≤◌, ◌<◌, [], ◌∷◌, ◌++◌, true, false, IfOk, OnErr, OnOk, length};
 ghost use Rattle.cluster_peer.specs.Genuine.{GenuineAreAccepted};
 ghost use Rattle.event_text.specs.declared.verdict.Refusal.TheVariants as refusal;
 ghost use Rattle.replay_set.specs.Window.{IsWindowSize};
@@ -31,7 +31,7 @@ impl Model for Peer {
 
     ghost Value = { PeerHeld };
 
-    ghost view = { λ p. record { gateway = p.gateway; window = p.window; slots = p.slots.slots } };
+    ghost view = { λ p. record { gateway = p.gateway; window = p.window; slots = p.slots.slots; spare = p.slots.spare } };
 
     ghost invariant = { λ p. IsWindowSize p.window };
 }
@@ -41,7 +41,9 @@ impl Peer {
     /// numbers.
     pub fn new(alloc: Global, gateway: GatewayId, window: u32) -> Peer
         requires { IsWindowSize window }
-        ensures { result ≡ record { gateway = gateway; window = window; slots = [] } }
+        ensures gateway { result.gateway ≡ gateway }
+        ensures window { result.window ≡ window }
+        ensures none { result.slots ≡ [] }
     {
         Peer {
             alloc,
@@ -55,7 +57,7 @@ impl Peer {
     pub fn configure(&mut self, gateway: GatewayId, window: u32)
         requires window { IsWindowSize window }
         requires none { self.old.slots ≡ [] }
-        ensures { self.new ≡ record { gateway = gateway; window = window; slots = [] } }
+        ensures { self.new ≡ record self.old { gateway = gateway; window = window } }
     {
         self.gateway = gateway;
         self.window = window;
@@ -68,21 +70,38 @@ impl Peer {
         self.slots.admit(sa)
     }
 
+    /// Makes room for one more association. An error is want of memory.
+    pub fn reserve(&mut self) -> Result<(), Memory>
+        ensures unchanged { self.new ≡ record self.old { spare = self.new.spare } }
+        ensures room { OnOk result (0 < self.new.spare) }
+    {
+        self.slots.reserve()
+    }
+
+    /// Takes an association that was set up before the run, is admitted, and has room. It takes no memory.
+    pub fn add(&mut self, sa: &Record)
+        requires admitted { admits (records self.old.slots) sa.now ≡ true }
+        requires room { 0 < self.old.spare }
+        ensures { self.new ≡ record self.old { slots = self.old.slots ++ entered_slot self.old.window sa.now ∷ []; spare = self.new.spare } }
+    {
+        self.slots.push(sa.copied(), self.window);
+    }
+
     /// Takes an association that was set up before the run. It is refused `SpiInUse` exactly where it is not admitted. An
     /// error is want of memory, and the peer is then as it was.
     pub fn enter(&mut self, sa: &Record) -> Result<Step, Memory>
         ensures entered { admits (records self.old.slots) sa.now ≡ true → IfOk result (Says Verdict.Entered) }
         ensures slot { admits (records self.old.slots) sa.now ≡ true
-            → OnOk result (self.new ≡ record self.old { slots = self.old.slots ++ entered_slot self.old.window sa.now ∷ [] }) }
+            → OnOk result (self.new ≡ record self.old { slots = self.old.slots ++ entered_slot self.old.window sa.now ∷ []; spare = self.new.spare }) }
         ensures refused { admits (records self.old.slots) sa.now ≡ false → IfOk result (Says (Verdict.Refused refusal.SpiInUse)) }
         ensures unchanged { admits (records self.old.slots) sa.now ≡ false → self.new ≡ self.old }
-        ensures err { OnErr result (self.new ≡ self.old) }
+        ensures err { OnErr result (self.new ≡ record self.old { spare = self.new.spare }) }
     {
-        if !self.slots.admit(sa) {
+        if !self.admits(sa) {
             return Ok(Step::quiet(Verdict::Refused(Refusal::SpiInUse)));
         }
-        self.slots.reserve()?;
-        self.slots.push(sa.copied(), self.window);
+        self.reserve()?;
+        self.add(sa);
         Ok(Step::quiet(Verdict::Entered))
     }
 

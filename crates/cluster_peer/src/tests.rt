@@ -122,6 +122,7 @@ fn the_peer_sends_and_receives(rt: HostRuntime) -> Result<(), Fail> {
     let mut peer = Peer::new(rt.alloc(), gateway(), 64);
     let step = peer.send_data(SPIR, &[1, 2, 3, 4, 5])?;
     assert!(rt; matches!(&step.verdict, Verdict::Refused(Refusal::Unknown)));
+    assert!(rt; peer.reserve().is_ok());
     peer.enter(&record(SPIR, 0x0001_0001, 0x0001_0002))?;
     let step = peer.send_data(SPIR, &[1, 2, 3, 4, 5])?;
     assert_eq!(rt; sent(&step), Some(1));

@@ -1,8 +1,8 @@
-ghost use Rattle.std.specs.Prelude.{◌≡◌, ℕ, [], IfOk, OnOk, OnErr, Some, false, length, map, slice_get, vec_len};
+ghost use Rattle.std.specs.Prelude.{◌≡◌, ◌⊎◌, ℕ, [], IfOk, OnOk, OnErr, Some, false, length, map, slice_get, vec_len};
 ghost use Rattle.std.specs.Option.{option_copied};
 ghost use Rattle.event_text.specs.Events.{plain};
 ghost use Rattle.event_text.specs.Grammar.{Fits};
-ghost use Rattle.run_ends.specs.Runs.{CausedSince, Grows, StandsTold};
+ghost use Rattle.run_ends.specs.Runs.{CausedSince, Grows, LackMemory, StandsTold};
 ghost use Rattle.turn_rules.specs.Datagrams.{datagrams_of};
 ghost use Rattle.turn_rules.specs.Local.{Local};
 ghost use Rattle.turn_rules.specs.Safe.{Safe};
@@ -48,7 +48,8 @@ impl World {
     }
 
     /// Plays an event at a moment, one that a line spells: the ends act, and one turn is appended to the trace. A member that
-    /// ends drops its service. An error is want of memory; the run is then as it was.
+    /// ends drops its service. An error is want of memory; the run and the keeper's book are then as they were, and the keeper
+    /// was asked only where it lacked the memory itself.
     pub fn turn<K: Keeper>(
         &mut self,
         keeper: &mut Gate<K>,
@@ -72,6 +73,8 @@ impl World {
         ensures empty { OnOk result (keeper.new.calls ≡ []) }
         ensures told { OnOk result (keeper.new.missed ≡ false) }
         ensures err { OnErr result (self.new ≡ self.old) }
+        ensures keeps_book { OnErr result (K.book keeper.new.keeper ≡ K.book keeper.old.keeper) }
+        ensures in_vain { OnErr result ((keeper.new ≡ keeper.old) ⊎ LackMemory keeper.new.calls) }
         ensures peer_service { self.new.peer_service ≡ self.old.peer_service }
         ensures services { OnOk result (self.new.services.items ≡ services_after (ended_last self.new.ends.past) self.old.services.items) }
         ensures held { K.held keeper.new.keeper ≡ K.held keeper.old.keeper }

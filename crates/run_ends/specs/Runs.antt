@@ -1,10 +1,13 @@
 -- What a run is seen as: how many services were handed in for members, and its turns, the newest first.
-use Rattle.std.specs.Prelude.{ℕ, ◌≡◌, Option, Some, None, List, ◌∷◌}
+use Rattle.std.specs.Prelude.{ℕ, ◌≡◌, Option, Some, None, List, [], ◌∷◌}
 use Rattle.event_text.specs.declared.event.Event.{Event}
 use Rattle.event_text.specs.declared.turn.Turn.{Turn}
 use Rattle.ha_base.specs.declared.outside.Moment.{Moment}
 use Rattle.keeper_book.specs.Book.{Book}
-use Rattle.keeper_book.specs.Told.{HaveCause}
+use Rattle.keeper_book.specs.Told.{HaveCause, seen}
+use Rattle.keeper_book.specs.declared.calls.Call.{Call}
+use Rattle.keeper_book.specs.declared.calls.KeeperAnswer.TheVariants as answer
+use Rattle.keeper_book.specs.declared.faults.KeeperFault.TheVariants as fault
 use Rattle.turn_rules.specs.Local.{Stands, calls_of}
 
 pub record Run : Type 0 where
@@ -27,3 +30,8 @@ StandsTold past (Some book) = Stands past book
 -- since the count of faults was this one, calls of the turns failed only where it rose
 abbrev pub CausedSince : ℕ → ℕ → List Turn → Type 0
 CausedSince start now past = HaveCause start now (calls_of past)
+
+-- one call was made, and the keeper lacked the memory for it
+abbrev pub LackMemory : List Call → Type 0
+LackMemory (call ∷ []) = seen call ≡ answer.Refused fault.Memory
+LackMemory calls = ⊥

@@ -4,6 +4,7 @@ ghost use Rattle.std.specs.Prelude.{◌≡◌, ◌<◌, ◌≤◌, [], List, Mat
 ghost use Rattle.std.specs.List.{AllByRecursion};
 ghost use Rattle.event_text.specs.Events.{plain};
 ghost use Rattle.event_text.specs.Grammar.{Fits};
+ghost use Rattle.cluster_member.specs.Members.{AsksInVain};
 ghost use Rattle.keeper_book.specs.Asks.{Asks};
 ghost use Rattle.keeper_book.specs.declared.calls.Call.{Call};
 ghost use Rattle.replay_set.specs.Window.{IsWindowSize};
@@ -91,8 +92,8 @@ impl Cast {
         }
     }
 
-    /// What the ends do at an event, where these turns were before. An error is want of memory, and the ends are then as they
-    /// were.
+    /// What the ends do at an event, where these turns were before. An error is want of memory; the ends are then as they
+    /// were, and the keeper was asked only where it lacked the memory itself.
     pub fn play<K: Keeper>(
         &mut self,
         keeper: &mut K,
@@ -105,6 +106,7 @@ impl Cast {
         ensures plays { IfOk result (λ step. (calls : List Call) × Plays trace.now.past self.old event.now calls step self.new
             × Asks K.Keeper keeper.old calls keeper.new) }
         ensures err { OnErr result (self.new ≡ self.old) }
+        ensures in_vain { OnErr result (AsksInVain K.Keeper keeper.old keeper.new) }
         ensures held { K.held keeper.new ≡ K.held keeper.old }
     {
         match event {
@@ -151,6 +153,7 @@ impl Cast {
         ensures imports { IfOk result (λ step. (calls : List Call) × Imports self.old sa.now calls step self.new
             × Asks K.Keeper keeper.old calls keeper.new) }
         ensures err { OnErr result (self.new ≡ self.old) }
+        ensures in_vain { OnErr result (AsksInVain K.Keeper keeper.old keeper.new) }
         ensures held { K.held keeper.new ≡ K.held keeper.old }
     {
         if !is_importable(sa) {
@@ -159,10 +162,11 @@ impl Cast {
         if !self.peer.admits(sa) {
             return Ok(refused(Refusal::SpiInUse));
         }
+        self.peer.reserve()?;
         match keeper.enter(sa) {
             Ok(()) => {
-                let step = self.peer.enter(sa)?;
-                Ok(step)
+                self.peer.add(sa);
+                Ok(Step::quiet(Verdict::Entered))
             }
             Err(fault) => match of_fault(fault) {
                 Some(refusal) => Ok(refused(refusal)),

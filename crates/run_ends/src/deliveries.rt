@@ -28,6 +28,7 @@ impl Cast {
         ensures delivers { IfOk result (λ step. (calls : List Call) × Delivers trace.now.past self.old to event.now calls step self.new
             × Asks K.Keeper keeper.old calls keeper.new) }
         ensures err { OnErr result (self.new ≡ self.old) }
+        ensures unasked { OnErr result (keeper.new ≡ keeper.old) }
         ensures held { K.held keeper.new ≡ K.held keeper.old }
     {
         if is_full(trace) {
@@ -63,6 +64,7 @@ impl Cast {
             × TakenBy self.old (Party.Member member) (arrives (datagrams_of trace.now.past) event.now) calls step self.new
             × Asks K.Keeper keeper.old calls keeper.new) }
         ensures err { OnErr result (self.new ≡ self.old) }
+        ensures unasked { OnErr result (keeper.new ≡ keeper.old) }
         ensures held { K.held keeper.new ≡ K.held keeper.old }
     {
         let Some(place) = self.place_of(member) else {

@@ -1,10 +1,10 @@
-ghost use Rattle.std.specs.Prelude.{◌≡◌, ℕ, [], OnOk, OnErr, false, length, slice_get};
+ghost use Rattle.std.specs.Prelude.{◌≡◌, ◌⊎◌, ℕ, [], OnOk, OnErr, false, length, slice_get};
 ghost use Rattle.std.specs.Option.{option_copied};
 ghost use Rattle.turn_rules.specs.Local.{Local};
 ghost use Rattle.event_text.specs.Events.{plain};
 ghost use Rattle.event_text.specs.Grammar.{Fits};
 ghost use Rattle.turn_rules.specs.Datagrams.{datagrams_of};
-ghost use Rattle.run_ends.specs.Runs.{CausedSince, Grows, StandsTold};
+ghost use Rattle.run_ends.specs.Runs.{CausedSince, Grows, LackMemory, StandsTold};
 
 use crate::cast::Cast;
 use event_text::{Event, Turn};
@@ -44,7 +44,7 @@ impl Ends {
     }
 
     /// Plays an event at a moment: the ends act, and one turn is appended. An error is want of memory; there is no new turn
-    /// then.
+    /// then, the keeper's book is as it was, and the keeper was asked only where it lacked the memory itself.
     pub fn turn<K: Keeper>(
         &mut self,
         keeper: &mut Gate<K>,
@@ -63,6 +63,8 @@ impl Ends {
         ensures empty { OnOk result (keeper.new.calls ≡ []) }
         ensures told { OnOk result (keeper.new.missed ≡ false) }
         ensures err { OnErr result (self.new ≡ self.old) }
+        ensures keeps_book { OnErr result (K.book keeper.new.keeper ≡ K.book keeper.old.keeper) }
+        ensures in_vain { OnErr result ((keeper.new ≡ keeper.old) ⊎ LackMemory keeper.new.calls) }
         ensures held { K.held keeper.new.keeper ≡ K.held keeper.old.keeper }
     {
         self.trace.reserve()?;

@@ -10,3 +10,6 @@ mod sends;
 mod settings;
 
 pub use ends::Ends;
+
+#[cfg(test)]
+mod tests;

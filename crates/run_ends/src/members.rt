@@ -1,6 +1,7 @@
 //! What members do that send and receive nothing.
 
 ghost use Rattle.std.specs.Prelude.{◌≡◌, false, [], List, MatchOption, IfOk, OnErr};
+ghost use Rattle.cluster_member.specs.Members.{AsksInVain};
 ghost use Rattle.keeper_book.specs.Asks.{Asks};
 ghost use Rattle.keeper_book.specs.declared.calls.Call.{Call};
 ghost use Rattle.run_ends.specs.Casts.{ActsUp, Crashes, DrawsAs, IsPlaceOf, Joins, TakesOverAs, WhereUpAs, has_member};
@@ -51,6 +52,7 @@ impl Cast {
         ensures owns { IfOk result (λ step. (calls : List Call) × ActsUp self.old member (TakesOverAs spir calls step) calls step self.new
             × Asks K.Keeper keeper.old calls keeper.new) }
         ensures err { OnErr result (self.new ≡ self.old) }
+        ensures in_vain { OnErr result (AsksInVain K.Keeper keeper.old keeper.new) }
         ensures held { K.held keeper.new ≡ K.held keeper.old }
     {
         let Some(place) = self.place_of(member) else {

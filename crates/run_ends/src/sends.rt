@@ -37,6 +37,7 @@ impl Cast {
             × WhereRoomAs trace.now.past self.old calls step self.new (SendsBy self.old from spir payload.now calls step self.new)
             × Asks K.Keeper keeper.old calls keeper.new) }
         ensures err { OnErr result (self.new ≡ self.old) }
+        ensures unasked { OnErr result (keeper.new ≡ keeper.old) }
         ensures held { K.held keeper.new ≡ K.held keeper.old }
     {
         if is_full(trace) {
@@ -69,6 +70,7 @@ impl Cast {
             × ActsUp self.old member (SendsAs spir payload.now calls step) calls step self.new
             × Asks K.Keeper keeper.old calls keeper.new) }
         ensures err { OnErr result (self.new ≡ self.old) }
+        ensures unasked { OnErr result (keeper.new ≡ keeper.old) }
         ensures held { K.held keeper.new ≡ K.held keeper.old }
     {
         let Some(place) = self.place_of(member) else {
