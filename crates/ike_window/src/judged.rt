@@ -1,0 +1,12 @@
+/// What a window says of a request by its Message ID (RFC 7296, section 2.3).
+#[derive(Clone, Copy, Debug, PartialEq, Eq)]
+pub enum Judged {
+    /// Not answered yet, and within the window: it may be executed.
+    New,
+    /// Answered before, and the response is still kept: it is sent again.
+    Repeat,
+    /// Above the window, or the last identifier, which no request has.
+    Ahead,
+    /// Below all that is kept.
+    Old,
+}
