@@ -20,7 +20,8 @@ use Rattle.event_text.specs.declared.event.Which.TheVariants as whiches
 use Rattle.event_text.specs.declared.turn.Medium.{Medium}
 use Rattle.event_text.specs.declared.turn.Medium.TheVariants as mediums
 use Rattle.event_text.specs.EventFields.{is_ticket_key_size, is_window_size, medium_of, member_in, member_of, numbered_in, party_of, ticket_key_in, ticket_key_of, which_of, window_in, window_of}
-use Rattle.event_text.specs.Grammar.{IsParty, IsTicketKey, IsWhich, IsWindowSize, medium_word, party_text, which_text}
+use Rattle.replay_set.specs.Window.{IsWindowSize}
+use Rattle.event_text.specs.Grammar.{IsParty, IsTicketKey, IsWhich, medium_word, party_text, which_text}
 
 -- ---- numbers
 

@@ -11,16 +11,18 @@ use Rattle.line_fields.specs.declared.fault.LineFault.{LineFault}
 use Rattle.line_fields.specs.declared.fault.LineReason.TheVariants as reasons
 use Rattle.event_text.specs.declared.place.Place.{Place}
 use Rattle.line_fields.specs.Words.{onto}
-use Rattle.event_text.specs.Lines.{IsFile, IsLine, fed, is_passed, is_said, lines_of, no_feed, unfed}
+use Rattle.input_lines.specs.Lines.{IsFile, IsLine, fed, is_passed, is_said, lines_of, no_feed, unfed}
 use Rattle.event_text.specs.Events.{PlainEvent}
 use Rattle.line_fields.specs.Fields.{fault_at}
 use Rattle.event_text.specs.Reading.{line_at}
 use Rattle.event_text.specs.Grammar.{EventLine}
-use Rattle.event_text.specs.Input.{behind_line, contents_at, contents_in, contents_of, event_in, on_line, on_version, overlong, second_line, some_event, unless, version_in}
+use Rattle.event_text.specs.Input.{behind_line, contents_at, contents_in, contents_of, event_in, on_line, on_version, second_line, some_event, version_in}
+use Rattle.input_lines.specs.Limits.{overlong, unless}
 use Rattle.event_text.specs.EventFile.{EventText, SayEvents}
 use Rattle.event_text.proofs.EventLaws.{line_again, line_takes}
 use Rattle.line_fields.proofs.FieldLaws.{pick}
-use Rattle.event_text.proofs.FrontLaws.{overlong_none, read_within, unless_ok, version_within}
+use Rattle.event_text.proofs.FrontLaws.{read_within, version_within}
+use Rattle.input_lines.proofs.LimitLaws.{overlong_none, unless_ok}
 
 -- lines one after another
 joined : List (List ℕ) → List ℕ

@@ -12,6 +12,7 @@ use Rattle.line_fields.specs.Words.{line_of}
 use Rattle.line_fields.specs.Fields.{size_text}
 use Rattle.line_fields.specs.Octets.{IsOctets, esp_spi_text, octets_text, spi_text}
 use Rattle.line_fields.specs.Identities.{IsIdentity, IsOfForm, fqdn, identity_text}
+use Rattle.replay_set.specs.Window.{IsWindowSize}
 use Rattle.event_text.specs.Events.{Association, PlainEvent, Cluster, Import, Join, Own, Draw, Crash, Send, Deliver, Alter, Cut, Inject}
 use Rattle.event_text.specs.declared.event.Party.{Party}
 use Rattle.event_text.specs.declared.event.Party.TheVariants as parties
@@ -89,9 +90,6 @@ pub record IsAssociation (a : Association) : Type 0 where
   pub spi_out : a.spi_out < 2 ^ 32
   pub child : AreChildKeys a.size a.child
   pub starts : AreStarts a.starts
-
-abbrev pub IsWindowSize : ℕ → Type 0
-IsWindowSize window = (window ≡ 64) ⊎ (window ≡ 128) ⊎ (window ≡ 256) ⊎ (window ≡ 512) ⊎ (window ≡ 1024)
 
 -- no ticket key, or one of AES with 128 or 256 bits and four octets of salt
 abbrev pub IsTicketKey : List ℕ → Type 0

@@ -1,12 +1,13 @@
 -- The events that an input spells, up to its first fault.
-use Rattle.std.specs.Prelude.{ℕ, ◌+◌, ◌-◌, ◌==◌, ◌&&◌, nat_lt, nat_le, List, [], ◌∷◌, length, codes, Option, Some, None, Result, Ok, Err, if◌then◌else◌}
+use Rattle.std.specs.Prelude.{ℕ, ◌+◌, ◌==◌, List, [], ◌∷◌, length, codes, Option, Some, None, Result, Ok, Err, if◌then◌else◌}
 use Rattle.std.specs.Str.{bytes_eq}
 use Rattle.ha_base.specs.declared.outside.Moment.{Moment}
 use Rattle.line_fields.specs.declared.fault.LineFault.{LineFault}
 use Rattle.line_fields.specs.declared.fault.LineReason.TheVariants as reasons
 use Rattle.event_text.specs.declared.place.InputFault.{InputFault}
 use Rattle.event_text.specs.declared.place.Place.{Place}
-use Rattle.event_text.specs.Lines.{is_passed, lines_of, unfed}
+use Rattle.input_lines.specs.Lines.{is_passed, lines_of, unfed}
+use Rattle.input_lines.specs.Limits.{Left, overlong, unless}
 use Rattle.event_text.specs.declared.event.Event.{Event}
 use Rattle.event_text.specs.Events.{PlainEvent, plain}
 use Rattle.line_fields.specs.Fields.{fault_at}
@@ -22,18 +23,6 @@ faulty line f = record { events = []; fault = Some (record { line = line; column
 
 abbrev pub with_event : Moment × PlainEvent → Contents → Contents
 with_event x rest = record { events = x ∷ rest.events; fault = rest.fault }
-
--- The fault of a line that is too long, or that passes the end that a file may have: of its octets, with the line feed, and
--- of those of the file before it. The earlier of the two counts.
-abbrev pub overlong : ℕ → ℕ → ℕ → Option LineFault
-overlong before octets size =
-    if nat_lt 16384 size && nat_le (before + 16385) 67108865 then Some (fault_at 16385 reasons.LineTooLong)
-    else if nat_lt 67108864 (before + octets) then Some (fault_at (67108865 - before) reasons.FileTooLong)
-    else None
-
-abbrev pub unless : {A : Type 0} → Option LineFault → Result A LineFault → Result A LineFault
-unless (Some f) read = Err f
-unless None read = read
 
 -- what a line gave, by its fields alone
 abbrev pub said : Option (Moment × Event) → Option (Moment × PlainEvent)
@@ -96,10 +85,6 @@ contents_in (line ∷ lines) = on_version (version_in (length line) (unfed line)
 abbrev pub contents_of : List ℕ → Contents
 contents_of input = contents_in (lines_of input)
 
--- what is left of an input
-pub record Left : Type 0 where
-  pub lines : List (List ℕ)
-  pub place : Place
-
-abbrev pub left_contents : Left → Contents
+-- what is left of an input says
+abbrev pub left_contents : Left Place → Contents
 left_contents left = contents_at left.lines left.place

@@ -3,20 +3,17 @@
 ghost use Rattle.std.specs.Prelude.{◌≡◌, ◌≢◌, ◌≤◌, ◌<◌, ◌+◌, ◌^◌, [], ◌∷◌, length, take, IfErr, IfNone, IfOk, IfSome, OnErr, OnOk, OnSome, MatchResult, None, Some, Ok, Err};
 ghost use Rattle.event_text.specs.Events.{plain};
 ghost use Rattle.event_text.specs.Grammar.{Fits};
-ghost use Rattle.event_text.specs.Lines.{is_passed, lines_of, unfed};
-ghost use Rattle.event_text.specs.Input.{contents_of, event_in, faulty, left_contents, overlong, said, version_in, with_event};
+ghost use Rattle.event_text.specs.Input.{contents_of, event_in, faulty, left_contents, said, version_in, with_event};
 ghost use Rattle.line_fields.specs.Fields.{fault_at};
 
 use crate::event::Event;
 use crate::place::{InputFault, Place};
-use crate::reading::{LINE_OCTETS, read_line};
+use crate::reading::read_line;
 use ha_base::Moment;
-use line_fields::{LineFault, LineReason, octets_before};
+use input_lines::{front_of, is_passed, overlong};
+use line_fields::{LineFault, LineReason};
 use std::alloc::Global;
 use std::marker::Model;
-
-/// How many octets an input may have.
-const INPUT_OCTETS: usize = 67_108_864;
 
 /// How many events an input may have.
 const EVENTS: u32 = 100_000;
@@ -29,58 +26,6 @@ enum Line {
     /// The line is passed over.
     Passed,
     Said(Moment, Event),
-}
-
-/// A line without its line feed, how many octets it has with it, and what stands behind.
-#[derive(Clone, Copy)]
-struct Front<'a> {
-    line: &'a [u8],
-    octets: usize,
-    rest: &'a [u8],
-}
-
-fn front_of(octets: &[u8]) -> Front<'_>
-    requires { 0 < length octets.now }
-    ensures lines { lines_of octets.now ≡ take result.octets octets.now ∷ lines_of result.rest.now }
-    ensures line { unfed (take result.octets octets.now) ≡ result.line.now }
-    ensures some { 0 < result.octets }
-    ensures within { result.octets ≤ length octets.now }
-{
-    let len = octets_before(octets, b'\n');
-    if len < octets.len() {
-        Front {
-            line: &octets[..len],
-            octets: len + 1,
-            rest: &octets[len + 1..],
-        }
-    } else {
-        Front {
-            line: octets,
-            octets: len,
-            rest: &octets[len..],
-        }
-    }
-}
-
-/// The fault of a line that is too long, or that passes the end that a file may have.
-fn overlong(before: usize, octets: usize, size: usize) -> Option<LineFault>
-    requires file { before ≤ 67108864 }
-    requires line { octets < 2 ^ 63 }
-    ensures { result ≡ overlong before octets size }
-{
-    if size > LINE_OCTETS && before + LINE_OCTETS <= INPUT_OCTETS {
-        return Some(LineFault {
-            column: 16_385,
-            reason: LineReason::LineTooLong,
-        });
-    }
-    if before + octets > INPUT_OCTETS {
-        return Some(LineFault {
-            column: (INPUT_OCTETS + 1 - before) as u32,
-            reason: LineReason::FileTooLong,
-        });
-    }
-    None
 }
 
 #[tactic(auto, unfolding(crate::specs::Input::version_in))]
@@ -99,16 +44,6 @@ fn version(octets: usize, line: &[u8]) -> Result<(), LineFault>
         });
     }
     Ok(())
-}
-
-/// Whether a line is empty or a comment.
-fn is_passed(line: &[u8]) -> bool
-    ensures { result ≡ is_passed line.now }
-{
-    match line {
-        [] => true,
-        [first, ..] => *first == b'#',
-    }
 }
 
 /// The event of a line at a place, if the line is not passed over.
@@ -164,10 +99,11 @@ pub struct EventReader<'a> {
 
 impl<'a> Model for EventReader<'a> {
     ghost use Rattle.std.specs.Prelude.{◌+◌, ◌≤◌};
-    ghost use Rattle.event_text.specs.Lines.{lines_of};
-    ghost use Rattle.event_text.specs.Input.{Left};
+    ghost use Rattle.input_lines.specs.Lines.{lines_of};
+    ghost use Rattle.input_lines.specs.Limits.{Left};
+    ghost use Rattle.event_text.specs.declared.place.Place.{Place};
 
-    ghost Value = { Left };
+    ghost Value = { Left Place };
 
     ghost view = { λ reader. record { lines = lines_of reader.rest.now; place = reader.place } };
 
@@ -279,22 +215,7 @@ mod tests {
     use super::*;
 
     #[test]
-    fn limits(rt: HostRuntime) {
-        let long = LineFault {
-            column: 16_385,
-            reason: LineReason::LineTooLong,
-        };
-        assert_eq!(rt; overlong(5, 16_385, 16_384), None);
-        assert_eq!(rt; overlong(5, 16_386, 16_385), Some(long));
-        assert_eq!(rt; overlong(67_092_480, 16_385, 16_385), Some(long));
-        assert_eq!(rt; overlong(67_108_854, 10, 9), None);
-        assert_eq!(rt;
-            overlong(67_108_855, 10, 9),
-            Some(LineFault {
-                column: 10,
-                reason: LineReason::FileTooLong,
-            })
-        );
+    fn one_event_too_many(rt: HostRuntime) {
         let full = Place {
             line: 100_002,
             before: 5,

@@ -13,15 +13,13 @@ use crate::event::Event;
 use crate::event_fields::{medium, octets_in_memory, party, ticket_key, which, window};
 use crate::keys::sealing_key;
 use ha_base::{ChildKeys, KeySize, Moment, Origin, SaKeys};
+use input_lines::LINE_OCTETS;
 use keeper_book::{Five, Record};
 use line_fields::{
     Failure, LineFault, LineReason, Words, domain_name, esp_spi, identity, key_size, number, octet,
     octets, short_number, spi,
 };
 use std::alloc::Global;
-
-/// How many octets a line may have.
-pub(crate) const LINE_OCTETS: usize = 16_384;
 
 /// Where moments, members' numbers, ESP numbers and IVs end.
 pub(crate) const NUMBERS: u64 = 1 << 63;

@@ -20,15 +20,15 @@ fn all_lower(word: &[u8]) -> bool
 }
 
 /// Whether the word is whole octets in lower-case hexadecimal, at least one.
-fn is_hex(word: &[u8]) -> bool
+pub fn is_hex(word: &[u8]) -> bool
     ensures { result ≡ is_hex word.now }
 {
     all_lower(word) && !word.is_empty() && word.len() % 2 == 0
 }
 
-/// Writes the octets of a word of hexadecimal.
+/// Writes the octets that a word of lower-case hexadecimal spells over `out`, which has room for just these.
 #[tactic(auto, using(crate::proofs::OctetLaws::hex_sized))]
-fn fill_hex(word: &[u8], out: &mut [u8])
+pub fn fill_hex(word: &[u8], out: &mut [u8])
     requires hex { is_hex word.now ≡ true }
     requires long { length word.now / 2 ≡ length out.old }
     ensures { out.new ≡ decoded word.now }

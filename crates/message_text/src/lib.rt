@@ -3,6 +3,5 @@
 
 mod message;
 mod payload;
-mod words;
 
 pub use message::write_message;

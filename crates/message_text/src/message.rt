@@ -13,12 +13,12 @@ ghost use Rattle.ike_grammar.specs.Messages.{MessageRefused};
 ghost use Rattle.message_text.specs.Shown.{bad_text, bad_words, header_words, message_text, payload_text, reason_words, shown};
 
 use crate::payload::put_payload;
-use crate::words::{put_digits, put_number, put_spi, put_word};
 use ha_base::{Memory, Octets};
 use ike_encoding::flags_of;
 use ike_grammar::{Bad, Reason, Unread, decode_message};
 use ike_values::{Header, Message, Payload};
 use std::alloc::Global;
+use word_text::{put_digits, put_number, put_spi, put_word};
 
 #[tactic(auto, unfolding(crate::specs::Shown::header_words))]
 fn put_header_words(alloc: Global, out: &mut Octets, header: &Header) -> Result<(), Memory>

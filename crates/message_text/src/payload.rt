@@ -10,11 +10,11 @@ ghost use Rattle.ike_values.specs.Values.{sk};
 ghost use Rattle.ike_values.specs.Writing.{body_written, FitsBody};
 ghost use Rattle.message_text.specs.Shown.{body_words, notify_words, payload_text, sk_words};
 
-use crate::words::{put_number, put_octets};
 use ha_base::{Memory, Octets};
 use ike_encoding::{encode_body, type_of};
 use ike_values::{NotifyBody, Payload};
 use std::alloc::Global;
+use word_text::{put_number, put_octets};
 
 #[tactic(auto, unfolding(crate::specs::Shown::notify_words))]
 fn put_notify_words(alloc: Global, out: &mut Octets, notify: &NotifyBody) -> Result<(), Memory>

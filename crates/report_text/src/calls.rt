@@ -6,10 +6,10 @@ ghost use Rattle.report_text.specs.Report.{answer_words, ask_words, call_words, 
 ghost use Rattle.line_fields.specs.Writing.{with_words};
 
 use crate::event::put_five;
-use crate::words::{put_number, put_spi, put_word};
 use ha_base::{Kind, Memory, Octets};
 use keeper_book::{Call, Calls, KeeperAnswer, KeeperAsk, KeeperFault};
 use std::alloc::Global;
+use word_text::{put_number, put_spi, put_word};
 
 fn kind_word(kind: Kind) -> &'static [u8]
     ensures { result.now ≡ kind_word kind }

@@ -7,11 +7,11 @@ ghost use Rattle.line_fields.specs.Fields.{size_text};
 ghost use Rattle.event_text.specs.Grammar.{association_words, child_key_words, event_words, five_words, medium_word, party_text, sa_key_words, which_text};
 ghost use Rattle.line_fields.specs.Writing.{with_words};
 
-use crate::words::{put_bare_octets, put_esp_spi, put_number, put_octets, put_spi, put_word};
 use event_text::{Event, Medium, Party, Which};
 use ha_base::{ChildKeys, Identity, KeySize, Memory, Octets, SaKeys};
 use keeper_book::{Five, Record};
 use std::alloc::Global;
+use word_text::{put_bare_octets, put_esp_spi, put_number, put_octets, put_spi, put_word};
 
 fn prefix_of(kind: u8) -> &'static [u8]
     ensures { result.now ≡ prefix_of kind }

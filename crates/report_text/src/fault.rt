@@ -3,10 +3,10 @@
 ghost use Rattle.std.specs.Prelude.{◌≡◌, ◌++◌, OnOk};
 ghost use Rattle.report_text.specs.Faults.{fault_line};
 
-use crate::words::put_bare_number;
 use event_text::InputFault;
 use ha_base::{Memory, Octets};
 use std::alloc::Global;
+use word_text::put_bare_number;
 
 /// Appends the line that says where an input is faulty, and why. After an error some of it may be appended.
 pub fn write_fault(alloc: Global, fault: InputFault, out: &mut Octets) -> Result<(), Memory>

@@ -7,7 +7,6 @@ mod fault;
 mod laws;
 mod outcome;
 mod turn;
-mod words;
 
 pub use fault::write_fault;
 pub use laws::turns_repeat_their_lines;

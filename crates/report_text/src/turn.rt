@@ -8,10 +8,10 @@ ghost use Rattle.line_fields.specs.Writing.{with_words};
 use crate::calls::put_calls;
 use crate::event::put_event;
 use crate::outcome::{put_gives, put_out, put_seals, put_served};
-use crate::words::put_number;
 use event_text::Turn;
 use ha_base::{Memory, Octets};
 use std::alloc::Global;
+use word_text::put_number;
 
 #[tactic(auto, unfolding(crate::specs::Report::title_words))]
 fn put_title(alloc: Global, out: &mut Octets, number: u64, turn: &Turn) -> Result<(), Memory>

@@ -1,8 +1,7 @@
--- Lines of an input that is not at its end, and their lengths.
+-- Lines of an input that is not at its end.
 use Rattle.std.proofs.Common.{◌≡◌, ℕ, ◌+◌, ◌-◌, ◌<◌, ◌≤◌, Bool, true, false, ◌&&◌, cond, eqb, ltb, leb, List, [], ◌∷◌, length, Some, None, refl, arith, inl, inr}
 use Rattle.std.proofs.lemmas.Bool.{cases_lt, le-leb, lt-ltb}
-use Rattle.event_text.specs.Input.{overlong}
-use Rattle.event_text.specs.Lines.{lines_of}
+use Rattle.input_lines.specs.Lines.{lines_of}
 use Rattle.line_fields.specs.Fields.{fault_at}
 use Rattle.line_fields.specs.Words.{onto}
 use Rattle.line_fields.specs.declared.fault.LineFault.{LineFault}
@@ -35,22 +34,3 @@ pub messages_end : (rest : List ℕ) (p : Place) → length rest ≡ 0 → messa
 unfolding lines_of messages_at
 messages_end [] p e = refl
 messages_end (c ∷ cs) p e = absurd (omega arith)
-
--- a line that is measured and passes is short
-pub short_line : (before octets size : ℕ) → size ≤ octets → overlong before octets size ≡ None → size ≤ 16384
-short_line before octets size fed e =
-    elim (cases_lt 16384 size) [
-      | inl long ↦
-          elim (cases_lt 67108864 (before + octets)) [
-            | inl past ↦ absurd (passes (ltb 16384 size && leb (before + 16385) 67108865) (rw (lt-ltb 67108864 (before + octets) past) at e))
-            | inr within ↦ absurd (is_long (rw (lt-ltb 16384 size long, le-leb (before + 16385) 67108865 (omega arith)) at e))
-          ]
-      | inr short ↦ short
-    ]
-  where
-    passes : (b : Bool) → cond b (Some (fault_at 16385 reasons.LineTooLong)) (Some (fault_at (67108865 - before) reasons.FileTooLong)) ≡ None → ⊥
-    passes true h = absurd cc
-    passes false h = absurd cc
-
-    is_long : {f : LineFault} → Some f ≡ None → ⊥
-    is_long h = absurd cc

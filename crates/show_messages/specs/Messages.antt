@@ -1,7 +1,7 @@
 -- The messages that an input holds, up to its first fault: one a line, in hexadecimal.
 use Rattle.std.specs.Prelude.{ℕ, ◌+◌, ◌==◌, List, [], ◌∷◌, length, Option, Some, None, Result, Ok, Err, if◌then◌else◌}
-use Rattle.event_text.specs.Input.{overlong, unless}
-use Rattle.event_text.specs.Lines.{is_passed, lines_of, unfed}
+use Rattle.input_lines.specs.Limits.{Left, overlong, unless}
+use Rattle.input_lines.specs.Lines.{is_passed, lines_of, unfed}
 use Rattle.line_fields.specs.Octets.{decoded, is_hex}
 use Rattle.line_fields.specs.Fields.{fault_at}
 use Rattle.line_fields.specs.declared.fault.LineFault.{LineFault}
@@ -50,10 +50,6 @@ messages_at (line ∷ lines) p = on_line p (line_in p (length line) (unfed line)
 abbrev pub messages_of : List ℕ → Messages
 messages_of input = messages_at (lines_of input) (record { line = 1; before = 0; count = 0 })
 
--- what is left of an input
-pub record Left : Type 0 where
-  pub lines : List (List ℕ)
-  pub place : Place
-
-abbrev pub left_messages : Left → Messages
+-- what is left of an input holds
+abbrev pub left_messages : Left Place → Messages
 left_messages left = messages_at left.lines left.place

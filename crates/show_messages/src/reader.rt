@@ -1,14 +1,12 @@
 //! An input, line by line.
 
 ghost use Rattle.std.specs.Prelude.{◌≡◌, ◌≢◌, ◌≤◌, ◌<◌, ◌+◌, ◌^◌, [], length, true, false, IfErr, IfOk, IfNone, IfSome, OnErr, OnOk, OnSome, None, Some, Ok, Err};
-ghost use Rattle.std.specs.List.{list_all};
-ghost use Rattle.line_fields.specs.Octets.{decoded, is_hex, is_lower};
-ghost use Rattle.event_text.specs.Lines.{is_passed};
+ghost use Rattle.line_fields.specs.Octets.{decoded, is_hex};
 ghost use Rattle.show_messages.specs.Messages.{left_messages, line_in, messages_of, with_message};
 
-use crate::lines::{front_of, overlong};
 use event_text::InputFault;
-use line_fields::{LineFault, LineReason};
+use input_lines::{front_of, is_passed, overlong};
+use line_fields::{LineFault, LineReason, is_hex};
 use std::marker::Model;
 
 /// How many messages an input may have.
@@ -25,37 +23,8 @@ pub struct Place {
     pub count: u32,
 }
 
-fn is_lower(octet: u8) -> bool
-    ensures { result ≡ is_lower octet }
-{
-    (octet >= b'0' && octet <= b'9') || (octet >= b'a' && octet <= b'f')
-}
-
-fn all_lower(line: &[u8]) -> bool
-    ensures { result ≡ list_all is_lower line.now }
-{
-    line.iter().all(|octet| is_lower(*octet))
-}
-
-/// Whether the line is whole octets in lower-case hexadecimal, at least one.
-fn is_hex(line: &[u8]) -> bool
-    ensures { result ≡ is_hex line.now }
-{
-    all_lower(line) && !line.is_empty() && line.len() % 2 == 0
-}
-
-/// Whether the line is passed over: an empty one, or a comment.
-fn is_passed(line: &[u8]) -> bool
-    ensures { result ≡ is_passed line.now }
-{
-    match line {
-        [] => true,
-        [first, ..] => *first == b'#',
-    }
-}
-
 /// The digits of a line at a place, where it is not passed over.
-#[tactic(auto, unfolding(crate::specs::Messages::line_in), using(crate::proofs::LineLaws::short_line))]
+#[tactic(auto, unfolding(crate::specs::Messages::line_in), using(input_lines::proofs::LimitLaws::short_line))]
 fn digits_in<'a>(place: Place, octets: usize, line: &'a [u8]) -> Result<Option<&'a [u8]>, LineFault>
     requires file { place.before ≤ 67108864 }
     requires line { octets < 2 ^ 63 }
@@ -98,10 +67,11 @@ pub(crate) struct MessageReader<'a> {
 
 impl<'a> Model for MessageReader<'a> {
     ghost use Rattle.std.specs.Prelude.{◌+◌, ◌≤◌};
-    ghost use Rattle.event_text.specs.Lines.{lines_of};
-    ghost use Rattle.show_messages.specs.Messages.{Left};
+    ghost use Rattle.input_lines.specs.Lines.{lines_of};
+    ghost use Rattle.input_lines.specs.Limits.{Left};
+    ghost use Rattle.show_messages.specs.declared.reader.Place.{Place};
 
-    ghost Value = { Left };
+    ghost Value = { Left Place };
 
     ghost view = { λ reader. record { lines = lines_of reader.rest.now; place = reader.place } };
 

@@ -1,6 +1,6 @@
 //! The text of an input's messages.
 
-ghost use Rattle.std.specs.Prelude.{◌≡◌, ◌≤◌, ◌+◌, ◌/◌, ◌++◌, true, length, IfOk, OnOk};
+ghost use Rattle.std.specs.Prelude.{◌≡◌, ◌≤◌, ◌+◌, ◌++◌, true, length, IfOk, OnOk};
 ghost use Rattle.std.specs.List.{flat_map};
 ghost use Rattle.line_fields.specs.Octets.{decoded, is_hex};
 ghost use Rattle.message_text.specs.Shown.{shown};
@@ -10,6 +10,7 @@ ghost use Rattle.show_messages.specs.Shows.{shown_all};
 use crate::reader::MessageReader;
 use event_text::InputFault;
 use ha_base::{Memory, Octets};
+use line_fields::fill_hex;
 use message_text::write_message;
 use report_text::write_end;
 use std::alloc::Global;
@@ -24,18 +25,6 @@ pub struct Shown {
     pub fault: Option<InputFault>,
 }
 
-// Writes the octets of a word of hexadecimal.
-#[tactic(auto, using(line_fields::proofs::OctetLaws::hex_sized))]
-fn fill(digits: &[u8], out: &mut [u8])
-    requires hex { is_hex digits.now ≡ true }
-    requires long { length digits.now / 2 ≡ length out.old }
-    ensures { out.new ≡ decoded digits.now }
-{
-    if hex::decode_to_slice(digits, out).is_err() {
-        unreachable!();
-    }
-}
-
 // Appends the text of the message of some digits.
 fn show_message(alloc: Global, digits: &[u8], text: &mut Octets) -> Result<(), Memory>
     requires hex { is_hex digits.now ≡ true }
@@ -44,7 +33,7 @@ fn show_message(alloc: Global, digits: &[u8], text: &mut Octets) -> Result<(), M
 {
     let mut octets = [0; MESSAGE_OCTETS];
     let message = &mut octets[..digits.len() / 2];
-    fill(digits, message);
+    fill_hex(digits, message);
     write_message(alloc, message, text)
 }
 

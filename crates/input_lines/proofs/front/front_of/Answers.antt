@@ -1,6 +1,6 @@
 use Rattle.std.proofs.Common.{arith}
-use Rattle.event_text.proofs.InputLaws.{front_fed, front_whole, unfed_front, unfed_split}
-use Rattle.event_text.proofs.input.front_of.Goals as goal
+use Rattle.input_lines.proofs.FrontLaws.{front_fed, front_whole, unfed_front, unfed_split}
+use Rattle.input_lines.proofs.front.front_of.Goals as goal
 
 pub returns-then-len-octets-clause-lines : goal.returns-then-len-octets-clause-lines
 returns-then-len-octets-clause-lines c =

@@ -1,0 +1,3 @@
+pub mod FrontLaws
+pub mod LimitLaws
+pub mod FirstLines
