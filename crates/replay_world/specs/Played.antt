@@ -1,5 +1,5 @@
 -- What the turns of a run say of the input that was played.
-use Rattle.std.specs.Prelude.{ℕ, ◌≡◌, ◌<◌, ◌⊎◌, List, [], ◌∷◌, ◌++◌, length, Option}
+use Rattle.std.specs.Prelude.{ℕ, ◌≡◌, ◌+◌, ◌<◌, ◌≤◌, ◌⊎◌, List, [], ◌∷◌, ◌++◌, length, Option}
 use Rattle.std.specs.Io.KnownBytes.{Appends, Consumes, IsAtEnd}
 use Rattle.event_text.specs.Events.{PlainEvent, plain}
 use Rattle.event_text.specs.Input.{Contents, contents_of}
@@ -52,6 +52,8 @@ pub record Completes (given : List Turn → Type 0) (boxes : ℕ) (left still_le
   pub text : List ℕ
   pub read : Consumes left still_left input
   pub whole : IsAtEnd still_left ⊎ (67108864 < length input)
+  -- one that is too long is not read on: pieces are of at most 65,536 octets
+  pub bounded : length input ≤ 67108864 + 65536
   pub played : IsPlayed given boxes input fault text book now_book faults now_faults
   pub wrote : Appends written now_written text
 
@@ -62,5 +64,7 @@ pub record BreaksOff (given : List Turn → Type 0) (boxes : ℕ) (left still_le
   pub fault : Option InputFault
   pub read : Consumes left still_left input
   pub whole : IsAtEnd still_left ⊎ (67108864 < length input)
+  -- one that is too long is not read on: pieces are of at most 65,536 octets
+  pub bounded : length input ≤ 67108864 + 65536
   pub played : IsPlayed given boxes input fault text book now_book faults now_faults
   pub wrote : AppendsFront written now_written text

@@ -1,5 +1,5 @@
 -- What the call for messages did.
-use Rattle.std.specs.Prelude.{ℕ, ◌≡◌, ◌<◌, ◌⊎◌, List, length, Option}
+use Rattle.std.specs.Prelude.{ℕ, ◌≡◌, ◌+◌, ◌<◌, ◌≤◌, ◌⊎◌, List, length, Option}
 use Rattle.std.specs.Io.KnownBytes.{Appends, Consumes, IsAtEnd}
 use Rattle.event_text.specs.declared.place.InputFault.{InputFault}
 use Rattle.ha_base.specs.Faults.{AppendsFront}
@@ -12,6 +12,8 @@ pub record ShowsAll (left still_left written now_written : Option (List ℕ)) (f
   pub input : List ℕ
   pub read : Consumes left still_left input
   pub whole : IsAtEnd still_left ⊎ (67108864 < length input)
+  -- one that is too long is not read on: pieces are of at most 65,536 octets
+  pub bounded : length input ≤ 67108864 + 65536
   pub first_fault : (messages_of input).fault ≡ fault
   pub wrote : Appends written now_written (shown_all (messages_of input).messages)
 
@@ -20,4 +22,6 @@ pub record ShowsFront (left still_left written now_written : Option (List ℕ)) 
   pub input : List ℕ
   pub read : Consumes left still_left input
   pub whole : IsAtEnd still_left ⊎ (67108864 < length input)
+  -- one that is too long is not read on: pieces are of at most 65,536 octets
+  pub bounded : length input ≤ 67108864 + 65536
   pub wrote : AppendsFront written now_written (shown_all (messages_of input).messages)

@@ -1,4 +1,4 @@
-ghost use Rattle.std.specs.Prelude.{◌≡◌, ◌<◌, ◌≤◌, ◌^◌, ◌⊎◌, length, Ok, Err, IfOk, OnOk};
+ghost use Rattle.std.specs.Prelude.{◌≡◌, ◌+◌, ◌<◌, ◌≤◌, ◌^◌, ◌⊎◌, length, Ok, Err, IfOk, OnOk};
 ghost use Rattle.std.specs.Io.KnownBytes.{Consumes, IsAtEnd, Keeps};
 ghost use Rattle.ha_base.specs.Faults.{HasFailed};
 
@@ -32,6 +32,7 @@ impl From<Memory> for Unread {
 pub(crate) fn read_input<S: Source>(alloc: Global, source: &mut S) -> Result<Octets, Unread>
     ensures read { IfOk result (λ input. Consumes (S.left source.old) (S.left source.new) input.octets) }
     ensures whole { IfOk result (λ input. IsAtEnd (S.left source.new) ⊎ (67108864 < length input.octets)) }
+    ensures bounded { IfOk result (λ input. length input.octets ≤ 67108864 + 65536) }
     ensures later { S.faults source.old ≤ S.faults source.new }
     ensures none { OnOk result (S.faults source.new ≡ S.faults source.old) }
     ensures fault { result ≡ Err Unread.Fault → HasFailed (S.faults source.old) (S.faults source.new) }

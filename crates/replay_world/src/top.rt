@@ -1,6 +1,6 @@
 //! The top call, which is the whole program but for what standard input and output are.
 
-ghost use Rattle.std.specs.Prelude.{◌≡◌, ◌≢◌, ◌<◌, ◌⊎◌, IfErr, IfOk, OnOk, Some, None, length, string_bytes, vec_len};
+ghost use Rattle.std.specs.Prelude.{◌≡◌, ◌≢◌, ◌+◌, ◌<◌, ◌≤◌, ◌⊎◌, IfErr, IfOk, OnOk, Some, None, length, string_bytes, vec_len};
 ghost use Rattle.std.specs.List.{AllByRecursion};
 ghost use Rattle.std.specs.Io.KnownBytes.{Appends, Consumes, IsAtEnd, Keeps};
 ghost use Rattle.ha_base.specs.Faults.{AppendsFront, HasFailed};
@@ -100,6 +100,7 @@ fn input_of<S: Source, D: Sink>(
 ) -> Result<Octets, Status>
     ensures read { IfOk result (λ input. Consumes (S.left source.old) (S.left source.new) input.octets) }
     ensures whole { IfOk result (λ input. IsAtEnd (S.left source.new) ⊎ (67108864 < length input.octets)) }
+    ensures bounded { IfOk result (λ input. length input.octets ≤ 67108864 + 65536) }
     ensures none { OnOk result (S.faults source.new ≡ S.faults source.old) }
     ensures quiet { OnOk result (diag.new ≡ diag.old) }
     ensures status { IfErr result (λ status. (status ≡ Status.Memory) ⊎ (status ≡ Status.ReadFault)) }
@@ -129,6 +130,7 @@ fn put_output<O: Sink, D: Sink>(
     ensures wrote { AtEnd result (Appends (O.written out.old) (O.written out.new) text.now.octets) }
     ensures front { AppendsFront (O.written out.old) (O.written out.new) text.now.octets }
     ensures done { result ≡ Status.Done → fault ≡ None }
+    ensures quiet { result ≡ Status.Done → diag.new ≡ diag.old }
     ensures faulty { result ≡ Status.FaultyLine → (f : InputFault) × (fault ≡ Some f)
         × Appends (D.written diag.old) (D.written diag.new) (fault_line f) }
 {
@@ -167,7 +169,9 @@ fn run_command<S: Source, O: Sink, D: Sink, K: Keeper>(
         (O.written out.old) (O.written out.new) (K.book keeper.old) (K.book keeper.new)
         (K.faults keeper.old) (K.faults keeper.new) (Some fault)
         × Appends (D.written diag.old) (D.written diag.new) (fault_line fault) }
+    ensures quiet { result ≡ Status.Done → diag.new ≡ diag.old }
     ensures nothing { result ≡ Status.ReadFault → Keeps (O.written out.old) (O.written out.new) }
+    ensures unplayed { result ≡ Status.ReadFault → keeper.new ≡ keeper.old }
     ensures no_memory { result ≡ Status.Memory → Keeps (O.written out.old) (O.written out.new)
         ⊎ BreaksOff (AreGiven gives (service_of peer_service services.items)) (vec_len services) (S.left source.old) (S.left source.new) (O.written out.old) (O.written out.new)
         (K.book keeper.old) (K.book keeper.new) (K.faults keeper.old) (K.faults keeper.new) }
@@ -202,6 +206,7 @@ fn show_command<S: Source, O: Sink, D: Sink>(
     ensures faulty { result ≡ Status.FaultyLine → (fault : InputFault)
         × ShowsAll (S.left source.old) (S.left source.new) (O.written out.old) (O.written out.new) (Some fault)
         × Appends (D.written diag.old) (D.written diag.new) (fault_line fault) }
+    ensures quiet { result ≡ Status.Done → diag.new ≡ diag.old }
     ensures nothing { result ≡ Status.ReadFault → Keeps (O.written out.old) (O.written out.new) }
     ensures no_memory { result ≡ Status.Memory → Keeps (O.written out.old) (O.written out.new)
         ⊎ ShowsFront (S.left source.old) (S.left source.new) (O.written out.old) (O.written out.new) }
@@ -241,7 +246,9 @@ pub fn replay<S: Source, O: Sink, D: Sink, K: Keeper>(
     ensures no_words { command_of words.now.items ≡ None → result ≡ Status.Words ⊎ result ≡ Status.WriteFault }
     ensures untouched { command_of words.now.items ≡ None → Keeps (O.written out.old) (O.written out.new)
         × Keeps (S.left source.old) (S.left source.new) }
+    ensures quiet { result ≡ Status.Done → diag.new ≡ diag.old }
     ensures nothing { result ≡ Status.ReadFault → Keeps (O.written out.old) (O.written out.new) }
+    ensures unplayed { result ≡ Status.ReadFault → keeper.new ≡ keeper.old }
     ensures done { command_of words.now.items ≡ Some Run → result ≡ Status.Done
         → Completes (AreGiven gives (service_of peer_service services.items)) (vec_len services) (S.left source.old) (S.left source.new)
         (O.written out.old) (O.written out.new) (K.book keeper.old) (K.book keeper.new)
@@ -266,8 +273,7 @@ pub fn replay<S: Source, O: Sink, D: Sink, K: Keeper>(
         ⊎ ShowsFront (S.left source.old) (S.left source.new) (O.written out.old) (O.written out.new) }
     ensures shows_front { command_of words.now.items ≡ Some Show → result ≡ Status.WriteFault
         → ShowsFront (S.left source.old) (S.left source.new) (O.written out.old) (O.written out.new) }
-    ensures keeps_book { command_of words.now.items ≡ Some Show → K.book keeper.new ≡ K.book keeper.old }
-    ensures keeps_count { command_of words.now.items ≡ Some Show → K.faults keeper.new ≡ K.faults keeper.old }
+    ensures unasked { command_of words.now.items ≢ Some Run → keeper.new ≡ keeper.old }
 {
     match command_of(words) {
         None => match write_all(diag, b"ha: usage: run | show\n") {

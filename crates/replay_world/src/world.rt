@@ -2,12 +2,14 @@ ghost use Rattle.std.specs.Prelude.{◌≡◌, ◌⊎◌, ℕ, [], IfOk, OnOk, O
 ghost use Rattle.std.specs.Option.{option_copied};
 ghost use Rattle.event_text.specs.Events.{plain};
 ghost use Rattle.event_text.specs.Grammar.{Fits};
+ghost use Rattle.run_ends.specs.Asked.{AsksAsSeen, newest_calls};
 ghost use Rattle.run_ends.specs.Runs.{CausedSince, Grows, LackMemory, StandsTold};
 ghost use Rattle.turn_rules.specs.Datagrams.{datagrams_of};
 ghost use Rattle.turn_rules.specs.Local.{Local};
 ghost use Rattle.turn_rules.specs.Safe.{Safe};
 ghost use Rattle.replay_world.specs.Crashes.{ended_last, services_after};
 ghost use Rattle.replay_world.specs.Owning.{OwnedTold};
+ghost use Rattle.replay_world.specs.Worlds.{peer_service_of, run_of, services_of};
 
 use crate::services::{all_kept, drop_service, ended_in};
 use event_text::{Event, Turn};
@@ -34,9 +36,9 @@ impl World {
         peer_service: Box<dyn Service>,
         services: Vec<Box<dyn Service>>,
     ) -> Result<World, Memory>
-        ensures ends { IfOk result (λ world. world.ends ≡ record { boxes = vec_len services; past = [] }) }
-        ensures peer_service { IfOk result (λ world. world.peer_service ≡ peer_service) }
-        ensures services { IfOk result (λ world. world.services.items ≡ map Some services.items) }
+        ensures ends { IfOk result (λ world. run_of world ≡ record { boxes = vec_len services; past = [] }) }
+        ensures peer_service { IfOk result (λ world. peer_service_of world ≡ peer_service) }
+        ensures services { IfOk result (λ world. services_of world ≡ map Some services.items) }
     {
         let ends = Ends::new(alloc, services.len());
         let services = all_kept(alloc, services)?;
@@ -59,24 +61,25 @@ impl World {
         requires empty { keeper.old.calls ≡ [] }
         requires told { keeper.old.missed ≡ false }
         requires fits { Fits (plain event) }
-        ensures grows { OnOk result (Grows self.old.ends now event self.new.ends) }
-        ensures local { Local self.new.ends.boxes self.new.ends.past }
-        ensures stands { StandsTold self.old.ends.past (K.book keeper.old.keeper)
-            → OnOk result (StandsTold self.new.ends.past (K.book keeper.new.keeper)) }
-        ensures owned_before { StandsTold self.old.ends.past (K.book keeper.old.keeper)
-            → OwnedTold self.old.ends.past (K.book keeper.old.keeper) }
-        ensures owned { StandsTold self.old.ends.past (K.book keeper.old.keeper)
-            → OnOk result (OwnedTold self.new.ends.past (K.book keeper.new.keeper)) }
-        ensures safe { StandsTold self.old.ends.past (K.book keeper.old.keeper) → OnOk result (Safe self.new.ends.past) }
-        ensures caused { (start : ℕ) → CausedSince start (K.faults keeper.old.keeper) self.old.ends.past
-            → OnOk result (CausedSince start (K.faults keeper.new.keeper) self.new.ends.past) }
+        ensures grows { OnOk result (Grows (run_of self.old) now event (run_of self.new)) }
+        ensures local { Local (run_of self.new).boxes (run_of self.new).past }
+        ensures stands { StandsTold (run_of self.old).past (K.book keeper.old.keeper)
+            → OnOk result (StandsTold (run_of self.new).past (K.book keeper.new.keeper)) }
+        ensures owned_before { StandsTold (run_of self.old).past (K.book keeper.old.keeper)
+            → OwnedTold (run_of self.old).past (K.book keeper.old.keeper) }
+        ensures owned { StandsTold (run_of self.old).past (K.book keeper.old.keeper)
+            → OnOk result (OwnedTold (run_of self.new).past (K.book keeper.new.keeper)) }
+        ensures safe { StandsTold (run_of self.old).past (K.book keeper.old.keeper) → OnOk result (Safe (run_of self.new).past) }
+        ensures caused { (start : ℕ) → CausedSince start (K.faults keeper.old.keeper) (run_of self.old).past
+            → OnOk result (CausedSince start (K.faults keeper.new.keeper) (run_of self.new).past) }
+        ensures asks { OnOk result (AsksAsSeen K.Keeper keeper.old.keeper (newest_calls (run_of self.new).past) keeper.new.keeper) }
         ensures empty { OnOk result (keeper.new.calls ≡ []) }
         ensures told { OnOk result (keeper.new.missed ≡ false) }
         ensures err { OnErr result (self.new ≡ self.old) }
         ensures keeps_book { OnErr result (K.book keeper.new.keeper ≡ K.book keeper.old.keeper) }
         ensures in_vain { OnErr result ((keeper.new ≡ keeper.old) ⊎ LackMemory keeper.new.calls) }
-        ensures peer_service { self.new.peer_service ≡ self.old.peer_service }
-        ensures services { OnOk result (self.new.services.items ≡ services_after (ended_last self.new.ends.past) self.old.services.items) }
+        ensures peer_service { peer_service_of self.new ≡ peer_service_of self.old }
+        ensures services { OnOk result (services_of self.new ≡ services_after (ended_last (run_of self.new).past) (services_of self.old)) }
         ensures held { K.held keeper.new.keeper ≡ K.held keeper.old.keeper }
     {
         runs_are_safe();
@@ -88,7 +91,7 @@ impl World {
 
     // The member that ended in the newest turn, if one did.
     fn last_ended(&self) -> Option<u64>
-        ensures { result ≡ ended_last self.now.ends.past }
+        ensures { result ≡ ended_last (run_of self.now).past }
     {
         match self.ends.last() {
             Some(turn) => ended_in(turn),
@@ -98,21 +101,21 @@ impl World {
 
     /// The newest turn, where there is one.
     pub fn last(&self) -> Option<&Turn>
-        ensures { option_copied result ≡ slice_get self.now.ends.past 0 }
+        ensures { option_copied result ≡ slice_get (run_of self.now).past 0 }
     {
         self.ends.last()
     }
 
     /// How many datagrams were given.
     pub fn datagrams(&self) -> u64
-        ensures { result ≡ length (datagrams_of self.now.ends.past) }
+        ensures { result ≡ length (datagrams_of (run_of self.now).past) }
     {
         self.ends.datagrams()
     }
 
     /// How many turns there are.
     pub fn turns(&self) -> u64
-        ensures { result ≡ length self.now.ends.past }
+        ensures { result ≡ length (run_of self.now).past }
     {
         self.ends.turns()
     }

@@ -1,3 +1,4 @@
+mod AskedLaws
 pub mod Bounds
 pub mod EventLaws
 pub mod FitLaws

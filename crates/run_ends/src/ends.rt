@@ -4,6 +4,7 @@ ghost use Rattle.turn_rules.specs.Local.{Local};
 ghost use Rattle.event_text.specs.Events.{plain};
 ghost use Rattle.event_text.specs.Grammar.{Fits};
 ghost use Rattle.turn_rules.specs.Datagrams.{datagrams_of};
+ghost use Rattle.run_ends.specs.Asked.{AsksAsSeen, newest_calls};
 ghost use Rattle.run_ends.specs.Runs.{CausedSince, Grows, LackMemory, StandsTold};
 
 use crate::cast::Cast;
@@ -60,6 +61,7 @@ impl Ends {
             → OnOk result (StandsTold self.new.past (K.book keeper.new.keeper)) }
         ensures caused { (start : ℕ) → CausedSince start (K.faults keeper.old.keeper) self.old.past
             → OnOk result (CausedSince start (K.faults keeper.new.keeper) self.new.past) }
+        ensures asks { OnOk result (AsksAsSeen K.Keeper keeper.old.keeper (newest_calls self.new.past) keeper.new.keeper) }
         ensures empty { OnOk result (keeper.new.calls ≡ []) }
         ensures told { OnOk result (keeper.new.missed ≡ false) }
         ensures err { OnErr result (self.new ≡ self.old) }

@@ -5,8 +5,10 @@ use Rattle.keeper_book.specs.Book.{EntersAllTold}
 use Rattle.keeper_book.specs.Told.{HaveCause}
 use Rattle.keeper_book.specs.declared.calls.Call.{Call}
 use Rattle.turn_rules.specs.Local.{AreShown}
+use Rattle.run_ends.specs.Asked.{AsksAsSeen, newest_calls}
 use Rattle.run_ends.specs.Casts.{AreKept, Plays}
 use Rattle.run_ends.specs.Runs.{CausedSince, Run, StandsTold}
+use Rattle.run_ends.proofs.AskedLaws.{asked-behind}
 use Rattle.run_ends.proofs.KeptLaws.{boxes-stay, few, kept}
 use Rattle.run_ends.proofs.TurnLaws.{caused-more, spoken-shown, stands-more, told-all}
 use Rattle.run_ends.proofs.ends.Ends.turn.Goals as goal
@@ -72,3 +74,14 @@ returns-clause-caused g c = λ start caused.
     let after : CausedSince start (g.K.Keeper.faults c.play.new.keeper.keeper) (turn g c ∷ past g c) = caused-more (turn g c) (past g c) start _ _ cause before in
     let there : CausedSince start (g.K.Keeper.faults c.take_calls-calls.new.self.keeper) (turn g c ∷ past g c) = rw c.take_calls-calls.ensures.keeper after in
     subst (λ (turns : List Turn). CausedSince start (g.K.Keeper.faults c.take_calls-calls.new.self.keeper) turns) (sym (more g c)) there
+
+pub returns-clause-asks : goal.returns-clause-asks
+returns-clause-asks g c =
+    let p = c.in_ok-step.ensures.plays in
+    let old = c.args.keeper.now.keeper in
+    let now = c.take_calls-calls.new.self.keeper in
+    let behind = asked-behind (λ gate. gate.keeper) (λ gate. gate.calls) (λ gate. gate.missed) c.args.keeper.now p.0 c.play.new.keeper p.2.each in
+    let played : AsksAsSeen g.K.Keeper old p.0 c.play.new.keeper.keeper = record { made = behind.0; seen_as = behind.1; asked = behind.2 } in
+    let taken : AsksAsSeen g.K.Keeper old p.0 now = subst (λ k. AsksAsSeen g.K.Keeper old p.0 k) (sym c.take_calls-calls.ensures.keeper) played in
+    let told : AsksAsSeen g.K.Keeper old (turn g c).calls now = subst (λ calls. AsksAsSeen g.K.Keeper old calls now) (sym (calls_are g c)) taken in
+    subst (λ turns. AsksAsSeen g.K.Keeper old (newest_calls turns) now) (sym (more g c)) told
