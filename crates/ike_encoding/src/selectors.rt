@@ -1,6 +1,6 @@
 //! Traffic selectors.
 
-ghost use Rattle.std.specs.Prelude.{◌≡◌, ◌++◌, map, OnOk, length};
+ghost use Rattle.std.specs.Prelude.{◌≡◌, ◌+◌, ◌++◌, ◌≤◌, length, map, IsOk, OnOk};
 ghost use Rattle.std.specs.List.{AllByRecursion};
 ghost use Rattle.ike_values.specs.SelectorView.{selector_value};
 ghost use Rattle.ike_values.specs.Spelling.{FitsSelector, selector_spelling, selectors_spelling};
@@ -12,7 +12,9 @@ use ike_values::Selector;
 
 pub(crate) fn put_traffic(out: &mut Octets, selectors: &[Selector]) -> Result<(), Memory>
     requires { FitsSelectors (map selector_value selectors.now) }
-    ensures { OnOk result (out.new.octets ≡ out.old.octets ++ numbered_written (length (map selector_value selectors.now)) (selectors_spelling (map selector_value selectors.now))) }
+    ensures written { OnOk result (out.new.octets ≡ out.old.octets ++ numbered_written (length (map selector_value selectors.now)) (selectors_spelling (map selector_value selectors.now))) }
+    ensures spare { OnOk result (out.old.spare ≤ out.new.spare + length (numbered_written (length (map selector_value selectors.now)) (selectors_spelling (map selector_value selectors.now)))) }
+    ensures room { length (numbered_written (length (map selector_value selectors.now)) (selectors_spelling (map selector_value selectors.now))) ≤ out.old.spare → IsOk result }
 {
     out.extend(&[selectors.len() as u8, 0, 0, 0])?;
     put_selectors(out, selectors)
@@ -20,7 +22,9 @@ pub(crate) fn put_traffic(out: &mut Octets, selectors: &[Selector]) -> Result<()
 
 fn put_selectors(out: &mut Octets, selectors: &[Selector]) -> Result<(), Memory>
     requires { AllByRecursion FitsSelector (map selector_value selectors.now) }
-    ensures { OnOk result (out.new.octets ≡ out.old.octets ++ selectors_spelling (map selector_value selectors.now)) }
+    ensures written { OnOk result (out.new.octets ≡ out.old.octets ++ selectors_spelling (map selector_value selectors.now)) }
+    ensures spare { OnOk result (out.old.spare ≤ out.new.spare + length (selectors_spelling (map selector_value selectors.now))) }
+    ensures room { length (selectors_spelling (map selector_value selectors.now)) ≤ out.old.spare → IsOk result }
 {
     let mut rest = selectors;
     while let [first, others @ ..] = rest {
@@ -32,7 +36,9 @@ fn put_selectors(out: &mut Octets, selectors: &[Selector]) -> Result<(), Memory>
 
 fn put_selector(out: &mut Octets, selector: &Selector) -> Result<(), Memory>
     requires { FitsSelector (selector_value selector.now) }
-    ensures { OnOk result (out.new.octets ≡ out.old.octets ++ selector_spelling (selector_value selector.now)) }
+    ensures written { OnOk result (out.new.octets ≡ out.old.octets ++ selector_spelling (selector_value selector.now)) }
+    ensures spare { OnOk result (out.old.spare ≤ out.new.spare + length (selector_spelling (selector_value selector.now))) }
+    ensures room { length (selector_spelling (selector_value selector.now)) ≤ out.old.spare → IsOk result }
 {
     let start = selector.start.as_slice();
     out.extend(&[selector.kind, selector.protocol])?;

@@ -124,3 +124,10 @@ increasing least (message ∷ []) rising k within = absurd (omega arith)
 increasing least (message ∷ next ∷ kept) (above, (first, rising)) zero within = let less : message.id < next.id = omega arith in less
 increasing least (message ∷ next ∷ kept) (above, rising) (suc k) within =
     let next_place : suc k + 1 ≡ suc (k + 1) = omega arith in rw next_place (increasing (message.id + 1) (next ∷ kept) rising k (omega arith))
+
+pub below_pushed : (id : ℕ) (octets : List ℕ) (kept : List Kept) → AllBelow id kept → AllBelow (id + 1) (kept ++ record { id = id; octets = octets } ∷ [])
+below_pushed id octets [] below = All-cons (λ other. other < id + 1) id [] (omega arith) (All-nil (λ other. other < id + 1))
+below_pushed id octets (message ∷ kept) below =
+    let first : message.id < id = All-head (λ other. other < id) message.id (ids_of kept) below in
+    All-cons (λ other. other < id + 1) message.id (ids_of (kept ++ record { id = id; octets = octets } ∷ [])) (omega arith)
+    (below_pushed id octets kept (All-tail (λ other. other < id) message.id (ids_of kept) below))

@@ -30,6 +30,7 @@ first_free (suc steps) ids n = if is_among ids n then first_free steps ids (n + 
 abbrev pub low_of : ℕ → List ℕ → ℕ
 low_of n ids = first_free (length ids) ids n
 
+-- a response that may be asked for again, as far as one window below the low
 abbrev pub is_repeatable : ℕ → ℕ → Kept → Bool
 is_repeatable floor low response = nat_le floor response.id && nat_le low (response.id + 8)
 
@@ -41,7 +42,7 @@ settled floor least responses = let low = low_of least (ids_of responses) in rec
   kept = filter (is_repeatable floor low) responses;
 }
 
--- what is kept of all responses that were stored, in whatever order, where this is the floor
+-- what is kept of all responses that were stored, where this is the floor
 abbrev pub answers_of : ℕ → List Kept → Answers
 answers_of floor stored = settled floor floor (ascending stored)
 
@@ -52,7 +53,7 @@ with_response response answers = settled answers.floor answers.low (inserted res
 abbrev pub raised : ℕ → Answers → Answers
 raised floor answers = settled (max answers.floor floor) (max answers.low floor) answers.kept
 
--- no request has the last identifier, since none could come after it
+-- no request has the last identifier, since identifiers don't wrap (RFC 7296, section 2.2)
 abbrev pub is_new : Answers → ℕ → Bool
 is_new answers id = nat_le answers.low id && nat_lt id (answers.low + 8) && not (is_among (ids_of answers.kept) id) && nat_lt id (2 ^ 32 - 1)
 

@@ -19,3 +19,6 @@ pub use laws::{
     judging_by_identifiers, jumping_raises_the_floor, low_is_the_least_free,
     repeats_are_the_responses, storing_adds_the_response,
 };
+
+#[cfg(test)]
+mod tests;

@@ -1,0 +1,169 @@
+-- Messages in the making, and the payloads that are put in.
+use Rattle.std.proofs.Common.{◌≡◌, ℕ, ◌+◌, ◌-◌, ◌<◌, ◌≤◌, true, List, [], ◌∷◌, ◌++◌, length, take, drop, set, replicate, get_or, vec_len, vec_capacity, refl, sym, ap, subst, ◌∙◌, append_assoc, append-nil, length-append, length-set, length-drop, take_at, take_all, drop_at, true≢false, arith}
+use Rattle.std.proofs.lemmas.List.{set-append_right}
+use Rattle.ike_values.specs.Values.{PayloadValue, sk}
+use Rattle.ike_values.specs.Spelling.{two, type_of}
+use Rattle.ike_values.specs.Writing.{body_written, first_of, chain_written, AreValid}
+use Rattle.ike_values.proofs.SpellingLaws.{chain_spelled}
+use Rattle.ike_grammar.specs.Chain.{chain_at}
+use Rattle.ike_grammar.proofs.ChainLaws.{chain_again}
+use Rattle.sk_payload.specs.HeldFrame.{read_or_none, payloads_in, first_or, chain_before, octets_before, IsFrame}
+use Rattle.sk_payload.specs.Message.{plain_of, notify_of}
+use Rattle.sk_payload.specs.declared.frame.Frame.TheInside.{Inside}
+
+-- ---- what a message in the making holds
+
+first_is : (xs : List PayloadValue) → first_or 0 xs ≡ first_of xs
+first_is [] = refl
+first_is (x ∷ xs) = refl
+
+pub chain_is : (xs : List PayloadValue) → AreValid true xs → chain_before 0 xs ≡ chain_written xs
+chain_is [] valid = refl
+chain_is (sk x ∷ xs) valid = absurd (true≢false valid.1.0)
+chain_is (item ∷ xs) valid = λ i. first_is xs i ∷ 0 ∷ two (4 + length (body_written item)) ++ body_written item ++ chain_is xs valid.2 i
+
+pub held_is : (xs : List PayloadValue) → AreValid true xs → payloads_in (octets_before 0 xs) ≡ xs
+unfolding payloads_in
+held_is xs valid =
+    let long : length (octets_before 0 xs) - 41 ≡ length (chain_before 0 xs) = omega (arith, length-append (chain_before 0 xs) (0 ∷ [])) in
+    let chain : take (length (octets_before 0 xs) - 41) (chain_before 0 xs ++ 0 ∷ []) ≡ chain_written xs =
+    take_at (chain_before 0 xs) (0 ∷ []) (length (octets_before 0 xs) - 41) (sym long) ∙ chain_is xs valid in
+    (λ i. read_or_none (chain_at (length (octets_before 0 xs) - 41) true (first_is xs i) (chain i)))
+    ∙ ap read_or_none (chain_again (length (octets_before 0 xs) - 41) true xs (first_of xs) (chain_written xs) (chain_spelled true xs valid))
+
+-- ---- one payload more
+
+valid_more : (xs : List PayloadValue) (y : PayloadValue) → AreValid true xs → AreValid true (y ∷ []) → AreValid true (xs ++ y ∷ [])
+valid_more [] y valid one = one
+valid_more (sk x ∷ xs) y valid one = absurd (true≢false valid.1.0)
+valid_more (item ∷ xs) y valid one = (valid.0, tt, valid_more xs y valid.2 one)
+
+first_more : (next : ℕ) (xs : List PayloadValue) (y : PayloadValue) → first_or next (xs ++ y ∷ []) ≡ first_or (type_of y) xs
+first_more next [] y = refl
+first_more next (x ∷ xs) y = refl
+
+-- a payload that has this next payload
+abbrev one : ℕ → PayloadValue → List ℕ
+one next y = next ∷ 0 ∷ two (4 + length (body_written y)) ++ body_written y
+
+chain_more : (next : ℕ) (xs : List PayloadValue) (y : PayloadValue) → chain_before next (xs ++ y ∷ []) ≡ chain_before (type_of y) xs ++ one next y
+chain_more next [] y = append-nil (one next y)
+chain_more next (x ∷ xs) y =
+    (λ i. first_more next xs y i ∷ 0 ∷ two (4 + length (body_written x)) ++ body_written x ++ chain_more next xs y i)
+    ∙ sym (append_assoc (first_or (type_of y) xs ∷ 0 ∷ two (4 + length (body_written x)) ++ body_written x) (chain_before (type_of y) xs) (one next y))
+
+-- what stands before the last octet once the payload is named, and what comes behind it
+abbrev pub named : List PayloadValue → PayloadValue → List ℕ
+named xs y = replicate 28 0 ++ (first_or (type_of y) xs ∷ replicate 11 0 ++ chain_before (type_of y) xs)
+
+abbrev pub behind : PayloadValue → List ℕ
+behind y = 0 ∷ two (4 + length (body_written y)) ++ body_written y ++ 0 ∷ []
+
+octets_named : (xs : List PayloadValue) (y : PayloadValue) → octets_before (type_of y) xs ≡ named xs y ++ 0 ∷ []
+octets_named xs y = refl
+
+octets_more : (next : ℕ) (xs : List PayloadValue) (y : PayloadValue) → octets_before next (xs ++ y ∷ []) ≡ named xs y ++ next ∷ behind y
+octets_more next xs y =
+    (λ i. replicate 28 0 ++ (first_more next xs y i ∷ replicate 11 0 ++ (chain_more next xs y i ++ 0 ∷ [])))
+    ∙ ap (λ ys. replicate 28 0 ++ (first_or (type_of y) xs ∷ replicate 11 0 ++ ys)) (append_assoc (chain_before (type_of y) xs) (one next y) (0 ∷ []))
+
+module _ (items : List ℕ) (link : ℕ) (xs : List PayloadValue) (y : PayloadValue) (after : List ℕ) (link' : ℕ)
+    (links : (next : ℕ) → set items link next ≡ octets_before next xs) (valid : AreValid true xs) (fits : AreValid true (y ∷ []))
+    (is : after ≡ set items link (type_of y) ++ behind y) (link_is : link' + 1 ≡ length items) where
+  whole : after ≡ named xs y ++ 0 ∷ behind y
+  whole = is ∙ ap (λ ys. ys ++ behind y) (links (type_of y)) ∙ append_assoc (named xs y) (0 ∷ []) (behind y)
+
+  front : length (named xs y) ≡ link'
+  front =
+      let lengths : length items ≡ length (named xs y) + 1 =
+      sym (length-set items link (type_of y)) ∙ ap length (links (type_of y)) ∙ length-append (named xs y) (0 ∷ []) in
+      omega (arith, lengths, link_is)
+
+  pub octets_after : after ≡ octets_before 0 (xs ++ y ∷ [])
+  octets_after = whole ∙ sym (octets_more 0 xs y)
+
+  pub valid_after : AreValid true (xs ++ y ∷ [])
+  valid_after = valid_more xs y valid fits
+
+  pub held_after : payloads_in after ≡ xs ++ y ∷ []
+  held_after = ap payloads_in octets_after ∙ held_is (xs ++ y ∷ []) valid_after
+
+  pub links_after : (next : ℕ) → set after link' next ≡ octets_before next (xs ++ y ∷ [])
+  links_after next =
+      let none : link' - link' ≡ 0 = omega arith in
+      ap (λ ys. set ys link' next) whole
+      ∙ set-append_right (named xs y) (0 ∷ behind y) link' link' next front (omega arith)
+      ∙ ap (λ k. named xs y ++ set (0 ∷ behind y) k next) none
+      ∙ sym (octets_more next xs y)
+
+-- ---- frames
+
+pub frame_begun : (f : Inside) → f.message.items ≡ octets_before 0 [] → f.link ≡ 28 → vec_len f.message ≡ 41 → 2048 ≤ vec_capacity f.message → 2048 ≤ f.bodies.spare → IsFrame f
+frame_begun f is link long room spare =
+    let held : payloads_in f.message.items ≡ [] = ap payloads_in is ∙ held_is [] tt in
+    record {
+      valid = subst (AreValid true) (sym held) tt;
+      octets = is ∙ ap (octets_before 0) (sym held);
+      links = λ next. (λ i. set (is i) (link i) next) ∙ ap (octets_before next) (sym held);
+      link_within = omega (arith, link, long);
+      small = omega (arith, long);
+      room = room;
+      spare = omega (arith, spare);
+    }
+
+module _ (old new : Inside) (y : PayloadValue) (frame : IsFrame old) (fits : AreValid true (y ∷ []))
+    (is : new.message.items ≡ set old.message.items old.link (type_of y) ++ behind y) (link_is : new.link + 1 ≡ vec_len old.message)
+    (long : vec_len new.message ≡ vec_len old.message + 4 + length (body_written y)) (capacity : vec_capacity old.message ≤ vec_capacity new.message)
+    (spare : old.bodies.spare ≤ new.bodies.spare + length (body_written y)) (room : 4 + length (body_written y) ≤ 2032 - vec_len old.message) where
+  at : new.link + 1 ≡ length old.message.items
+  at = omega (arith, link_is, old.message.ok.0)
+
+  pub payloads_after : payloads_in new.message.items ≡ payloads_in old.message.items ++ y ∷ []
+  payloads_after = held_after old.message.items old.link (payloads_in old.message.items) y new.message.items new.link frame.links frame.valid fits is at
+
+  pub frame_after : IsFrame new
+  frame_after =
+      let xs : List PayloadValue = payloads_in old.message.items in
+      record {
+        valid = subst (AreValid true) (sym payloads_after) (valid_after old.message.items old.link xs y new.message.items new.link frame.links frame.valid fits is at);
+        octets = octets_after old.message.items old.link xs y new.message.items new.link frame.links frame.valid fits is at ∙ ap (octets_before 0) (sym payloads_after);
+        links = λ next. links_after old.message.items old.link xs y new.message.items new.link frame.links frame.valid fits is at next ∙ ap (octets_before next) (sym payloads_after);
+        link_within = omega (arith, link_is, long);
+        small = omega (arith, long, room, frame.small);
+        room = omega (arith, capacity, frame.room);
+        spare = omega (arith, spare, long, frame.spare);
+      }
+
+-- ---- slices
+
+-- what was appended to octets
+pub appended : (before body now : List ℕ) (start : ℕ) → now ≡ before ++ body → start ≡ length before → take (length now - start) (drop start now) ≡ body
+appended before body now start is at =
+    let behind_it : drop start now ≡ body = ap (drop start) is ∙ drop_at before body start (sym at) in
+    ap (take (length now - start)) behind_it
+    ∙ take_all (length now - start) body (omega (arith, ap length is, at, length-append before body))
+
+pub plain_is : (shown items : List ℕ) (payloads : List PayloadValue) → shown ≡ items → items ≡ octets_before 0 payloads → AreValid true payloads →
+    take (length shown - 40) (drop 40 shown) ≡ plain_of payloads
+plain_is shown items payloads same is valid =
+    let whole : shown ≡ octets_before 0 payloads = same ∙ is in
+    let text : drop 40 shown ≡ plain_of payloads = ap (drop 40) whole ∙ ap (λ ys. ys ++ 0 ∷ []) (chain_is payloads valid) in
+    ap (take (length shown - 40)) text
+    ∙ take_all (length shown - 40) (plain_of payloads) (omega (arith, sym (ap length text), length-drop 40 shown))
+
+-- a notification without an SPI has a spelling
+pub notify_valid : (kind : ℕ) (content : List ℕ) → 8 + length content < 65536 → AreValid true (notify_of kind content ∷ [])
+notify_valid kind content small = (record { body = omega arith; length_fits = omega (arith, small) }, tt, tt)
+
+-- ---- what is sealed
+
+pub text_is : (items : List ℕ) (payloads : List PayloadValue) → items ≡ octets_before 0 payloads → AreValid true payloads → drop 40 items ≡ plain_of payloads
+text_is items payloads is valid = ap (drop 40) is ∙ ap (λ ys. ys ++ 0 ∷ []) (chain_is payloads valid)
+
+pub front_is : (items : List ℕ) (payloads : List PayloadValue) (other : ℕ) → items ≡ octets_before 0 payloads → get_or items 28 other ≡ first_of payloads
+front_is items payloads other is = ap (λ ys. get_or ys 28 other) is ∙ first_is payloads
+
+pub octets_long : (items : List ℕ) (payloads : List PayloadValue) → items ≡ octets_before 0 payloads → AreValid true payloads → length items ≡ 40 + length (plain_of payloads)
+octets_long items payloads is valid =
+    let text : length (chain_before 0 payloads ++ 0 ∷ []) ≡ length (plain_of payloads) = ap (λ ys. length (ys ++ 0 ∷ [])) (chain_is payloads valid) in
+    omega (arith, ap length is, text)
