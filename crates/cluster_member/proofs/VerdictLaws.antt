@@ -18,7 +18,7 @@ use Rattle.keeper_book.specs.declared.counters.Counter.TheVariants as counter
 use Rattle.keeper_book.specs.declared.faults.KeeperFault.TheVariants as fault
 use Rattle.turn_rules.specs.Draws.{Concludes, Draws, Grants, TakesOver, reach_of, refusal_of_stop}
 use Rattle.turn_rules.specs.Ends.{is_of_run, is_refused_by_run}
-use Rattle.turn_rules.specs.Scenes.{is_join}
+use Rattle.turn_rules.specs.States.{is_join}
 use Rattle.turn_rules.specs.Held.{Held}
 
 -- a verdict that a member itself comes to

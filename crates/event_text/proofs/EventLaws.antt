@@ -12,7 +12,7 @@ use Rattle.keeper_book.specs.declared.counters.Five.{Five}
 use Rattle.keeper_book.specs.Records.{sealing_key_octets}
 use Rattle.line_fields.specs.declared.fault.LineFault.{LineFault}
 use Rattle.line_fields.specs.declared.fault.LineReason.TheVariants as reasons
-use Rattle.line_fields.specs.Words.{Spot, line_of, words_of}
+use Rattle.line_fields.specs.Words.{Cursor, line_of, words_of}
 use Rattle.line_fields.specs.Numbers.{number_of}
 use Rattle.event_text.specs.Events.{PlainEvent, Cluster, Import, Join, Own, Draw, Crash, Send, Deliver, Alter, Cut, Inject}
 use Rattle.line_fields.specs.Fields.{◌>>=◌, behind, ended_at, end_in, fault_at, word_at, word_in}
@@ -28,7 +28,7 @@ message_id_field = number_field (2 ^ 32 - 1) (lit≤ tt)
 
 -- ---- the parts of an association
 
-sa_keys_takes : (size : KeySize) (s : Spot) (x : SaKeys) (t : Spot) → sa_keys_at size s ≡ Ok (x, t) → (s.words ≡ sa_key_words x ++ t.words) × AreSaKeys size x
+sa_keys_takes : (size : KeySize) (s : Cursor) (x : SaKeys) (t : Cursor) → sa_keys_at size s ≡ Ok (x, t) → (s.words ≡ sa_key_words x ++ t.words) × AreSaKeys size x
 unfolding sa_keys_at
 sa_keys_takes size s x t e =
     let n = sealing_key_octets size in
@@ -37,7 +37,7 @@ sa_keys_takes size s x t e =
     walk (reader (sized_field n n)) s2 _ (x, t) e2 (λ sk_er s3 w3 f3 e3.
     walk (reader (sized_field 32 32)) s3 _ (x, t) e3 (λ sk_pi s4 w4 f4 e4.
     walk (reader (sized_field 32 32)) s4 _ (x, t) e4 (λ sk_pr s5 w5 f5 e5.
-    subst (λ (p : SaKeys × Spot). (s.words ≡ sa_key_words p.0 ++ p.1.words) × AreSaKeys size p.0)
+    subst (λ (p : SaKeys × Cursor). (s.words ≡ sa_key_words p.0 ++ p.1.words) × AreSaKeys size p.0)
     (ok_is (record { sk_d = sk_d; sk_ei = sk_ei; sk_er = sk_er; sk_pi = sk_pi; sk_pr = sk_pr }, s5) (x, t) e5)
     (then_word _ w1 (then_word _ w2 (then_word _ w3 (then_word _ w4 w5))), record { sk_d = f1; sk_ei = f2; sk_er = f3; sk_pi = f4; sk_pr = f5 }))))))
 
@@ -50,13 +50,13 @@ sa_keys_again size x h c ws =
 sa_keys_reader : (size : KeySize) → IsReader (sa_keys_at size) sa_key_words (AreSaKeys size)
 sa_keys_reader size = record { takes = sa_keys_takes size; again = sa_keys_again size }
 
-child_keys_takes : (size : KeySize) (s : Spot) (x : ChildKeys) (t : Spot) → child_keys_at size s ≡ Ok (x, t) → (s.words ≡ child_key_words x ++ t.words) × AreChildKeys size x
+child_keys_takes : (size : KeySize) (s : Cursor) (x : ChildKeys) (t : Cursor) → child_keys_at size s ≡ Ok (x, t) → (s.words ≡ child_key_words x ++ t.words) × AreChildKeys size x
 unfolding child_keys_at
 child_keys_takes size s x t e =
     let n = sealing_key_octets size in
     walk (reader (sized_field n n)) s _ (x, t) e (λ to_cluster s1 w1 f1 e1.
     walk (reader (sized_field n n)) s1 _ (x, t) e1 (λ to_peer s2 w2 f2 e2.
-    subst (λ (p : ChildKeys × Spot). (s.words ≡ child_key_words p.0 ++ p.1.words) × AreChildKeys size p.0)
+    subst (λ (p : ChildKeys × Cursor). (s.words ≡ child_key_words p.0 ++ p.1.words) × AreChildKeys size p.0)
     (ok_is (record { to_cluster = to_cluster; to_peer = to_peer }, s2) (x, t) e2)
     (then_word _ w1 w2, record { to_cluster = f1; to_peer = f2 })))
 
@@ -69,7 +69,7 @@ child_keys_again size x h c ws =
 child_keys_reader : (size : KeySize) → IsReader (child_keys_at size) child_key_words (AreChildKeys size)
 child_keys_reader size = record { takes = child_keys_takes size; again = child_keys_again size }
 
-starts_takes : (s : Spot) (x : Five) (t : Spot) → starts_at s ≡ Ok (x, t) → (s.words ≡ five_words x ++ t.words) × AreStarts x
+starts_takes : (s : Cursor) (x : Five) (t : Cursor) → starts_at s ≡ Ok (x, t) → (s.words ≡ five_words x ++ t.words) × AreStarts x
 unfolding starts_at
 starts_takes s x t e =
     walk (reader member_field) s _ (x, t) e (λ esp_out s1 w1 f1 e1.
@@ -77,7 +77,7 @@ starts_takes s x t e =
     walk (reader member_field) s2 _ (x, t) e2 (λ iv s3 w3 f3 e3.
     walk (reader message_id_field) s3 _ (x, t) e3 (λ ask s4 w4 f4 e4.
     walk (reader message_id_field) s4 _ (x, t) e4 (λ answer s5 w5 f5 e5.
-    subst (λ (p : Five × Spot). (s.words ≡ five_words p.0 ++ p.1.words) × AreStarts p.0)
+    subst (λ (p : Five × Cursor). (s.words ≡ five_words p.0 ++ p.1.words) × AreStarts p.0)
     (ok_is (record { esp_out = esp_out; esp_in = esp_in; iv = iv; ask = ask; answer = answer }, s5) (x, t) e5)
     (then_word _ w1 (then_word _ w2 (then_word _ w3 (then_word _ w4 w5))), record { esp_out = f1; esp_in = f2; iv = f3; ask = f4; answer = f5 }))))))
 
@@ -92,14 +92,14 @@ starts_reader = record { takes = starts_takes; again = starts_again }
 -- ---- events
 
 -- a word and the words behind it are an event's
-record IsSpelled (word : List ℕ) (s : Spot) (y : PlainEvent × Spot) : Type 0 where
+record IsSpelled (word : List ℕ) (s : Cursor) (y : PlainEvent × Cursor) : Type 0 where
   words : word ∷ s.words ≡ event_words y.0 ++ y.1.words
   fits : Fits y.0
 
 behind_word : (word : List ℕ) {ws vs : List (List ℕ)} → ws ≡ vs → word ∷ ws ≡ word ∷ vs
 behind_word word e = ap (λ (v : List (List ℕ)). word ∷ v) e
 
-import_takes : (s : Spot) (y : PlainEvent × Spot) → import_at s ≡ Ok y → IsSpelled (codes "import") s y
+import_takes : (s : Cursor) (y : PlainEvent × Cursor) → import_at s ≡ Ok y → IsSpelled (codes "import") s y
 unfolding import_at
 import_takes s y e =
     walk (reader spi_field) s _ y e (λ spii s1 w1 f1 e1.
@@ -118,33 +118,33 @@ import_takes s y e =
       fits = record { spii = f1; spir = f2; identity = f4; keys = f5; spi_in = f6; spi_out = f7; child = f8; starts = f9 };
     }))))))))))
 
-join_takes : (s : Spot) (y : PlainEvent × Spot) → join_at s ≡ Ok y → IsSpelled (codes "join") s y
+join_takes : (s : Cursor) (y : PlainEvent × Cursor) → join_at s ≡ Ok y → IsSpelled (codes "join") s y
 unfolding join_at
 join_takes s y e =
     walk (reader (sized_field 24 24)) s _ y e (λ fresh s1 w1 f1 e1.
     subst (IsSpelled (codes "join") s) (ok_is (Join fresh, s1) y e1) (record { words = behind_word (codes "join") w1; fits = f1 }))
 
-own_takes : (s : Spot) (y : PlainEvent × Spot) → own_at s ≡ Ok y → IsSpelled (codes "own") s y
+own_takes : (s : Cursor) (y : PlainEvent × Cursor) → own_at s ≡ Ok y → IsSpelled (codes "own") s y
 unfolding own_at
 own_takes s y e =
     walk (reader member_field) s _ y e (λ member s1 w1 f1 e1.
     walk (reader spi_field) s1 _ y e1 (λ spir s2 w2 f2 e2.
     subst (IsSpelled (codes "own") s) (ok_is (Own member spir, s2) y e2) (record { words = behind_word (codes "own") (then_word _ w1 w2); fits = (f1, f2) })))
 
-draw_takes : (s : Spot) (y : PlainEvent × Spot) → draw_at s ≡ Ok y → IsSpelled (codes "draw") s y
+draw_takes : (s : Cursor) (y : PlainEvent × Cursor) → draw_at s ≡ Ok y → IsSpelled (codes "draw") s y
 unfolding draw_at
 draw_takes s y e =
     walk (reader member_field) s _ y e (λ member s1 w1 f1 e1.
     walk (reader spi_field) s1 _ y e1 (λ spir s2 w2 f2 e2.
     subst (IsSpelled (codes "draw") s) (ok_is (Draw member spir, s2) y e2) (record { words = behind_word (codes "draw") (then_word _ w1 w2); fits = (f1, f2) })))
 
-crash_takes : (s : Spot) (y : PlainEvent × Spot) → crash_at s ≡ Ok y → IsSpelled (codes "crash") s y
+crash_takes : (s : Cursor) (y : PlainEvent × Cursor) → crash_at s ≡ Ok y → IsSpelled (codes "crash") s y
 unfolding crash_at
 crash_takes s y e =
     walk (reader member_field) s _ y e (λ member s1 w1 f1 e1.
     subst (IsSpelled (codes "crash") s) (ok_is (Crash member, s1) y e1) (record { words = behind_word (codes "crash") w1; fits = f1 }))
 
-cluster_takes : (s : Spot) (y : PlainEvent × Spot) → cluster_at s ≡ Ok y → IsSpelled (codes "cluster") s y
+cluster_takes : (s : Cursor) (y : PlainEvent × Cursor) → cluster_at s ≡ Ok y → IsSpelled (codes "cluster") s y
 unfolding cluster_at
 cluster_takes s y e =
     walk (reader domain_name_field) s _ y e (λ identity s1 w1 f1 e1.
@@ -157,7 +157,7 @@ cluster_takes s y e =
       fits = record { identity = f1; lifetime = f2; window = f3; ticket_key = f4 };
     })))))
 
-send_takes : (s : Spot) (y : PlainEvent × Spot) → send_at s ≡ Ok y → IsSpelled (codes "send") s y
+send_takes : (s : Cursor) (y : PlainEvent × Cursor) → send_at s ≡ Ok y → IsSpelled (codes "send") s y
 unfolding send_at
 send_takes s y e =
     walk (reader party_field) s _ y e (λ from s1 w1 f1 e1.
@@ -166,14 +166,14 @@ send_takes s y e =
     subst (IsSpelled (codes "send") s) (ok_is (Send from spir payload, s3) y e3)
     (record { words = behind_word (codes "send") (then_word _ w1 (then_word _ w2 w3)); fits = (f1, f2, f3) }))))
 
-deliver_takes : (s : Spot) (y : PlainEvent × Spot) → deliver_at s ≡ Ok y → IsSpelled (codes "deliver") s y
+deliver_takes : (s : Cursor) (y : PlainEvent × Cursor) → deliver_at s ≡ Ok y → IsSpelled (codes "deliver") s y
 unfolding deliver_at
 deliver_takes s y e =
     walk (reader which_field) s _ y e (λ which s1 w1 f1 e1.
     walk (reader party_field) s1 _ y e1 (λ to s2 w2 f2 e2.
     subst (IsSpelled (codes "deliver") s) (ok_is (Deliver which to, s2) y e2) (record { words = behind_word (codes "deliver") (then_word _ w1 w2); fits = (f1, f2) })))
 
-alter_takes : (s : Spot) (y : PlainEvent × Spot) → alter_at s ≡ Ok y → IsSpelled (codes "alter") s y
+alter_takes : (s : Cursor) (y : PlainEvent × Cursor) → alter_at s ≡ Ok y → IsSpelled (codes "alter") s y
 unfolding alter_at
 alter_takes s y e =
     walk (reader which_field) s _ y e (λ which s1 w1 f1 e1.
@@ -183,7 +183,7 @@ alter_takes s y e =
     subst (IsSpelled (codes "alter") s) (ok_is (Alter which to place octet, s4) y e4)
     (record { words = behind_word (codes "alter") (then_word _ w1 (then_word _ w2 (then_word _ w3 w4))); fits = (f1, f2, f3, f4) })))))
 
-cut_takes : (s : Spot) (y : PlainEvent × Spot) → cut_at s ≡ Ok y → IsSpelled (codes "cut") s y
+cut_takes : (s : Cursor) (y : PlainEvent × Cursor) → cut_at s ≡ Ok y → IsSpelled (codes "cut") s y
 unfolding cut_at
 cut_takes s y e =
     walk (reader which_field) s _ y e (λ which s1 w1 f1 e1.
@@ -192,7 +192,7 @@ cut_takes s y e =
     subst (IsSpelled (codes "cut") s) (ok_is (Cut which to keep, s3) y e3)
     (record { words = behind_word (codes "cut") (then_word _ w1 (then_word _ w2 w3)); fits = (f1, f2, f3) }))))
 
-inject_takes : (s : Spot) (y : PlainEvent × Spot) → inject_at s ≡ Ok y → IsSpelled (codes "inject") s y
+inject_takes : (s : Cursor) (y : PlainEvent × Cursor) → inject_at s ≡ Ok y → IsSpelled (codes "inject") s y
 unfolding inject_at
 inject_takes s y e =
     walk (reader party_field) s _ y e (λ to s1 w1 f1 e1.
@@ -201,10 +201,10 @@ inject_takes s y e =
     subst (IsSpelled (codes "inject") s) (ok_is (Inject to medium octets, s3) y e3)
     (record { words = behind_word (codes "inject") (then_word _ w1 (then_word _ w2 w3)); fits = (f1, f3) }))))
 
-is_word_of : (name w : List ℕ) (s : Spot) (y : PlainEvent × Spot) → bytes_eq w name ≡ true → IsSpelled name s y → IsSpelled w s y
+is_word_of : (name w : List ℕ) (s : Cursor) (y : PlainEvent × Cursor) → bytes_eq w name ≡ true → IsSpelled name s y → IsSpelled w s y
 is_word_of name w s y t h = subst (λ (v : List ℕ). IsSpelled v s y) (sym ((bytes_eq-Decides w name).0 t)) h
 
-datagram_fields_take : (c : ℕ) (w : List ℕ) (s : Spot) (y : PlainEvent × Spot) → datagram_fields_at c w s ≡ Ok y → IsSpelled w s y
+datagram_fields_take : (c : ℕ) (w : List ℕ) (s : Cursor) (y : PlainEvent × Cursor) → datagram_fields_at c w s ≡ Ok y → IsSpelled w s y
 unfolding datagram_fields_at
 datagram_fields_take c w s y e =
     pick (bytes_eq w (codes "send")) _ _ _ e (λ t h. is_word_of (codes "send") w s y t (send_takes s y h)) (λ _ e1.
@@ -213,7 +213,7 @@ datagram_fields_take c w s y e =
     pick (bytes_eq w (codes "cut")) _ _ _ e3 (λ t h. is_word_of (codes "cut") w s y t (cut_takes s y h)) (λ _ e4.
     pick (bytes_eq w (codes "inject")) _ _ _ e4 (λ t h. is_word_of (codes "inject") w s y t (inject_takes s y h)) (λ _ e5. absurd cc)))))
 
-fields_take : (c : ℕ) (w : List ℕ) (s : Spot) (y : PlainEvent × Spot) → fields_at c w s ≡ Ok y → IsSpelled w s y
+fields_take : (c : ℕ) (w : List ℕ) (s : Cursor) (y : PlainEvent × Cursor) → fields_at c w s ≡ Ok y → IsSpelled w s y
 unfolding fields_at
 fields_take c w s y e =
     pick (bytes_eq w (codes "cluster")) _ _ _ e (λ t h. is_word_of (codes "cluster") w s y t (cluster_takes s y h)) (λ _ e1.
@@ -228,11 +228,11 @@ after : {A B P : Type 0} (r : Result A LineFault) (k : A → Result B LineFault)
 after (Err f) k y e go = absurd cc
 after (Ok x) k y e go = go x refl e
 
-word_is : (c : ℕ) (ws : List (List ℕ)) (p : List ℕ × Spot) → word_in c ws ≡ Ok p → ws ≡ p.0 ∷ p.1.words
+word_is : (c : ℕ) (ws : List (List ℕ)) (p : List ℕ × Cursor) → word_in c ws ≡ Ok p → ws ≡ p.0 ∷ p.1.words
 word_is c [] p e = absurd cc
-word_is c (v ∷ vs) p e = ap (λ (q : List ℕ × Spot). q.0 ∷ q.1.words) (ok_is (v, behind c v vs) p e)
+word_is c (v ∷ vs) p e = ap (λ (q : List ℕ × Cursor). q.0 ∷ q.1.words) (ok_is (v, behind c v vs) p e)
 
-event_takes : (s : Spot) (y : PlainEvent × Spot) → event_at s ≡ Ok y → (s.words ≡ event_words y.0 ++ y.1.words) × Fits y.0
+event_takes : (s : Cursor) (y : PlainEvent × Cursor) → event_at s ≡ Ok y → (s.words ≡ event_words y.0 ++ y.1.words) × Fits y.0
 unfolding event_at
 event_takes s y e =
     after (word_at s) (λ w. fields_at s.column w.0 w.1) y e (λ w found rest.
@@ -261,13 +261,13 @@ event_again (Inject to medium octets) h c =
 
 -- ---- a line
 
-moment_takes : (last : ℕ) (s : Spot) (p : ℕ × Spot) → moment_at last s ≡ Ok p → (s.words ≡ decimal p.0 ∷ p.1.words) × (p.0 < 2 ^ 63) × (last ≤ p.0)
+moment_takes : (last : ℕ) (s : Cursor) (p : ℕ × Cursor) → moment_at last s ≡ Ok p → (s.words ≡ decimal p.0 ∷ p.1.words) × (p.0 < 2 ^ 63) × (last ≤ p.0)
 unfolding moment_at
 moment_takes last s p e =
     walk (reader member_field) s _ p e (λ n t w f e1.
     pick (ltb n last) (Err (fault_at s.column reasons.ClockBack)) (Ok (n, t)) (Ok p) e1
     (λ hit same. absurd cc)
-    (λ miss same. subst (λ (q : ℕ × Spot). (s.words ≡ decimal q.0 ∷ q.1.words) × (q.0 < 2 ^ 63) × (last ≤ q.0)) (ok_is (n, t) p same) (w, f, ltb-false n last miss)))
+    (λ miss same. subst (λ (q : ℕ × Cursor). (s.words ≡ decimal q.0 ∷ q.1.words) × (q.0 < 2 ^ 63) × (last ≤ q.0)) (ok_is (n, t) p same) (w, f, ltb-false n last miss)))
 
 moment_again : (last n : ℕ) → n < 2 ^ 63 → last ≤ n → (c : ℕ) (ws : List (List ℕ)) → moment_at last (record { column = c; words = decimal n ∷ ws }) ≡ Ok (n, behind c (decimal n) ws)
 unfolding moment_at
@@ -277,7 +277,7 @@ ended_is : (c : ℕ) (ws : List (List ℕ)) (x : Unit {0}) → end_in c ws ≡ O
 ended_is c [] x e = refl
 ended_is c (w ∷ ws) x e = absurd cc
 
-told_takes : (last : ℕ) (s : Spot) (y : Moment × PlainEvent) → told_at last s ≡ Ok y → (s.words ≡ line_words y.0 y.1) × (last ≤ y.0.0) × (y.0.0 < 2 ^ 63) × Fits y.1
+told_takes : (last : ℕ) (s : Cursor) (y : Moment × PlainEvent) → told_at last s ≡ Ok y → (s.words ≡ line_words y.0 y.1) × (last ≤ y.0.0) × (y.0.0 < 2 ^ 63) × Fits y.1
 unfolding told_at
 told_takes last s y e =
     after (moment_at last s) _ y e (λ m is_m e1.

@@ -11,7 +11,7 @@ use Rattle.line_fields.specs.declared.fault.LineFault.{LineFault}
 use Rattle.line_fields.specs.declared.fault.LineReason.TheVariants as reasons
 use Rattle.event_text.specs.declared.place.Place.{Place}
 use Rattle.line_fields.specs.Words.{onto}
-use Rattle.input_lines.specs.Lines.{IsFile, IsLine, fed, is_passed, is_said, lines_of, no_feed, unfed}
+use Rattle.input_lines.specs.Lines.{IsFile, IsLine, with_line_feeds, is_passed, is_said, lines_of, no_feed, without_line_feed}
 use Rattle.event_text.specs.Events.{PlainEvent}
 use Rattle.line_fields.specs.Fields.{fault_at}
 use Rattle.event_text.specs.Reading.{line_at}
@@ -47,8 +47,8 @@ lines_joined (c ∷ cs) =
 -- each line has its line feed, but maybe the last
 AreFed : List (List ℕ) → Type 0
 AreFed [] = Unit {0}
-AreFed (line ∷ []) = (line ≡ unfed line ++ 10 ∷ []) ⊎ (line ≡ unfed line)
-AreFed (line ∷ next ∷ lines) = (line ≡ unfed line ++ 10 ∷ []) × AreFed (next ∷ lines)
+AreFed (line ∷ []) = (line ≡ without_line_feed line ++ 10 ∷ []) ⊎ (line ≡ without_line_feed line)
+AreFed (line ∷ next ∷ lines) = (line ≡ without_line_feed line ++ 10 ∷ []) × AreFed (next ∷ lines)
 
 fed_onto : (c : ℕ) (ls : List (List ℕ)) → eqb c 10 ≡ false → AreFed ls → AreFed (onto c ls)
 unfolding AreFed
@@ -57,7 +57,7 @@ fed_onto c (l ∷ []) other (inl h) = inl (rw other (ap (λ (t : List ℕ). c �
 fed_onto c (l ∷ []) other (inr h) = inr (rw other (ap (λ (t : List ℕ). c ∷ t) h))
 fed_onto c (l ∷ m ∷ ls) other h = (rw other (ap (λ (t : List ℕ). c ∷ t) h.0), h.1)
 
-fed_before : (line : List ℕ) (ls : List (List ℕ)) → line ≡ unfed line ++ 10 ∷ [] → AreFed ls → AreFed (line ∷ ls)
+fed_before : (line : List ℕ) (ls : List (List ℕ)) → line ≡ without_line_feed line ++ 10 ∷ [] → AreFed ls → AreFed (line ∷ ls)
 unfolding AreFed
 fed_before line [] e h = inl e
 fed_before line (l ∷ ls) e h = (e, h)
@@ -73,7 +73,7 @@ lines_fed (c ∷ cs) =
 
 abbrev bare : List (List ℕ) → List (List ℕ)
 bare [] = []
-bare (l ∷ ls) = unfed l ∷ bare ls
+bare (l ∷ ls) = without_line_feed l ∷ bare ls
 
 -- lines with their line feeds are a file of the lines without
 file_of : (ls : List (List ℕ)) → AreFed ls → IsFile (bare ls) (joined ls)
@@ -83,15 +83,15 @@ file_of (l ∷ []) (inl h) = inl (append-nil l ∙ h)
 file_of (l ∷ []) (inr h) = inr (ap (λ (t : List ℕ). t ++ 10 ∷ []) (append-nil l ∙ h))
 file_of (l ∷ m ∷ ls) h =
     elim (file_of (m ∷ ls) h.1) [
-      | inl e ↦ inl (ap (λ (t : List ℕ). t ++ joined (m ∷ ls)) h.0 ∙ append_assoc (unfed l) (10 ∷ []) (joined (m ∷ ls)) ∙ ap (λ (t : List ℕ). unfed l ++ (10 ∷ t)) e)
+      | inl e ↦ inl (ap (λ (t : List ℕ). t ++ joined (m ∷ ls)) h.0 ∙ append_assoc (without_line_feed l) (10 ∷ []) (joined (m ∷ ls)) ∙ ap (λ (t : List ℕ). without_line_feed l ++ (10 ∷ t)) e)
       | inr e ↦
           inr (append_assoc l (joined (m ∷ ls)) (10 ∷ []) ∙ ap (λ (t : List ℕ). t ++ (joined (m ∷ ls) ++ 10 ∷ [])) h.0
-          ∙ append_assoc (unfed l) (10 ∷ []) (joined (m ∷ ls) ++ 10 ∷ []) ∙ ap (λ (t : List ℕ). unfed l ++ (10 ∷ t)) e)
+          ∙ append_assoc (without_line_feed l) (10 ∷ []) (joined (m ∷ ls) ++ 10 ∷ []) ∙ ap (λ (t : List ℕ). without_line_feed l ++ (10 ∷ t)) e)
     ]
 
 -- ---- what was read
 
-unfed_whole : (line : List ℕ) → list_all no_feed (unfed line) ≡ true
+unfed_whole : (line : List ℕ) → list_all no_feed (without_line_feed line) ≡ true
 unfed_whole [] = refl
 unfed_whole (c ∷ cs) =
     elim (eqb_tells c 10) [
@@ -99,7 +99,7 @@ unfed_whole (c ∷ cs) =
       | inr other ↦ let no : no_feed c ≡ true = rw other.0 refl in rw (other.0, no, unfed_whole cs) refl
     ]
 
-unfed_size : (line : List ℕ) → length (unfed line) ≤ length line
+unfed_size : (line : List ℕ) → length (without_line_feed line) ≤ length line
 unfed_size [] = omega arith
 unfed_size (c ∷ cs) =
     let rest = unfed_size cs in
@@ -153,22 +153,22 @@ event_read p octets line x e =
     (λ few same. some_read p line x miss (eqb-false p.count 100000 few) (line_at p.last.0 line) refl same))
 
 -- a line that was read is whole, and not too long
-line_read : (l : List ℕ) (p : Place) (x : Option (Moment × PlainEvent)) → event_in p (length l) (unfed l) ≡ Ok x → IsLine (unfed l)
+line_read : (l : List ℕ) (p : Place) (x : Option (Moment × PlainEvent)) → event_in p (length l) (without_line_feed l) ≡ Ok x → IsLine (without_line_feed l)
 unfolding event_in
 line_read l p x e =
-    let none = unless_ok (overlong p.before (length l) (length (unfed l))) _ x e in
+    let none = unless_ok (overlong p.before (length l) (length (without_line_feed l))) _ x e in
     record {
       whole = unfed_whole l;
-      short = short_read p.before (length l) (length (unfed l)) (unfed_size l) (overlong_none p.before (length l) (length (unfed l)) none) none;
+      short = short_read p.before (length l) (length (without_line_feed l)) (unfed_size l) (overlong_none p.before (length l) (length (without_line_feed l)) none) none;
     }
 
 -- a line and what follows it were read
-on_read : (l : List ℕ) (ls : List (List ℕ)) (p : Place) → p.count ≤ 100000 → ((q : Place) → q.count ≤ 100000 → q.before ≤ 67108864 → (contents_at ls q).fault ≡ None → ReadsAt ls q (contents_at ls q).events) → (r : Result (Option (Moment × PlainEvent)) LineFault) → event_in p (length l) (unfed l) ≡ r → (on_line p.line r (λ event. contents_at ls (behind_line p (length l) event))).fault ≡ None → ReadsAt (l ∷ ls) p (on_line p.line r (λ event. contents_at ls (behind_line p (length l) event))).events
+on_read : (l : List ℕ) (ls : List (List ℕ)) (p : Place) → p.count ≤ 100000 → ((q : Place) → q.count ≤ 100000 → q.before ≤ 67108864 → (contents_at ls q).fault ≡ None → ReadsAt ls q (contents_at ls q).events) → (r : Result (Option (Moment × PlainEvent)) LineFault) → event_in p (length l) (without_line_feed l) ≡ r → (on_line p.line r (λ event. contents_at ls (behind_line p (length l) event))).fault ≡ None → ReadsAt (l ∷ ls) p (on_line p.line r (λ event. contents_at ls (behind_line p (length l) event))).events
 unfolding joined Says
 on_read l ls p few follow (Err f) e clean = absurd cc
 on_read l ls p few follow (Ok None) e clean =
-    let within = read_within p (length l) (unfed l) None e in
-    let passed : is_passed (unfed l) ≡ true = event_read p (length l) (unfed l) None e in
+    let within = read_within p (length l) (without_line_feed l) None e in
+    let passed : is_passed (without_line_feed l) ≡ true = event_read p (length l) (without_line_feed l) None e in
     let rest = follow (behind_line p (length l) None) few within clean in
     let rest_few = rest.few in
     let rest_short = rest.short in
@@ -179,8 +179,8 @@ on_read l ls p few follow (Ok None) e clean =
       short = omega (arith, length-append l (joined ls));
     }
 on_read l ls p few follow (Ok (Some x)) e clean =
-    let within = read_within p (length l) (unfed l) (Some x) e in
-    let read = event_read p (length l) (unfed l) (Some x) e in
+    let within = read_within p (length l) (without_line_feed l) (Some x) e in
+    let read = event_read p (length l) (without_line_feed l) (Some x) e in
     let other : p.count ≢ 100000 = read.1 in
     let rest = follow (behind_line p (length l) (Some x)) (omega arith) within clean in
     let rest_few = rest.few in
@@ -196,7 +196,7 @@ reads_at : (ls : List (List ℕ)) (p : Place) → p.count ≤ 100000 → p.befor
 unfolding contents_at joined
 reads_at [] p few short none = record { are_lines = tt; say = tt; few = omega arith; short = omega arith }
 reads_at (l ∷ ls) p few short none =
-    on_read l ls p few (λ q q_few q_short clean. reads_at ls q q_few q_short clean) (event_in p (length l) (unfed l)) refl none
+    on_read l ls p few (λ q q_few q_short clean. reads_at ls q q_few q_short clean) (event_in p (length l) (without_line_feed l)) refl none
 
 version_read : (octets : ℕ) (line : List ℕ) (x : Unit {0}) → version_in octets line ≡ Ok x → line ≡ codes "ha 1"
 unfolding version_in
@@ -208,18 +208,18 @@ version_read octets line x e =
 text_in : (ls : List (List ℕ)) → AreFed ls → (contents_in ls).fault ≡ None → EventText (contents_in ls).events (joined ls)
 unfolding joined
 text_in [] h none = absurd cc
-text_in (l ∷ ls) h none = on_first (version_in (length l) (unfed l)) refl none
+text_in (l ∷ ls) h none = on_first (version_in (length l) (without_line_feed l)) refl none
   where
-    on_first : (r : Result Unit LineFault) → version_in (length l) (unfed l) ≡ r → (on_version r (contents_at ls (second_line (length l)))).fault ≡ None → EventText (on_version r (contents_at ls (second_line (length l)))).events (joined (l ∷ ls))
+    on_first : (r : Result Unit LineFault) → version_in (length l) (without_line_feed l) ≡ r → (on_version r (contents_at ls (second_line (length l)))).fault ≡ None → EventText (on_version r (contents_at ls (second_line (length l)))).events (joined (l ∷ ls))
     on_first (Err f) e clean = absurd cc
     on_first (Ok u) e clean =
-        let within = version_within (length l) (unfed l) u e in
+        let within = version_within (length l) (without_line_feed l) u e in
         let reads = reads_at ls (second_line (length l)) (omega arith) within clean in
         let few = reads.few in
         let short = reads.short in
         record {
           lines = bare ls;
-          file = subst (λ (t : List ℕ). IsFile (t ∷ bare ls) (l ++ joined ls)) (version_read (length l) (unfed l) u e) (file_of (l ∷ ls) h);
+          file = subst (λ (t : List ℕ). IsFile (t ∷ bare ls) (l ++ joined ls)) (version_read (length l) (without_line_feed l) u e) (file_of (l ∷ ls) h);
           are_lines = reads.are_lines;
           say = reads.say;
           few = omega arith;
@@ -258,13 +258,13 @@ lines_alone (c ∷ d ∷ cs) some h =
     let parts = and_parts (no_feed c) (list_all no_feed (d ∷ cs)) h in
     rw (other_feed c parts.0, lines_alone (d ∷ cs) (omega arith) parts.1) refl
 
-unfed_fed : (l : List ℕ) → list_all no_feed l ≡ true → unfed (l ++ 10 ∷ []) ≡ l
+unfed_fed : (l : List ℕ) → list_all no_feed l ≡ true → without_line_feed (l ++ 10 ∷ []) ≡ l
 unfed_fed [] h = refl
 unfed_fed (c ∷ cs) h =
     let parts = and_parts (no_feed c) (list_all no_feed cs) h in
     rw (other_feed c parts.0, unfed_fed cs parts.1) refl
 
-unfed_alone : (l : List ℕ) → list_all no_feed l ≡ true → unfed l ≡ l
+unfed_alone : (l : List ℕ) → list_all no_feed l ≡ true → without_line_feed l ≡ l
 unfed_alone [] h = refl
 unfed_alone (c ∷ cs) h =
     let parts = and_parts (no_feed c) (list_all no_feed cs) h in
@@ -275,7 +275,7 @@ record EndsFed (octets : List ℕ) : Type 0 where
   front : List ℕ
   parts : octets ≡ front ++ 10 ∷ []
 
-fed_ends : (l : List ℕ) (ls : List (List ℕ)) → EndsFed (fed (l ∷ ls))
+fed_ends : (l : List ℕ) (ls : List (List ℕ)) → EndsFed (with_line_feeds (l ∷ ls))
 fed_ends l [] = record { front = l; parts = refl }
 fed_ends l (m ∷ ms) =
     let rest = fed_ends m ms in
@@ -295,7 +295,7 @@ record Parts (l : List ℕ) (ls : List (List ℕ)) (octets : List ℕ) : Type 0 
   line : List ℕ
   rest : List ℕ
   parts : lines_of octets ≡ line ∷ lines_of rest
-  bare_line : unfed line ≡ l
+  bare_line : without_line_feed line ≡ l
   file : IsFile ls rest
   size : length octets ≡ length line + length rest
 
@@ -309,11 +309,11 @@ file_parts : (l : List ℕ) (ls : List (List ℕ)) (octets : List ℕ) → list_
 file_parts l ls octets h (inl e) =
     inl (record {
       line = l ++ 10 ∷ [];
-      rest = fed ls;
-      parts = ap lines_of e ∙ lines_before l (fed ls) h;
+      rest = with_line_feeds ls;
+      parts = ap lines_of e ∙ lines_before l (with_line_feeds ls) h;
       bare_line = unfed_fed l h;
       file = inl refl;
-      size = ap length e ∙ ap length (sym (append_assoc l (10 ∷ []) (fed ls))) ∙ length-append (l ++ 10 ∷ []) (fed ls);
+      size = ap length e ∙ ap length (sym (append_assoc l (10 ∷ []) (with_line_feeds ls))) ∙ length-append (l ++ 10 ∷ []) (with_line_feeds ls);
     })
 file_parts [] [] octets h (inr e) = inr (record { none = cancelled octets [] e; line = refl; lines = refl })
 file_parts (c ∷ cs) [] octets h (inr e) =
@@ -367,7 +367,7 @@ passed_on l ls passed follow events p octets file are say few short =
     elim (file_parts l ls octets are.0.whole file) [
       | inl parts ↦
           let size = parts.size in
-          let read : event_in p (length parts.line) (unfed parts.line) ≡ Ok None = rw parts.bare_line (passed_again p (length parts.line) l (omega arith) are.0 passed) in
+          let read : event_in p (length parts.line) (without_line_feed parts.line) ≡ Ok None = rw parts.bare_line (passed_again p (length parts.line) l (omega arith) are.0 passed) in
           let rest = follow events (behind_line p (length parts.line) None) parts.rest parts.file are.1 (rw passed at say) few (omega arith) in
           rw (parts.parts, read, rest) refl
       | inr none ↦ rw none.none (none_again events p (rw (none.line, none.lines) at say))
@@ -382,7 +382,7 @@ event_on l ls said follow (x ∷ xs) p octets file are say few short =
       | inl parts ↦
           let says = rw said at say in
           let size = parts.size in
-          let read : event_in p (length parts.line) (unfed parts.line) ≡ Ok (Some x) = rw parts.bare_line (event_again p (length parts.line) l x (omega arith) (omega arith) said says.0) in
+          let read : event_in p (length parts.line) (without_line_feed parts.line) ≡ Ok (Some x) = rw parts.bare_line (event_again p (length parts.line) l x (omega arith) (omega arith) said says.0) in
           let rest = follow xs (behind_line p (length parts.line) (Some x)) parts.rest parts.file are.1 says.1 (omega arith) (omega arith) in
           rw (parts.parts, read, rest) refl
       | inr none ↦ absurd (let empty = rw none.line at said in cc)
@@ -412,7 +412,7 @@ text_again events octets text =
           let size = parts.size in
           let short = text.short in
           let few = text.few in
-          rw (parts.parts, version_again (length parts.line) (unfed parts.line) (omega arith) parts.bare_line)
+          rw (parts.parts, version_again (length parts.line) (without_line_feed parts.line) (omega arith) parts.bare_line)
           (again_at text.lines events (second_line (length parts.line)) parts.rest parts.file text.are_lines text.say (omega arith) (omega arith))
       | inr none ↦ absurd (let empty = none.line in cc)
     ]

@@ -9,7 +9,7 @@ use Rattle.line_fields.specs.declared.fault.LineReason.TheVariants as reasons
 use Rattle.event_text.specs.declared.place.Place.{Place}
 use Rattle.event_text.specs.Events.{PlainEvent}
 use Rattle.line_fields.specs.Fields.{fault_at}
-use Rattle.input_lines.specs.Lines.{lines_of, unfed}
+use Rattle.input_lines.specs.Lines.{lines_of, without_line_feed}
 use Rattle.input_lines.specs.Limits.{overlong, unless}
 use Rattle.input_lines.proofs.FirstLines.{first_line}
 use Rattle.input_lines.proofs.LimitLaws.{IsPast, overlong_both, overlong_none, past, unless_ok}
@@ -18,15 +18,15 @@ use Rattle.event_text.specs.Input.{Contents, behind_line, contents_at, contents_
 -- ---- a line that passes the end of the file
 
 -- a line that passes the end is at fault, whatever follows
-past_line : (n : ℕ) (line : List ℕ) (others : List (List ℕ)) (p : Place) (h : IsPast p.before n) → p.before ≤ 67108864 → 67108865 ≤ p.before + n → n ≤ length line → n ≤ length (unfed line) → contents_at (line ∷ others) p ≡ faulty p.line h.fault
+past_line : (n : ℕ) (line : List ℕ) (others : List (List ℕ)) (p : Place) (h : IsPast p.before n) → p.before ≤ 67108864 → 67108865 ≤ p.before + n → n ≤ length line → n ≤ length (without_line_feed line) → contents_at (line ∷ others) p ≡ faulty p.line h.fault
 unfolding contents_at event_in
 past_line n line others p h within far_enough long unfed_long =
-    rw (overlong_both p.before n n (length line) (length (unfed line)) within far_enough far_enough long unfed_long, h.is) refl
+    rw (overlong_both p.before n n (length line) (length (without_line_feed line)) within far_enough far_enough long unfed_long, h.is) refl
 
-past_version : (n : ℕ) (line : List ℕ) (others : List (List ℕ)) (h : IsPast 0 n) → 67108865 ≤ n → n ≤ length line → n ≤ length (unfed line) → contents_in (line ∷ others) ≡ faulty 1 h.fault
+past_version : (n : ℕ) (line : List ℕ) (others : List (List ℕ)) (h : IsPast 0 n) → 67108865 ≤ n → n ≤ length line → n ≤ length (without_line_feed line) → contents_in (line ∷ others) ≡ faulty 1 h.fault
 unfolding version_in
 past_version n line others h far_enough long unfed_long =
-    rw (overlong_both 0 n n (length line) (length (unfed line)) (omega arith) (omega arith) (omega arith) long unfed_long, h.is) refl
+    rw (overlong_both 0 n n (length line) (length (without_line_feed line)) (omega arith) (omega arith) (omega arith) long unfed_long, h.is) refl
 
 -- ---- a line that is read
 
@@ -46,7 +46,7 @@ on_same line (Ok x) f g h = ap (with_events x) (h x refl)
 step : (line : List ℕ) (ls ms : List (List ℕ)) (p : Place) → ((event : Option (Moment × PlainEvent)) → p.before + length line ≤ 67108864 → contents_at ls (behind_line p (length line) event) ≡ contents_at ms (behind_line p (length line) event)) → contents_at (line ∷ ls) p ≡ contents_at (line ∷ ms) p
 unfolding contents_at
 step line ls ms p h =
-    on_same p.line (event_in p (length line) (unfed line)) _ _ (λ x e. h x (read_within p (length line) (unfed line) x e))
+    on_same p.line (event_in p (length line) (without_line_feed line)) _ _ (λ x e. h x (read_within p (length line) (without_line_feed line) x e))
 
 at_front : (fuel : ℕ) (a b : List ℕ) (p : Place) → length a ≤ fuel → p.before ≤ 67108864 → 67108865 ≤ p.before + length a → contents_at (lines_of (a ++ b)) p ≡ contents_at (lines_of a) p
 at_front zero a b p small within far_enough = absurd (omega arith)
@@ -85,8 +85,8 @@ contents_front (c ∷ cs) more far_enough =
           let size : length a ≡ length h.line + length h.rest = ap length h.parts ∙ length-append h.line h.rest in
           let whole : lines_of a ≡ h.line ∷ lines_of h.rest = ap lines_of h.parts ∙ h.first h.rest in
           let longer : lines_of (a ++ more) ≡ h.line ∷ lines_of (h.rest ++ more) = ap lines_of (ap (λ (t : List ℕ). t ++ more) h.parts ∙ append_assoc h.line h.rest more) ∙ h.first (h.rest ++ more) in
-          rw (longer, whole) (on_version_same (version_in (length h.line) (unfed h.line)) _ _ (λ u e.
-          at_front (length h.rest) h.rest more (second_line (length h.line)) (omega arith) (version_within (length h.line) (unfed h.line) u e) (omega arith)))
+          rw (longer, whole) (on_version_same (version_in (length h.line) (without_line_feed h.line)) _ _ (λ u e.
+          at_front (length h.rest) h.rest more (second_line (length h.line)) (omega arith) (version_within (length h.line) (without_line_feed h.line) u e) (omega arith)))
       | inr h ↦
           let a = c ∷ cs in
           let x = h more in

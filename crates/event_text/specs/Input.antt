@@ -6,7 +6,7 @@ use Rattle.line_fields.specs.declared.fault.LineFault.{LineFault}
 use Rattle.line_fields.specs.declared.fault.LineReason.TheVariants as reasons
 use Rattle.event_text.specs.declared.place.InputFault.{InputFault}
 use Rattle.event_text.specs.declared.place.Place.{Place}
-use Rattle.input_lines.specs.Lines.{is_passed, lines_of, unfed}
+use Rattle.input_lines.specs.Lines.{is_passed, lines_of, without_line_feed}
 use Rattle.input_lines.specs.Limits.{Left, overlong, unless}
 use Rattle.event_text.specs.declared.event.Event.{Event}
 use Rattle.event_text.specs.Events.{PlainEvent, plain}
@@ -63,7 +63,7 @@ on_line line (Ok event) rest = with_events event (rest event)
 -- what lines say from a place on
 unfoldable pub contents_at : List (List ℕ) → Place → Contents
 contents_at [] p = record { events = []; fault = None }
-contents_at (line ∷ lines) p = on_line p.line (event_in p (length line) (unfed line)) (λ event. contents_at lines (behind_line p (length line) event))
+contents_at (line ∷ lines) p = on_line p.line (event_in p (length line) (without_line_feed line)) (λ event. contents_at lines (behind_line p (length line) event))
 
 -- the version line, which is first
 unfoldable pub version_in : ℕ → List ℕ → Result Unit LineFault
@@ -79,7 +79,7 @@ second_line octets = record { line = 2; before = octets; count = 0; last = recor
 
 abbrev pub contents_in : List (List ℕ) → Contents
 contents_in [] = faulty 1 (fault_at 1 reasons.Missing)
-contents_in (line ∷ lines) = on_version (version_in (length line) (unfed line)) (contents_at lines (second_line (length line)))
+contents_in (line ∷ lines) = on_version (version_in (length line) (without_line_feed line)) (contents_at lines (second_line (length line)))
 
 -- What an input says. Its first line is `ha 1`, and each other line that is not passed over is an event.
 abbrev pub contents_of : List ℕ → Contents

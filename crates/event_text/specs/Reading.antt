@@ -10,7 +10,7 @@ use Rattle.keeper_book.specs.Records.{sealing_key_octets}
 use Rattle.line_fields.specs.declared.fault.LineReason.{LineReason}
 use Rattle.line_fields.specs.declared.fault.LineReason.TheVariants as reasons
 use Rattle.line_fields.specs.declared.fault.LineFault.{LineFault}
-use Rattle.line_fields.specs.Words.{Spot, words_of}
+use Rattle.line_fields.specs.Words.{Cursor, words_of}
 use Rattle.line_fields.specs.Numbers.{number_of}
 use Rattle.line_fields.specs.Octets.{esp_spi_of, octet_of, sized, spi_of}
 use Rattle.line_fields.specs.Identities.{domain_name_of, identity_of}
@@ -22,7 +22,7 @@ use Rattle.event_text.specs.EventFields.{medium_of, member_of, party_of, ticket_
 abbrev pub sealing_key_of : KeySize → List ℕ → Result (List ℕ) LineReason
 sealing_key_of size = sized (sealing_key_octets size) (sealing_key_octets size)
 
-unfoldable pub sa_keys_at : KeySize → Spot → Result (SaKeys × Spot) LineFault
+unfoldable pub sa_keys_at : KeySize → Cursor → Result (SaKeys × Cursor) LineFault
 sa_keys_at size s = do
   sk_d ← field (sized 32 32) s
   sk_ei ← field (sealing_key_of size) sk_d.1
@@ -31,13 +31,13 @@ sa_keys_at size s = do
   sk_pr ← field (sized 32 32) sk_pi.1
   Ok (record { sk_d = sk_d.0; sk_ei = sk_ei.0; sk_er = sk_er.0; sk_pi = sk_pi.0; sk_pr = sk_pr.0 }, sk_pr.1)
 
-unfoldable pub child_keys_at : KeySize → Spot → Result (ChildKeys × Spot) LineFault
+unfoldable pub child_keys_at : KeySize → Cursor → Result (ChildKeys × Cursor) LineFault
 child_keys_at size s = do
   to_cluster ← field (sealing_key_of size) s
   to_peer ← field (sealing_key_of size) to_cluster.1
   Ok (record { to_cluster = to_cluster.0; to_peer = to_peer.0 }, to_peer.1)
 
-unfoldable pub starts_at : Spot → Result (Five × Spot) LineFault
+unfoldable pub starts_at : Cursor → Result (Five × Cursor) LineFault
 starts_at s = do
   esp_out ← field (number_of 0 (2 ^ 63)) s
   esp_in ← field (number_of 0 (2 ^ 63)) esp_out.1
@@ -48,7 +48,7 @@ starts_at s = do
 
 -- ---- the fields of each event
 
-unfoldable pub import_at : Spot → Result (PlainEvent × Spot) LineFault
+unfoldable pub import_at : Cursor → Result (PlainEvent × Cursor) LineFault
 import_at s = do
   spii ← field spi_of s
   spir ← field spi_of spii.1
@@ -74,29 +74,29 @@ import_at s = do
     starts.1,
   )
 
-unfoldable pub join_at : Spot → Result (PlainEvent × Spot) LineFault
+unfoldable pub join_at : Cursor → Result (PlainEvent × Cursor) LineFault
 join_at s = do
   fresh ← field (sized 24 24) s
   Ok (Join fresh.0, fresh.1)
 
-unfoldable pub own_at : Spot → Result (PlainEvent × Spot) LineFault
+unfoldable pub own_at : Cursor → Result (PlainEvent × Cursor) LineFault
 own_at s = do
   member ← field member_of s
   spir ← field spi_of member.1
   Ok (Own member.0 spir.0, spir.1)
 
-unfoldable pub draw_at : Spot → Result (PlainEvent × Spot) LineFault
+unfoldable pub draw_at : Cursor → Result (PlainEvent × Cursor) LineFault
 draw_at s = do
   member ← field member_of s
   spir ← field spi_of member.1
   Ok (Draw member.0 spir.0, spir.1)
 
-unfoldable pub crash_at : Spot → Result (PlainEvent × Spot) LineFault
+unfoldable pub crash_at : Cursor → Result (PlainEvent × Cursor) LineFault
 crash_at s = do
   member ← field member_of s
   Ok (Crash member.0, member.1)
 
-unfoldable pub cluster_at : Spot → Result (PlainEvent × Spot) LineFault
+unfoldable pub cluster_at : Cursor → Result (PlainEvent × Cursor) LineFault
 cluster_at s = do
   identity ← field domain_name_of s
   lifetime ← field (number_of 1 (2 ^ 32)) identity.1
@@ -104,20 +104,20 @@ cluster_at s = do
   ticket_key ← field ticket_key_of window.1
   Ok (Cluster identity.0 lifetime.0 window.0 ticket_key.0, ticket_key.1)
 
-unfoldable pub send_at : Spot → Result (PlainEvent × Spot) LineFault
+unfoldable pub send_at : Cursor → Result (PlainEvent × Cursor) LineFault
 send_at s = do
   from ← field party_of s
   spir ← field spi_of from.1
   payload ← field (sized 0 1400) spir.1
   Ok (Send from.0 spir.0 payload.0, payload.1)
 
-unfoldable pub deliver_at : Spot → Result (PlainEvent × Spot) LineFault
+unfoldable pub deliver_at : Cursor → Result (PlainEvent × Cursor) LineFault
 deliver_at s = do
   which ← field which_of s
   to ← field party_of which.1
   Ok (Deliver which.0 to.0, to.1)
 
-unfoldable pub alter_at : Spot → Result (PlainEvent × Spot) LineFault
+unfoldable pub alter_at : Cursor → Result (PlainEvent × Cursor) LineFault
 alter_at s = do
   which ← field which_of s
   to ← field party_of which.1
@@ -125,14 +125,14 @@ alter_at s = do
   octet ← field octet_of place.1
   Ok (Alter which.0 to.0 place.0 octet.0, octet.1)
 
-unfoldable pub cut_at : Spot → Result (PlainEvent × Spot) LineFault
+unfoldable pub cut_at : Cursor → Result (PlainEvent × Cursor) LineFault
 cut_at s = do
   which ← field which_of s
   to ← field party_of which.1
   keep ← field (number_of 0 (2 ^ 32)) to.1
   Ok (Cut which.0 to.0 keep.0, keep.1)
 
-unfoldable pub inject_at : Spot → Result (PlainEvent × Spot) LineFault
+unfoldable pub inject_at : Cursor → Result (PlainEvent × Cursor) LineFault
 inject_at s = do
   to ← field party_of s
   medium ← field medium_of to.1
@@ -140,7 +140,7 @@ inject_at s = do
   Ok (Inject to.0 medium.0 octets.0, octets.1)
 
 -- an event of datagrams that a word names, the word's column first
-unfoldable pub datagram_fields_at : ℕ → List ℕ → Spot → Result (PlainEvent × Spot) LineFault
+unfoldable pub datagram_fields_at : ℕ → List ℕ → Cursor → Result (PlainEvent × Cursor) LineFault
 datagram_fields_at c w s =
     if bytes_eq w (codes "send") then send_at s
     else if bytes_eq w (codes "deliver") then deliver_at s
@@ -150,7 +150,7 @@ datagram_fields_at c w s =
     else Err (fault_at c reasons.Word)
 
 -- the event that a word names, the word's column first
-unfoldable pub fields_at : ℕ → List ℕ → Spot → Result (PlainEvent × Spot) LineFault
+unfoldable pub fields_at : ℕ → List ℕ → Cursor → Result (PlainEvent × Cursor) LineFault
 fields_at c w s =
     if bytes_eq w (codes "cluster") then cluster_at s
     else if bytes_eq w (codes "import") then import_at s
@@ -160,23 +160,23 @@ fields_at c w s =
     else if bytes_eq w (codes "crash") then crash_at s
     else datagram_fields_at c w s
 
-unfoldable pub event_at : Spot → Result (PlainEvent × Spot) LineFault
+unfoldable pub event_at : Cursor → Result (PlainEvent × Cursor) LineFault
 event_at s = do
   w ← word_at s
   fields_at s.column w.0 w.1
 
 -- ---- a line
 
-abbrev pub not_before : ℕ → ℕ → ℕ × Spot → Result (ℕ × Spot) LineFault
+abbrev pub not_before : ℕ → ℕ → ℕ × Cursor → Result (ℕ × Cursor) LineFault
 not_before c last n = if nat_lt n.0 last then Err (fault_at c reasons.ClockBack) else Ok n
 
 -- a moment in seconds, which is not before the last one
-unfoldable pub moment_at : ℕ → Spot → Result (ℕ × Spot) LineFault
+unfoldable pub moment_at : ℕ → Cursor → Result (ℕ × Cursor) LineFault
 moment_at last s = do
   n ← field (number_of 0 (2 ^ 63)) s
   not_before s.column last n
 
-unfoldable pub told_at : ℕ → Spot → Result (Moment × PlainEvent) LineFault
+unfoldable pub told_at : ℕ → Cursor → Result (Moment × PlainEvent) LineFault
 told_at last s = do
   seconds ← moment_at last s
   event ← event_at seconds.1

@@ -45,9 +45,9 @@ pub struct MemorySource {
 
 impl Model for MemorySource {
     ghost use Rattle.std.specs.Prelude.{◌<◌, ◌≤◌, length, drop};
-    ghost use Rattle.ha_base.specs.MemoryStreams.{Feed};
+    ghost use Rattle.ha_base.specs.MemoryStreams.{SourceState};
 
-    ghost Value = { Feed };
+    ghost Value = { SourceState };
 
     ghost view = { λ s. record {
       left = drop s.at s.octets.octets;
@@ -123,9 +123,9 @@ pub struct MemorySink {
 
 impl Model for MemorySink {
     ghost use Rattle.std.specs.Prelude.{◌<◌, ◌≤◌};
-    ghost use Rattle.ha_base.specs.MemoryStreams.{Tray};
+    ghost use Rattle.ha_base.specs.MemoryStreams.{SinkState};
 
-    ghost Value = { Tray };
+    ghost Value = { SinkState };
 
     ghost view = { λ s. record {
       written = s.octets.octets;

@@ -1,7 +1,7 @@
 -- Whether octets begin with a whole line, whatever follows them.
 use Rattle.std.proofs.Common.{◌≡◌, ℕ, ◌<◌, ◌≤◌, false, eqb, List, [], ◌∷◌, ◌++◌, length, refl, ap, arith, inl, inr, ◌⊎◌}
 use Rattle.std.proofs.lemmas.Bool.Decides.{eqb_tells}
-use Rattle.input_lines.specs.Lines.{lines_of, unfed}
+use Rattle.input_lines.specs.Lines.{lines_of, without_line_feed}
 
 -- the octets begin with a whole line
 pub record HasLine (a : List ℕ) : Type 0 where
@@ -16,7 +16,7 @@ pub record BeginsLine (a b : List ℕ) : Type 0 where
   pub more : List ℕ
   pub others : List (List ℕ)
   pub first : lines_of (a ++ b) ≡ (a ++ more) ∷ others
-  pub long : length a ≤ length (unfed (a ++ more))
+  pub long : length a ≤ length (without_line_feed (a ++ more))
 
 -- the first line, with an octet before it
 begins : (c : ℕ) (bs : List ℕ) → eqb c 10 ≡ false → BeginsLine (c ∷ []) bs

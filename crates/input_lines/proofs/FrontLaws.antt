@@ -3,7 +3,7 @@ use Rattle.std.proofs.Common.{◌≡◌, ◌≢◌, ℕ, zero, suc, ◌+◌, ◌
 use Rattle.std.proofs.lemmas.Bool.{ne_eqb}
 use Rattle.std.proofs.Math.Seq.{drop-length}
 use Rattle.std.proofs.lemmas.List.{take_all, take_rest}
-use Rattle.input_lines.specs.Lines.{lines_of, unfed}
+use Rattle.input_lines.specs.Lines.{lines_of, without_line_feed}
 
 -- an input is parted behind its first line feed
 lines_split : (octets : List ℕ) (n : ℕ) → n < length octets → ((k : ℕ) → k < n → get_or octets k 0 ≢ 10) → get_or octets n 0 ≡ 10 → lines_of octets ≡ take (n + 1) octets ∷ lines_of (drop (n + 1) octets)
@@ -26,7 +26,7 @@ lines_whole (c ∷ d ∷ cs) some before =
     let other = ne_eqb c 10 (before 0 (omega arith)) in
     rw (other, rest) refl
 
-pub unfed_split : (octets : List ℕ) (n : ℕ) → n < length octets → ((k : ℕ) → k < n → get_or octets k 0 ≢ 10) → get_or octets n 0 ≡ 10 → unfed (take (n + 1) octets) ≡ take n octets
+pub unfed_split : (octets : List ℕ) (n : ℕ) → n < length octets → ((k : ℕ) → k < n → get_or octets k 0 ≢ 10) → get_or octets n 0 ≡ 10 → without_line_feed (take (n + 1) octets) ≡ take n octets
 unfed_split [] n lt before found = absurd (omega arith)
 unfed_split (c ∷ cs) zero lt before found = rw found refl
 unfed_split (c ∷ cs) (suc n) lt before found =
@@ -35,7 +35,7 @@ unfed_split (c ∷ cs) (suc n) lt before found =
     let next : suc n + 1 ≡ suc (n + 1) = omega arith in
     rw (next, other, rest) refl
 
-pub unfed_whole : (octets : List ℕ) → ((k : ℕ) → k < length octets → get_or octets k 0 ≢ 10) → unfed octets ≡ octets
+pub unfed_whole : (octets : List ℕ) → ((k : ℕ) → k < length octets → get_or octets k 0 ≢ 10) → without_line_feed octets ≡ octets
 unfed_whole [] before = refl
 unfed_whole (c ∷ cs) before =
     rw (ne_eqb c 10 (before 0 (omega arith)), unfed_whole cs (λ k h. before (suc k) (omega arith))) refl
@@ -53,7 +53,7 @@ front_whole octets n some e before =
     let all = take_all n octets (omega arith) in
     rw (nothing_behind octets n e, all) (lines_whole octets some (λ k h. before k (omega arith)))
 
-pub unfed_front : (octets : List ℕ) (n : ℕ) → n ≡ length octets → ((k : ℕ) → k < n → get_or octets k 0 ≢ 10) → unfed (take n octets) ≡ octets
+pub unfed_front : (octets : List ℕ) (n : ℕ) → n ≡ length octets → ((k : ℕ) → k < n → get_or octets k 0 ≢ 10) → without_line_feed (take n octets) ≡ octets
 unfed_front octets n e before =
     let all = take_all n octets (omega arith) in
     rw all (unfed_whole octets (λ k h. before k (omega arith)))

@@ -57,7 +57,7 @@ overlong_none before octets size e =
 
 -- a line that is measured and passes is short
 pub short_line : (before octets size : ℕ) → size ≤ octets → overlong before octets size ≡ None → size ≤ 16384
-short_line before octets size fed e =
+short_line before octets size with_line_feeds e =
     elim (cases_lt 16384 size) [
       | inl long ↦
           elim (cases_lt 67108864 (before + octets)) [

@@ -4,13 +4,13 @@ use Rattle.std.specs.List.{list_all}
 use Rattle.line_fields.specs.Words.{onto}
 
 -- lines, each with a line feed
-abbrev pub fed : List (List ℕ) → List ℕ
-fed [] = []
-fed (line ∷ lines) = line ++ (10 ∷ fed lines)
+abbrev pub with_line_feeds : List (List ℕ) → List ℕ
+with_line_feeds [] = []
+with_line_feeds (line ∷ lines) = line ++ (10 ∷ with_line_feeds lines)
 
 -- The octets are these lines. The last may lack its line feed.
 abbrev pub IsFile : List (List ℕ) → List ℕ → Type 0
-IsFile lines octets = (octets ≡ fed lines) ⊎ (octets ++ 10 ∷ [] ≡ fed lines)
+IsFile lines octets = (octets ≡ with_line_feeds lines) ⊎ (octets ++ 10 ∷ [] ≡ with_line_feeds lines)
 
 abbrev pub no_feed : ℕ → Bool
 no_feed c = not (c == 10)
@@ -34,6 +34,6 @@ lines_of [] = []
 lines_of (c ∷ cs) = if c == 10 then (c ∷ []) ∷ lines_of cs else onto c (lines_of cs)
 
 -- a line without its line feed
-abbrev pub unfed : List ℕ → List ℕ
-unfed [] = []
-unfed (c ∷ cs) = if c == 10 then [] else c ∷ unfed cs
+abbrev pub without_line_feed : List ℕ → List ℕ
+without_line_feed [] = []
+without_line_feed (c ∷ cs) = if c == 10 then [] else c ∷ without_line_feed cs

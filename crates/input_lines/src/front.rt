@@ -1,7 +1,7 @@
 //! The first line of an input.
 
 ghost use Rattle.std.specs.Prelude.{◌≡◌, ◌≤◌, ◌<◌, ◌∷◌, length, take};
-ghost use Rattle.input_lines.specs.Lines.{is_passed, lines_of, unfed};
+ghost use Rattle.input_lines.specs.Lines.{is_passed, lines_of, without_line_feed};
 
 use line_fields::octets_before;
 
@@ -20,8 +20,8 @@ pub struct Front<'a> {
 pub fn front_of(octets: &[u8]) -> Front<'_>
     requires { 0 < length octets.now }
     ensures lines { lines_of octets.now ≡ take result.octets octets.now ∷ lines_of result.rest.now }
-    ensures line { unfed (take result.octets octets.now) ≡ result.line.now }
-    ensures fed { length result.line.now ≤ result.octets }
+    ensures line { without_line_feed (take result.octets octets.now) ≡ result.line.now }
+    ensures line_within { length result.line.now ≤ result.octets }
     ensures some { 0 < result.octets }
     ensures within { result.octets ≤ length octets.now }
 {

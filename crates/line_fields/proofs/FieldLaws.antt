@@ -17,7 +17,7 @@ use Rattle.ha_base.specs.declared.key_material.KeySize.TheVariants.{Bits128, Bit
 use Rattle.line_fields.specs.declared.fault.LineFault.{LineFault}
 use Rattle.line_fields.specs.declared.fault.LineReason.{LineReason}
 use Rattle.line_fields.specs.declared.fault.LineReason.TheVariants as reasons
-use Rattle.line_fields.specs.Words.{Spot}
+use Rattle.line_fields.specs.Words.{Cursor}
 use Rattle.line_fields.specs.Numbers.{begins_well, is_numeral, numeral_of, in_range, number_of}
 use Rattle.line_fields.specs.Octets.{IsOctets, dash, decoded, octet_in, octet_of, esp_spi_of, esp_spi_text, is_hex, octets_in, octets_text, size_of, sized, spells_octets, spi_of, spi_text}
 use Rattle.line_fields.specs.Identities.{Form, IsIdentity, IsOfForm, behind_prefix, domain_name_of, fqdn, identity_in, identity_of, identity_text, ipv4, ipv6, key, mail, of_form, prefix_of}
@@ -311,16 +311,16 @@ column_behind c [] = c
 column_behind c (w ∷ ws) = column_behind (c + length w + 1) ws
 
 -- a reader of one word or several: its words, and what it may give
-pub record IsReader {A : Type 0} (read : Spot → Result (A × Spot) LineFault) (text : A → List (List ℕ)) (fits : A → Type 0) : Type 0 where
-  pub takes : (s : Spot) (x : A) (t : Spot) → read s ≡ Ok (x, t) → (s.words ≡ text x ++ t.words) × fits x
+pub record IsReader {A : Type 0} (read : Cursor → Result (A × Cursor) LineFault) (text : A → List (List ℕ)) (fits : A → Type 0) : Type 0 where
+  pub takes : (s : Cursor) (x : A) (t : Cursor) → read s ≡ Ok (x, t) → (s.words ≡ text x ++ t.words) × fits x
   pub again : (x : A) → fits x → (c : ℕ) (ws : List (List ℕ)) → read (record { column = c; words = text x ++ ws }) ≡ Ok (x, record { column = column_behind c (text x); words = ws })
 
-walk_on : {A B P : Type 0} {read : Spot → Result (A × Spot) LineFault} {text : A → List (List ℕ)} {fits : A → Type 0} → IsReader read text fits → (s : Spot) (r : Result (A × Spot) LineFault) → read s ≡ r → (k : A × Spot → Result B LineFault) (y : B) → (r >>= k) ≡ Ok y → ((x : A) (t : Spot) → s.words ≡ text x ++ t.words → fits x → k (x, t) ≡ Ok y → P) → P
+walk_on : {A B P : Type 0} {read : Cursor → Result (A × Cursor) LineFault} {text : A → List (List ℕ)} {fits : A → Type 0} → IsReader read text fits → (s : Cursor) (r : Result (A × Cursor) LineFault) → read s ≡ r → (k : A × Cursor → Result B LineFault) (y : B) → (r >>= k) ≡ Ok y → ((x : A) (t : Cursor) → s.words ≡ text x ++ t.words → fits x → k (x, t) ≡ Ok y → P) → P
 walk_on is s (Err f) ran k y e go = absurd cc
 walk_on is s (Ok p) ran k y e go = let took = is.takes s p.0 p.1 ran in go p.0 p.1 took.0 took.1 e
 
 -- a reader was run, and then the rest
-pub walk : {A B P : Type 0} {read : Spot → Result (A × Spot) LineFault} {text : A → List (List ℕ)} {fits : A → Type 0} → IsReader read text fits → (s : Spot) (k : A × Spot → Result B LineFault) (y : B) → (read s >>= k) ≡ Ok y → ((x : A) (t : Spot) → s.words ≡ text x ++ t.words → fits x → k (x, t) ≡ Ok y → P) → P
+pub walk : {A B P : Type 0} {read : Cursor → Result (A × Cursor) LineFault} {text : A → List (List ℕ)} {fits : A → Type 0} → IsReader read text fits → (s : Cursor) (k : A × Cursor → Result B LineFault) (y : B) → (read s >>= k) ≡ Ok y → ((x : A) (t : Cursor) → s.words ≡ text x ++ t.words → fits x → k (x, t) ≡ Ok y → P) → P
 walk {read = read} is s k y e go = walk_on is s (read s) refl k y e go
 
 located_is : {A : Type 0} (c : ℕ) (r : Result A LineReason) (x : A) → located c r ≡ Ok x → r ≡ Ok x
@@ -331,11 +331,11 @@ bind_ok : {A B : Type 0} (r : Result A LineFault) (f : A → Result B LineFault)
 bind_ok (Ok x) f y e = (x, refl, e)
 bind_ok (Err d) f y e = absurd cc
 
-word_takes : (c : ℕ) (ws : List (List ℕ)) (w : List ℕ) (t : Spot) → word_in c ws ≡ Ok (w, t) → ws ≡ w ∷ t.words
+word_takes : (c : ℕ) (ws : List (List ℕ)) (w : List ℕ) (t : Cursor) → word_in c ws ≡ Ok (w, t) → ws ≡ w ∷ t.words
 word_takes c [] w t e = absurd cc
-word_takes c (v ∷ vs) w t e = let same = ok_is (v, behind c v vs) (w, t) e in ap (λ (p : List ℕ × Spot). p.0 ∷ p.1.words) same
+word_takes c (v ∷ vs) w t e = let same = ok_is (v, behind c v vs) (w, t) e in ap (λ (p : List ℕ × Cursor). p.0 ∷ p.1.words) same
 
-field_takes : {A : Type 0} {read : List ℕ → Result A LineReason} {text : A → List ℕ} {fits : A → Type 0} → IsField read text fits → (s : Spot) (x : A) (t : Spot) → field read s ≡ Ok (x, t) → (s.words ≡ text x ∷ t.words) × fits x
+field_takes : {A : Type 0} {read : List ℕ → Result A LineReason} {text : A → List ℕ} {fits : A → Type 0} → IsField read text fits → (s : Cursor) (x : A) (t : Cursor) → field read s ≡ Ok (x, t) → (s.words ≡ text x ∷ t.words) × fits x
 unfolding field
 field_takes {read = read} {text = text} {fits = fits} is s x t e =
     let a = bind_ok (word_at s) (λ w. located s.column (read w.0) >>= λ v. Ok (v, w.1)) (x, t) e in
@@ -343,7 +343,7 @@ field_takes {read = read} {text = text} {fits = fits} is s x t e =
     let same = ok_is (b.0, a.0.1) (x, t) b.2 in
     let took = is.takes a.0.0 b.0 (located_is s.column (read a.0.0) b.0 b.1) in
     let word = word_takes s.column s.words a.0.0 a.0.1 a.1 in
-    subst (λ (p : _ × Spot). (s.words ≡ text p.0 ∷ p.1.words) × fits p.0) same (word ∙ ap (λ (v : List ℕ). v ∷ a.0.1.words) took.0, took.1)
+    subst (λ (p : _ × Cursor). (s.words ≡ text p.0 ∷ p.1.words) × fits p.0) same (word ∙ ap (λ (v : List ℕ). v ∷ a.0.1.words) took.0, took.1)
 
 pub reader : {A : Type 0} {read : List ℕ → Result A LineReason} {text : A → List ℕ} {fits : A → Type 0} → IsField read text fits → IsReader (field read) (λ x. text x ∷ []) fits
 unfolding field

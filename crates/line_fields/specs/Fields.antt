@@ -8,7 +8,7 @@ use Rattle.line_fields.specs.declared.fault.LineReason.TheVariants as reasons
 use Rattle.line_fields.specs.declared.fault.LineFault.{LineFault}
 use Rattle.line_fields.specs.declared.fault.Failure.{Failure}
 use Rattle.line_fields.specs.declared.fault.Failure.TheVariants.{OutOfMemory, At}
-use Rattle.line_fields.specs.Words.{Spot}
+use Rattle.line_fields.specs.Words.{Cursor}
 
 infixl 10 ◌>>=◌
 abbrev pub ◌>>=◌ : {A B : Type 0} → Result A LineFault → (A → Result B LineFault) → Result B LineFault
@@ -24,20 +24,20 @@ Fails OutOfMemory read = Unit {0}
 Fails (At f) read = read ≡ Err f
 
 -- What a reader gave, seen by view, and what it left are what reading gives, unless memory ran out.
-abbrev pub Gives : {X Y : Type 0} → (X → Y) → Result X Failure → Spot → Result (Y × Spot) LineFault → Type 0
+abbrev pub Gives : {X Y : Type 0} → (X → Y) → Result X Failure → Cursor → Result (Y × Cursor) LineFault → Type 0
 Gives view (Ok x) new read = read ≡ Ok (view x, new)
 Gives view (Err e) new read = Fails e read
 
 -- what is left behind a word
-abbrev pub behind : ℕ → List ℕ → List (List ℕ) → Spot
+abbrev pub behind : ℕ → List ℕ → List (List ℕ) → Cursor
 behind c w ws = record { column = c + length w + 1; words = ws }
 
-abbrev pub word_in : ℕ → List (List ℕ) → Result (List ℕ × Spot) LineFault
+abbrev pub word_in : ℕ → List (List ℕ) → Result (List ℕ × Cursor) LineFault
 word_in c [] = Err (fault_at c reasons.Missing)
 word_in c (w ∷ ws) = Ok (w, behind c w ws)
 
 -- the next word
-abbrev pub word_at : Spot → Result (List ℕ × Spot) LineFault
+abbrev pub word_at : Cursor → Result (List ℕ × Cursor) LineFault
 word_at s = word_in s.column s.words
 
 abbrev pub end_in : ℕ → List (List ℕ) → Result Unit LineFault
@@ -45,7 +45,7 @@ end_in c [] = Ok tt
 end_in c (w ∷ ws) = Err (fault_at c reasons.Extra)
 
 -- no word is left
-abbrev pub ended_at : Spot → Result Unit LineFault
+abbrev pub ended_at : Cursor → Result Unit LineFault
 ended_at s = end_in s.column s.words
 
 abbrev pub located : {A : Type 0} → ℕ → Result A LineReason → Result A LineFault
@@ -53,7 +53,7 @@ located c (Ok x) = Ok x
 located c (Err r) = Err (fault_at c r)
 
 -- A field is one word.
-unfoldable pub field : {A : Type 0} → (List ℕ → Result A LineReason) → Spot → Result (A × Spot) LineFault
+unfoldable pub field : {A : Type 0} → (List ℕ → Result A LineReason) → Cursor → Result (A × Cursor) LineFault
 field read s = do
   w ← word_at s
   x ← located s.column (read w.0)

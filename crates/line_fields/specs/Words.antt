@@ -40,6 +40,6 @@ abbrev pub octets_left : Option (Bor (List ℕ)) → ℕ
 octets_left rest = octets_in (option_copied rest)
 
 -- what is left of a line: its words, and the column of the first of them
-pub record Spot : Type 0 where
+pub record Cursor : Type 0 where
   pub column : ℕ
   pub words : List (List ℕ)

@@ -1,7 +1,7 @@
 //! A line as words, parted by single spaces.
 
 ghost use Rattle.std.specs.Prelude.{◌≡◌, ◌≤◌, ◌<◌, ◌+◌, ◌∷◌, length, MatchResult};
-ghost use Rattle.line_fields.specs.Words.{Spot, words_of, words_from, octets_left};
+ghost use Rattle.line_fields.specs.Words.{Cursor, words_of, words_from, octets_left};
 ghost use Rattle.line_fields.specs.Fields.{Gives, Fails, word_at, ended_at};
 
 use crate::fault::{Failure, LineFault, LineReason};
@@ -30,7 +30,7 @@ pub struct Words<'a> {
 }
 
 impl<'a> Model for Words<'a> {
-    ghost Value = { Spot };
+    ghost Value = { Cursor };
 
     ghost view = { λ w. record { column = w.column; words = words_from w.rest } };
 

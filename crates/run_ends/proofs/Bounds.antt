@@ -27,7 +27,7 @@ use Rattle.replay_set.specs.Window.{IsWindowSize}
 use Rattle.turn_rules.specs.Datagrams.{PlainDatagram, altered, arrives, changed, cut, datagram_at, plain_datagram}
 use Rattle.turn_rules.specs.Ends.{is_of_run}
 use Rattle.turn_rules.specs.Packets.{Outbound, Sends}
-use Rattle.run_ends.specs.Casts.{IsShort}
+use Rattle.run_ends.specs.Parties.{IsShort}
 
 pub fits_send : (from : Party) (spir : ℕ) (payload : WithRoom) → Fits (plain (event.Send from spir payload)) → length payload.octets ≤ 1400
 fits_send from spir payload fits = fits.2.most_size

@@ -45,13 +45,13 @@ use Rattle.turn_rules.specs.Fits.{is_importable}
 use Rattle.turn_rules.specs.Held.{held_after, held_at, received, window_in}
 use Rattle.turn_rules.specs.Packets.{Drops, IsVerdictOf}
 use Rattle.turn_rules.specs.Peers.{admits, entered}
-use Rattle.turn_rules.specs.Scenes.{ends, is_join}
+use Rattle.turn_rules.specs.States.{ends, is_join}
 use Rattle.turn_rules.specs.Slots.{PeerReceives, PeerSends, Slot, SlotReceives, SlotSends, SlotTakes, entered_slot, first_slot, has_spir, peer_counter, receives_at, records, sent, slot_outbound, slot_after, slots_after, with_slot}
 use Rattle.turn_rules.specs.Steps.{Says}
-use Rattle.run_ends.specs.Casts.{Acts, AreSeated, Crashes, Delivers, DrawsAs, EntersAs, HolderTakes, IsMember, IsShort, JoinsAs, PeerActs, PeerTakes, Rejecting, Rejects, SendsAs, SendsBy, Standing, TakenBy, TakesOverAs, WhereUpAs, has_member, held_in, imported_as, nobody, seat}
+use Rattle.run_ends.specs.Parties.{Acts, AreInPlace, Crashes, Delivers, DrawsAs, EntersAs, HolderTakes, IsMember, IsShort, JoinsAs, PeerActs, PeerTakes, Rejecting, Rejects, SendsAs, SendsBy, EndsHeld, TakenBy, TakesOverAs, WhereUpAs, has_member, held_in, imported_as, nobody, holder_at}
 use Rattle.run_ends.proofs.Bounds.{arrives-run, sends-short}
 use Rattle.run_ends.proofs.FitLaws.{HasJoined, has_joined_by, number_of_seat}
-use Rattle.run_ends.proofs.MirrorLaws.{Continues}
+use Rattle.run_ends.proofs.AgreementLaws.{Continues}
 use Rattle.run_ends.proofs.ReceiveLaws.{receives-fit, receives-held, receives-said}
 use Rattle.run_ends.proofs.SendLaws.{sends-gives, sends-held, sends-said}
 
@@ -106,7 +106,7 @@ slots_kept e v (slot ∷ slots) s r =
     let here : slot ≡ slot_after e v slot = rw (s slot.sa.spir, r slot.sa.spir) refl in
     λ i. here i ∷ slots_kept e v slots s r i
 
-rejecting_elim : {P C : Type 0} (b : Bool) (s : Standing) (why : Refusal) (calls : List Call) (step : Step) (new : Standing) → (Rejects s why calls step new → C) → (b ≡ false → P → C) → Rejecting b s why calls step new P → C
+rejecting_elim : {P C : Type 0} (b : Bool) (s : EndsHeld) (why : Refusal) (calls : List Call) (step : Step) (new : EndsHeld) → (Rejects s why calls step new → C) → (b ≡ false → P → C) → Rejecting b s why calls step new P → C
 rejecting_elim true s why calls step new f g r = f r
 rejecting_elim false s why calls step new f g r = g refl r
 
@@ -124,7 +124,7 @@ enters_elim sa [] v f g a = absurd a
 enters_elim sa (call ∷ []) v f g a = admits_elim (seen call) v f g a.1
 enters_elim sa (call ∷ other ∷ more) v f g a = absurd a
 
-module _ (past : List Turn) (now : Moment) (s : Standing) (seated : AreSeated s.window s.members) (calls : List Call) (step : Step) (new : Standing) where
+module _ (past : List Turn) (now : Moment) (s : EndsHeld) (in_place : AreInPlace s.window s.members) (calls : List Call) (step : Step) (new : EndsHeld) where
   abbrev pub turn_of : Event → Turn
   turn_of e = record { moment = now; event = e; calls = calls; step = step }
 
@@ -144,7 +144,7 @@ module _ (past : List Turn) (now : Moment) (s : Standing) (seated : AreSeated s.
     others = λ k spir t. refl;
     by_peer = by_peer;
     not_peer = λ t. refl;
-    seated = seated;
+    in_place = in_place;
     short = quiet_short quiet;
   }
 
@@ -182,7 +182,7 @@ module _ (past : List Turn) (now : Moment) (s : Standing) (seated : AreSeated s.
       others = λ k spir t. refl;
       by_peer = λ t. rw said (ap (λ slots. slots ++ entered_slot s.window sa ∷ []) (slots_kept (event.Import sa) out.Entered s.slots (λ spir. refl) (λ spir. refl)));
       not_peer = λ t. absurd (never (sym (ap (λ b. is_end Peer (if b then None else Some Peer)) (sym (ap is_refused_by_run said)) ∙ t)));
-      seated = seated;
+      in_place = in_place;
       short = quiet_short quiet;
     }
 
@@ -210,31 +210,31 @@ module _ (past : List Turn) (now : Moment) (s : Standing) (seated : AreSeated s.
     more = s.members ++ joiner ∷ []
 
     -- a place where no member stood
-    past_seat : (members : List (Option Holder)) (k : ℕ) → length members ≤ k → seat members k ≡ Some nobody
+    past_seat : (members : List (Option Holder)) (k : ℕ) → length members ≤ k → holder_at members k ≡ Some nobody
     past_seat members k l = get_or_past members k (Some nobody) l
 
-    left_seat : (k : ℕ) → k < length s.members → seat more k ≡ seat s.members k
+    left_seat : (k : ℕ) → k < length s.members → holder_at more k ≡ holder_at s.members k
     left_seat k l = get_or_append_left s.members (joiner ∷ []) (Some nobody) k l
 
-    new_seat : (k : ℕ) → k ≡ length s.members → seat more k ≡ joiner
+    new_seat : (k : ℕ) → k ≡ length s.members → holder_at more k ≡ joiner
     new_seat k e = get_or_at s.members joiner [] (Some nobody) k (sym e)
 
     counted : length more ≡ length s.members + 1
     counted = length-append s.members (joiner ∷ [])
 
-    joined_gone : (k : ℕ) → is_none (seat more k) ≡ is_none (seat s.members k)
+    joined_gone : (k : ℕ) → is_none (holder_at more k) ≡ is_none (holder_at s.members k)
     joined_gone k = ⊎_elim
         (λ b. ap is_none (left_seat k b))
         (λ b. by_place (k == length s.members) refl b)
         (cases_lt k (length s.members))
       where
-        by_place : (same : Bool) → (k == length s.members) ≡ same → length s.members ≤ k → is_none (seat more k) ≡ is_none (seat s.members k)
+        by_place : (same : Bool) → (k == length s.members) ≡ same → length s.members ≤ k → is_none (holder_at more k) ≡ is_none (holder_at s.members k)
         by_place true e b = ap is_none (new_seat k (eqb-true k (length s.members) e)) ∙ sym (ap is_none (past_seat s.members k b))
         by_place false e b = let apart = eqb-false k (length s.members) e in ap is_none (past_seat more k (omega (arith, counted, b, apart))) ∙ sym (ap is_none (past_seat s.members k b))
 
-    joined_seat : (k : ℕ) (holder : Holder) → k < length more → seat more k ≡ Some holder → IsMember (k + 1) s.window holder
+    joined_seat : (k : ℕ) (holder : Holder) → k < length more → holder_at more k ≡ Some holder → IsMember (k + 1) s.window holder
     joined_seat k holder l sits = ⊎_elim
-        (λ b. seated k holder b (sym (left_seat k b) ∙ sits))
+        (λ b. in_place k holder b (sym (left_seat k b) ∙ sits))
         (λ b.
         let e : k ≡ length s.members = omega (arith, l, counted, b) in
         let is : record { number = length s.members + 1; window = s.window; held = [] } ≡ holder = same_Some _ holder (sym (new_seat k e) ∙ sits) in
@@ -265,7 +265,7 @@ module _ (past : List Turn) (now : Moment) (s : Standing) (seated : AreSeated s.
               (cases_lt k (length s.members));
           by_peer = λ t. absurd (never (rw said at t));
           not_peer = λ t. refl;
-          seated = joined_seat;
+          in_place = joined_seat;
           short = quiet_short j.yields.says.quiet.gives;
         }
 
@@ -286,10 +286,10 @@ module _ (past : List Turn) (now : Moment) (s : Standing) (seated : AreSeated s.
     by_peer_not : is_by Peer (turn_of e) ≡ false
     by_peer_not = rw (said.heard, performs) refl
 
-    here : seat moved (member - 1) ≡ at
+    here : holder_at moved (member - 1) ≡ at
     here = get_or-set_same s.members (member - 1) at (Some nobody) (omega (arith, j.first, j.last))
 
-    there : (k : ℕ) → k ≢ member - 1 → seat moved k ≡ seat s.members k
+    there : (k : ℕ) → k ≢ member - 1 → holder_at moved k ≡ holder_at s.members k
     there k apart = get_or-set_other s.members (member - 1) k at (Some nobody) apart
 
     place_of : (k : ℕ) → k + 1 ≡ member → k ≡ member - 1
@@ -298,9 +298,9 @@ module _ (past : List Turn) (now : Moment) (s : Standing) (seated : AreSeated s.
     not_place : (k : ℕ) → (k + 1 == member) ≡ false → k ≢ member - 1
     not_place k e same = eqb-false (k + 1) member e (omega (arith, same, j.first))
 
-    member_moved : (ended : (k : ℕ) → is_none (seat moved k) ≡ (ends (k + 1) e step.verdict || is_none (seat s.members k)))
+    member_moved : (ended : (k : ℕ) → is_none (holder_at moved k) ≡ (ends (k + 1) e step.verdict || is_none (holder_at s.members k)))
         → (sits : (holder : Holder) → at ≡ Some holder → IsMember member s.window holder)
-        → (holds : (spir : ℕ) → is_none at ≡ false → held_in at spir ≡ held_after s.window spir e calls step.verdict (held_in (seat s.members (member - 1)) spir))
+        → (holds : (spir : ℕ) → is_none at ≡ false → held_in at spir ≡ held_after s.window spir e calls step.verdict (held_in (holder_at s.members (member - 1)) spir))
         → AllByRecursion IsShort (option_to_list (option_map plain_datagram step.gives))
         → Continues s (turn_of e) (record s { members = moved })
     member_moved ended sits holds short = record {
@@ -311,23 +311,23 @@ module _ (past : List Turn) (now : Moment) (s : Standing) (seated : AreSeated s.
       gone = ended;
       mine = λ k spir t up.
           let place : k ≡ member - 1 = place_of k (eqb-true (k + 1) member (sym (by_it (k + 1)) ∙ t)) in
-          let is : seat moved k ≡ at = ap (seat moved) place ∙ here in
+          let is : holder_at moved k ≡ at = ap (holder_at moved) place ∙ here in
           ap (λ (x : Option Holder). held_in x spir) is
           ∙ holds spir (ap is_none (sym is) ∙ up)
-          ∙ ap (λ p. held_after s.window spir e calls step.verdict (held_in (seat s.members p) spir)) (sym place);
+          ∙ ap (λ p. held_after s.window spir e calls step.verdict (held_in (holder_at s.members p) spir)) (sym place);
       others = λ k spir t. ap (λ (x : Option Holder). held_in x spir) (there k (not_place k (sym (by_it (k + 1)) ∙ t)));
       by_peer = λ t. absurd (never (sym by_peer_not ∙ t));
       not_peer = λ t. refl;
-      seated = λ k holder l is. moved_seat k holder (k == member - 1) refl (omega (arith, l, length-set s.members (member - 1) at)) is;
+      in_place = λ k holder l is. moved_seat k holder (k == member - 1) refl (omega (arith, l, length-set s.members (member - 1) at)) is;
       short = short;
     }
       where
-        moved_seat : (k : ℕ) (holder : Holder) (same : Bool) → (k == member - 1) ≡ same → k < length s.members → seat moved k ≡ Some holder → IsMember (k + 1) s.window holder
+        moved_seat : (k : ℕ) (holder : Holder) (same : Bool) → (k == member - 1) ≡ same → k < length s.members → holder_at moved k ≡ Some holder → IsMember (k + 1) s.window holder
         moved_seat k holder true t l is =
             let place : k ≡ member - 1 = eqb-true k (member - 1) t in
             let back : member ≡ k + 1 = omega (arith, place, j.first) in
-            subst (λ n. IsMember n s.window holder) back (sits holder (sym here ∙ ap (seat moved) (sym place) ∙ is))
-        moved_seat k holder false t l is = seated k holder l (sym (there k (eqb-false k (member - 1) t)) ∙ is)
+            subst (λ n. IsMember n s.window holder) back (sits holder (sym here ∙ ap (holder_at moved) (sym place) ∙ is))
+        moved_seat k holder false t l is = in_place k holder l (sym (there k (eqb-false k (member - 1) t)) ∙ is)
 
   -- a member that is up acts, and stays up
   module _ (e : Event) (member : ℕ) (j : HasJoined member s.members) (acting : Holder → Holder → Type 0) (a : Acts s member acting new) (said : IsOfMember step.verdict) (performs : performer_of e step.verdict ≡ Some (Member member))
@@ -336,35 +336,35 @@ module _ (past : List Turn) (now : Moment) (s : Standing) (seated : AreSeated s.
     abbrev acted : List (Option Holder)
     acted = set s.members (member - 1) (Some a.now)
 
-    acted_up : (k : ℕ) (same : Bool) → (k == member - 1) ≡ same → is_none (seat acted k) ≡ is_none (seat s.members k)
+    acted_up : (k : ℕ) (same : Bool) → (k == member - 1) ≡ same → is_none (holder_at acted k) ≡ is_none (holder_at s.members k)
     acted_up k true t =
         let place : k ≡ member - 1 = eqb-true k (member - 1) t in
-        ap (λ p. is_none (seat acted p)) place
+        ap (λ p. is_none (holder_at acted p)) place
         ∙ ap is_none (here e member j (Some a.now) said performs is_plain.unset)
         ∙ sym (ap is_none a.sits)
-        ∙ ap (λ p. is_none (seat s.members p)) (sym place)
+        ∙ ap (λ p. is_none (holder_at s.members p)) (sym place)
     acted_up k false t = ap is_none (there e member j (Some a.now) said performs is_plain.unset k (eqb-false k (member - 1) t))
 
     member_acted : Continues s (turn_of e) new
     member_acted =
-        let was = number_of_seat s member acting new seated j a in
+        let was = number_of_seat s member acting new in_place j a in
         subst (λ n. Continues s (turn_of e) n) (sym a.leaves)
         (member_moved e member j (Some a.now) said performs is_plain.unset
-        (λ k. acted_up k (k == member - 1) refl ∙ ap (λ b. b || is_none (seat s.members k)) (sym (is_plain.up (k + 1))))
+        (λ k. acted_up k (k == member - 1) refl ∙ ap (λ b. b || is_none (holder_at s.members k)) (sym (is_plain.up (k + 1))))
         (λ holder is. subst (IsMember member s.window) (same_Some a.now holder is) (record { number_is = a.number ∙ was.number_is; window_is = a.window ∙ was.window_is }))
         (λ spir up. holds spir ∙ ap (λ (x : Option Holder). held_after s.window spir e calls step.verdict (held_in x spir)) (sym a.sits))
         short)
 
   -- a member that is up does so, and else nothing is done
-  up_elim : {P : Type 0} (e : Event) (member : ℕ) → (HasJoined member s.members → is_none (seat s.members (member - 1)) ≡ false → P → Continues s (turn_of e) new) → WhereUpAs s member calls step new P → Continues s (turn_of e) new
+  up_elim : {P : Type 0} (e : Event) (member : ℕ) → (HasJoined member s.members → is_none (holder_at s.members (member - 1)) ≡ false → P → Continues s (turn_of e) new) → WhereUpAs s member calls step new P → Continues s (turn_of e) new
   up_elim e member f =
       rejecting_elim (not (has_member member s.members)) s refusal.NoMember calls step new (rejected e refusal.NoMember refl)
-      (λ b. rejecting_elim (is_none (seat s.members (member - 1))) s refusal.Down calls step new (rejected e refusal.Down refl)
+      (λ b. rejecting_elim (is_none (holder_at s.members (member - 1))) s refusal.Down calls step new (rejected e refusal.Down refl)
       (λ up. f (has_joined_by member s.members b) up))
 
   pub continues-own : (member spir : ℕ) → WhereUpAs s member calls step new (Acts s member (TakesOverAs spir calls step) new) → Continues s (turn_of (event.Own member spir)) new
   continues-own member spir = up_elim (event.Own member spir) member (λ j up a.
-      let was = number_of_seat s member (TakesOverAs spir calls step) new seated j a in
+      let was = number_of_seat s member (TakesOverAs spir calls step) new in_place j a in
       member_acted (event.Own member spir) member j (TakesOverAs spir calls step) a
       (takes_member spir a.was.number calls step.verdict (takes-fit a.was.window spir a.was.number a.was.held a.now.held calls step.verdict a.acts.0)) refl
       (record { unset = refl; none = refl; up = λ k. refl })
@@ -393,11 +393,11 @@ module _ (past : List Turn) (now : Moment) (s : Standing) (seated : AreSeated s.
       (quiet_short c.yields.says.quiet.gives)))
     where
       crashed : (j : HasJoined member s.members) (heard : IsOfMember step.verdict) (k : ℕ) (same : Bool) → (k == member - 1) ≡ same → step.verdict ≡ out.Down
-          → is_none (seat (set s.members (member - 1) None) k) ≡ (ends (k + 1) (event.Crash member) step.verdict || is_none (seat s.members k))
+          → is_none (holder_at (set s.members (member - 1) None) k) ≡ (ends (k + 1) (event.Crash member) step.verdict || is_none (holder_at s.members k))
       crashed j heard k true t said =
           let place : k ≡ member - 1 = eqb-true k (member - 1) t in
           let ended : (member == k + 1) ≡ true = eq-eqb member (k + 1) (omega (arith, place, j.first)) in
-          ap (λ p. is_none (seat (set s.members (member - 1) None) p)) place
+          ap (λ p. is_none (holder_at (set s.members (member - 1) None) p)) place
           ∙ ap is_none (here (event.Crash member) member j None heard refl refl)
           ∙ sym (rw (said, ended) refl)
       crashed j heard k false t said =
@@ -420,12 +420,12 @@ module _ (past : List Turn) (now : Moment) (s : Standing) (seated : AreSeated s.
         window = refl;
         unset = p.unset;
         count = rw said.no_join refl;
-        gone = λ k. ap (λ b. b || is_none (seat s.members k)) (sym (p.up (k + 1)));
+        gone = λ k. ap (λ b. b || is_none (holder_at s.members k)) (sym (p.up (k + 1)));
         mine = λ k spir t up. absurd (never (sym (by (Member (k + 1))) ∙ t));
         others = λ k spir t. refl;
         by_peer = λ t. quiet_peer e p slots same;
         not_peer = λ t. absurd (never (sym t ∙ by Peer));
-        seated = seated;
+        in_place = in_place;
         short = short;
       })
 

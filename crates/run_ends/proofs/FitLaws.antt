@@ -22,12 +22,12 @@ use Rattle.turn_rules.specs.Fits.{Does, Quietly, Receives, Refuses, Refusing, Se
 use Rattle.turn_rules.specs.Held.{Held, held_at}
 use Rattle.turn_rules.specs.MemberPackets.{MemberReceives, SendsData}
 use Rattle.turn_rules.specs.Peers.{admits}
-use Rattle.turn_rules.specs.Scenes.{has_turns}
+use Rattle.turn_rules.specs.States.{has_turns}
 use Rattle.turn_rules.specs.Slots.{records}
 use Rattle.turn_rules.specs.Steps.{IsQuiet}
 use Rattle.run_ends.proofs.ReceiveLaws.{receives-fit}
 use Rattle.run_ends.proofs.SendLaws.{sends-fit}
-use Rattle.run_ends.specs.Casts.{Acts, AreSeated, DrawsAs, HolderTakes, IsMember, PeerActs, PeerTakes, Plays, Rejecting, SendsAs, SendsBy, Standing, TakenBy, TakesOverAs, WhereArrives, WhereUpAs, has_member, held_in, scene_of, seat}
+use Rattle.run_ends.specs.Parties.{Acts, AreInPlace, DrawsAs, HolderTakes, IsMember, PeerActs, PeerTakes, Plays, Rejecting, SendsAs, SendsBy, EndsHeld, TakenBy, TakesOverAs, WhereArrives, WhereUpAs, has_member, held_in, state_of, holder_at}
 
 -- a member of this number has joined
 pub record HasJoined (member : ℕ) (members : List (Option Holder)) : Type 0 where
@@ -43,29 +43,29 @@ has_joined_by member members e =
     let parts = and_parts _ _ (not_false (has_member member members) e) in
     record { first = ltb-true _ _ parts.0; last = leb-true _ _ parts.1 }
 
-rejecting_as : {P Q : Type 0} (b : Bool) (s : Standing) (why : Refusal) (calls : List Call) (step : Step) (new : Standing) → (b ≡ false → P → Q) → Rejecting b s why calls step new P → Refusing b why calls step Q
+rejecting_as : {P Q : Type 0} (b : Bool) (s : EndsHeld) (why : Refusal) (calls : List Call) (step : Step) (new : EndsHeld) → (b ≡ false → P → Q) → Rejecting b s why calls step new P → Refusing b why calls step Q
 rejecting_as true s why calls step new f r = r.refuses
 rejecting_as false s why calls step new f r = f refl r
 
 -- the number of the member that acts
-pub number_of_seat : (s : Standing) (member : ℕ) (acting : Holder → Holder → Type 0) (new : Standing) → AreSeated s.window s.members → HasJoined member s.members → (a : Acts s member acting new) → IsMember member s.window a.was
-number_of_seat s member acting new seated j a =
+pub number_of_seat : (s : EndsHeld) (member : ℕ) (acting : Holder → Holder → Type 0) (new : EndsHeld) → AreInPlace s.window s.members → HasJoined member s.members → (a : Acts s member acting new) → IsMember member s.window a.was
+number_of_seat s member acting new in_place j a =
     let back : member - 1 + 1 ≡ member = omega (arith, j.first) in
-    subst (λ n. IsMember n s.window a.was) back (seated (member - 1) a.was (omega (arith, j.first, j.last)) a.sits)
+    subst (λ n. IsMember n s.window a.was) back (in_place (member - 1) a.was (omega (arith, j.first, j.last)) a.sits)
 
-module _ (past : List Turn) (s : Standing) (seated : AreSeated s.window s.members) (calls : List Call) (step : Step) (new : Standing) where
-  up_as : {P Q : Type 0} (member : ℕ) → (HasJoined member s.members → P → Q) → WhereUpAs s member calls step new P → WhereUp (scene_of past s) member calls step Q
+module _ (past : List Turn) (s : EndsHeld) (in_place : AreInPlace s.window s.members) (calls : List Call) (step : Step) (new : EndsHeld) where
+  up_as : {P Q : Type 0} (member : ℕ) → (HasJoined member s.members → P → Q) → WhereUpAs s member calls step new P → WhereUp (state_of past s) member calls step Q
   up_as member f =
       rejecting_as (not (has_member member s.members)) s refusal.NoMember calls step new
-      (λ j. rejecting_as (is_none (seat s.members (member - 1))) s refusal.Down calls step new (λ up. f (has_joined_by member s.members j)))
+      (λ j. rejecting_as (is_none (holder_at s.members (member - 1))) s refusal.Down calls step new (λ up. f (has_joined_by member s.members j)))
 
   -- what a member says that it holds, where it is up
-  at_seat : (P : Option Held → Type 0) (member spir : ℕ) (was : Holder) → seat s.members (member - 1) ≡ Some was → P (held_at was.held spir) → P (held_in (seat s.members (member - 1)) spir)
+  at_seat : (P : Option Held → Type 0) (member spir : ℕ) (was : Holder) → holder_at s.members (member - 1) ≡ Some was → P (held_at was.held spir) → P (held_in (holder_at s.members (member - 1)) spir)
   at_seat P member spir was sits p = subst (λ (x : Option Holder). P (held_in x spir)) (sym sits) p
 
   owns : (member spir : ℕ) → HasJoined member s.members → Acts s member (TakesOverAs spir calls step) new → Quietly (TakesOver spir member) calls step
   owns member spir j a =
-      let number = (number_of_seat s member (TakesOverAs spir calls step) new seated j a).number_is in
+      let number = (number_of_seat s member (TakesOverAs spir calls step) new in_place j a).number_is in
       record {
         follows = subst (λ n. TakesOver spir n calls step.verdict) number (takes-fit a.was.window spir a.was.number a.was.held a.now.held calls step.verdict a.acts.0);
         quiet = a.acts.1;
@@ -75,21 +75,21 @@ module _ (past : List Turn) (s : Standing) (seated : AreSeated s.window s.member
   quietly_draws None quiet c = record { no_calls = c.no_more; says = record { said = c.said; quiet = quiet } }
   quietly_draws (Some held) quiet d = record { follows = d; quiet = quiet }
 
-  draws : (member spir : ℕ) → Acts s member (DrawsAs spir calls step) new → MatchOption (held_in (seat s.members (member - 1)) spir) (Refuses refusal.NotOwner calls step) (λ held. Quietly (Draws held) calls step)
+  draws : (member spir : ℕ) → Acts s member (DrawsAs spir calls step) new → MatchOption (held_in (holder_at s.members (member - 1)) spir) (Refuses refusal.NotOwner calls step) (λ held. Quietly (Draws held) calls step)
   draws member spir a =
       at_seat (λ x. MatchOption x (Refuses refusal.NotOwner calls step) (λ held. Quietly (Draws held) calls step)) member spir a.was a.sits
       (quietly_draws (held_at a.was.held spir) a.acts.1 (draws-from-fit spir a.was.held a.now.held calls step.verdict a.acts.0))
 
-  sends : (member spir : ℕ) (payload : List ℕ) → Acts s member (SendsAs spir payload calls step) new → MatchOption (held_in (seat s.members (member - 1)) spir) (Refuses refusal.NotOwner calls step) (λ held. SendsData held payload calls step)
+  sends : (member spir : ℕ) (payload : List ℕ) → Acts s member (SendsAs spir payload calls step) new → MatchOption (held_in (holder_at s.members (member - 1)) spir) (Refuses refusal.NotOwner calls step) (λ held. SendsData held payload calls step)
   sends member spir payload a =
       at_seat (λ x. MatchOption x (Refuses refusal.NotOwner calls step) (λ held. SendsData held payload calls step)) member spir a.was a.sits
       (sends-fit spir a.was.held a.now.held payload calls step a.acts)
 
-  sends_by : (from : Party) (spir : ℕ) (payload : List ℕ) → SendsBy s from spir payload calls step new → WherePresent (scene_of past s) from calls step (SendsIn (scene_of past s) from spir payload calls step)
+  sends_by : (from : Party) (spir : ℕ) (payload : List ℕ) → SendsBy s from spir payload calls step new → WherePresent (state_of past s) from calls step (SendsIn (state_of past s) from spir payload calls step)
   sends_by parties.Peer spir payload p = (p.no_calls, (p.slots, p.acts))
   sends_by (parties.Member member) spir payload p = up_as member (λ j. sends member spir payload) p
 
-  peer_takes : (m : Medium) (octets : List ℕ) → PeerActs s (PeerTakes m octets step) calls new → Receives (scene_of past s) parties.Peer m octets calls step
+  peer_takes : (m : Medium) (octets : List ℕ) → PeerActs s (PeerTakes m octets step) calls new → Receives (state_of past s) parties.Peer m octets calls step
   peer_takes medium.Ike octets p = record { no_calls = p.no_calls; says = p.acts.0 }
   peer_takes medium.Esp octets p = record {
     answer = p.acts.answer;
@@ -101,7 +101,7 @@ module _ (past : List Turn) (s : Standing) (seated : AreSeated s.window s.member
     no_calls = p.no_calls;
   }
 
-  member_takes : (member : ℕ) (m : Medium) (octets : List ℕ) → Acts s member (HolderTakes m octets calls step) new → Receives (scene_of past s) (parties.Member member) m octets calls step
+  member_takes : (member : ℕ) (m : Medium) (octets : List ℕ) → Acts s member (HolderTakes m octets calls step) new → Receives (state_of past s) (parties.Member member) m octets calls step
   member_takes member medium.Ike octets a = a.acts.0
   member_takes member medium.Esp octets a = record {
     answer = a.acts.answer;
@@ -112,13 +112,13 @@ module _ (past : List Turn) (s : Standing) (seated : AreSeated s.window s.member
     quiet = a.acts.quiet;
   }
 
-  arrives_as : (takes : Medium → List ℕ → Type 0) (to : Party) → ((m : Medium) (octets : List ℕ) → takes m octets → Receives (scene_of past s) to m octets calls step) → (found : Result PlainDatagram Refusal) → WhereArrives s found calls step new takes
-      → MatchResult found (λ datagram. Receives (scene_of past s) to datagram.medium datagram.octets calls step) (λ why. Refuses why calls step)
+  arrives_as : (takes : Medium → List ℕ → Type 0) (to : Party) → ((m : Medium) (octets : List ℕ) → takes m octets → Receives (state_of past s) to m octets calls step) → (found : Result PlainDatagram Refusal) → WhereArrives s found calls step new takes
+      → MatchResult found (λ datagram. Receives (state_of past s) to datagram.medium datagram.octets calls step) (λ why. Refuses why calls step)
   arrives_as takes to f (Ok datagram) w = f datagram.medium datagram.octets w
   arrives_as takes to f (Err why) w = w.refuses
 
   taken_by : (to : Party) (found : Result PlainDatagram Refusal) → TakenBy s to found calls step new
-      → WherePresent (scene_of past s) to calls step (MatchResult found (λ datagram. Receives (scene_of past s) to datagram.medium datagram.octets calls step) (λ why. Refuses why calls step))
+      → WherePresent (state_of past s) to calls step (MatchResult found (λ datagram. Receives (state_of past s) to datagram.medium datagram.octets calls step) (λ why. Refuses why calls step))
   taken_by parties.Peer found t = arrives_as (λ m octets. PeerActs s (PeerTakes m octets step) calls new) parties.Peer peer_takes found t
   taken_by (parties.Member member) found t = up_as member (λ j. arrives_as (λ m octets. Acts s member (HolderTakes m octets calls step) new) (parties.Member member) (member_takes member) found) t
 
@@ -126,7 +126,7 @@ module _ (past : List Turn) (s : Standing) (seated : AreSeated s.window s.member
   room_as f = rejecting_as (nat_le MAX_DATAGRAMS (length (datagrams_of past))) s refusal.DatagramsFull calls step new (λ e. f)
 
   -- an event does what the ends hold before it say
-  pub does : (e : Event) → Plays past s e calls step new → Does (scene_of past s) e calls step
+  pub does : (e : Event) → Plays past s e calls step new → Does (state_of past s) e calls step
   does (event.Cluster identity lifetime window ticket_key) p = rejecting_as (has_turns past) s refusal.Late calls step new (λ e c. c.yields) p
   does (event.Import sa) p =
       rejecting_as (not (is_importable sa)) s refusal.SpiRange calls step new

@@ -30,88 +30,88 @@ use Rattle.turn_rules.specs.Fits.{Fits, is_importable}
 use Rattle.turn_rules.specs.Held.{held_at, window_by}
 use Rattle.turn_rules.specs.Local.{AreShown, IsExplained, Local}
 use Rattle.turn_rules.specs.Peers.{admits}
-use Rattle.turn_rules.specs.Scenes.{Scene, has_turns}
+use Rattle.turn_rules.specs.States.{RunState, has_turns}
 use Rattle.turn_rules.specs.Fits.{Does}
 use Rattle.turn_rules.specs.Slots.{records}
-use Rattle.run_ends.specs.Casts.{Acts, AreKept, AreSeated, Configures, DrawsAs, EntersAs, HolderTakes, IsShort, Mirrors, Plays, Rejecting, Rejects, SendsAs, SendsBy, Standing, TakenBy, TakesOverAs, WhereUpAs, has_member, seat}
+use Rattle.run_ends.specs.Parties.{Acts, AreKept, AreInPlace, Configures, DrawsAs, EntersAs, HolderTakes, IsShort, Agrees, Plays, Rejecting, Rejects, SendsAs, SendsBy, EndsHeld, TakenBy, TakesOverAs, WhereUpAs, has_member, holder_at}
 use Rattle.run_ends.proofs.Bounds.{fits_send}
 use Rattle.run_ends.proofs.EventLaws.{continues-crash, continues-delivery, continues-draw, continues-import, continues-join, continues-own, continues-send, rejected}
 use Rattle.run_ends.proofs.FitLaws.{does}
-use Rattle.run_ends.proofs.MirrorLaws.{Continues, continued}
+use Rattle.run_ends.proofs.AgreementLaws.{Continues, continued}
 use Rattle.run_ends.proofs.ReceiveLaws.{receives-few, receives-fit}
 use Rattle.run_ends.proofs.SendLaws.{sends-few}
 
 -- before the first turn the peer holds nothing
-pub no_slots : (past : List Turn) (s : Standing) → Mirrors past s → past ≡ [] → s.slots ≡ []
-no_slots [] s m e = ap (λ (x : Scene). x.slots) m.scene
+pub no_slots : (past : List Turn) (s : EndsHeld) → Agrees past s → past ≡ [] → s.slots ≡ []
+no_slots [] s m e = ap (λ (x : RunState). x.slots) m.state
 no_slots (turn ∷ past) s m e = absurd (cc)
 
-pub no_slots-kept : (past : List Turn) (s : Standing) → AreKept past s → past ≡ [] → s.slots ≡ []
-no_slots-kept past s k = no_slots past s k.mirrors
+pub no_slots-kept : (past : List Turn) (s : EndsHeld) → AreKept past s → past ≡ [] → s.slots ≡ []
+no_slots-kept past s k = no_slots past s k.agrees
 
-module _ (past : List Turn) (now : Moment) (s : Standing) (k : AreKept past s) (calls : List Call) (step : Step) (new : Standing) where
+module _ (past : List Turn) (now : Moment) (s : EndsHeld) (k : AreKept past s) (calls : List Call) (step : Step) (new : EndsHeld) where
   abbrev turn_by : Event → Turn
   turn_by e = record { moment = now; event = e; calls = calls; step = step }
 
   -- what is held then, and how many services were handed in
   record GoesOn (e : Event) : Type 0 where
-    mirrors : Mirrors (turn_by e ∷ past) new
+    agrees : Agrees (turn_by e ∷ past) new
     boxes : new.boxes ≡ s.boxes
 
   -- an event fits
   fits : (e : Event) → Plays past s e calls step new → Fits s.boxes past e calls step
-  fits e p = subst (λ (x : Scene). Does x e calls step) k.mirrors.scene (does past s k.mirrors.seated calls step new e p)
+  fits e p = subst (λ (x : RunState). Does x e calls step) k.agrees.state (does past s k.agrees.in_place calls step new e p)
 
   module _ (shown : AreShown calls) where
     explained : (e : Event) → Plays past s e calls step new → IsExplained s.boxes past (turn_by e)
     explained e p = record { fits = fits e p; shown = shown }
 
     goes_on : (e : Event) → Plays past s e calls step new → Continues s (turn_by e) new → GoesOn e
-    goes_on e p c = record { mirrors = continued past (turn_by e) s new k.mirrors (explained e p) c; boxes = c.boxes }
+    goes_on e p c = record { agrees = continued past (turn_by e) s new k.agrees (explained e p) c; boxes = c.boxes }
 
     apart : AreApart (records s.slots)
-    apart = subst (λ (x : Scene). AreApart (records x.slots)) (sym k.mirrors.scene) (slots-apart (window_by past) s.boxes past k.local)
+    apart = subst (λ (x : RunState). AreApart (records x.slots)) (sym k.agrees.state) (slots-apart (window_by past) s.boxes past k.local)
 
     continues : (e : Event) → IsLine (plain e) → ((identity : Identity) (lifetime window : ℕ) (ticket_key : List ℕ) → e ≡ event.Cluster identity lifetime window ticket_key → ⊥) → Plays past s e calls step new → Continues s (turn_by e) new
     continues (event.Cluster identity lifetime window ticket_key) line other p = absurd (other identity lifetime window ticket_key refl)
-    continues (event.Import sa) line other p = continues-import past now s k.mirrors.seated calls step new sa p
-    continues (event.Join fresh) line other p = continues-join past now s k.mirrors.seated calls step new fresh p
-    continues (event.Own member spir) line other p = continues-own past now s k.mirrors.seated calls step new member spir p
-    continues (event.Draw member spir) line other p = continues-draw past now s k.mirrors.seated calls step new member spir p
-    continues (event.Crash member) line other p = continues-crash past now s k.mirrors.seated calls step new member p
-    continues (event.Send from spir payload) line other p = continues-send past now s k.mirrors.seated calls step new apart spir payload (fits_send from spir payload line) from p
-    continues (event.Deliver meant to) line other p = continues-delivery past now s k.mirrors.seated calls step new apart (event.Deliver meant to) tt to refl p
-    continues (event.Alter meant to place octet) line other p = continues-delivery past now s k.mirrors.seated calls step new apart (event.Alter meant to place octet) tt to refl p
-    continues (event.Cut meant to keep) line other p = continues-delivery past now s k.mirrors.seated calls step new apart (event.Cut meant to keep) tt to refl p
-    continues (event.Inject to medium octets) line other p = continues-delivery past now s k.mirrors.seated calls step new apart (event.Inject to medium octets) tt to refl p
+    continues (event.Import sa) line other p = continues-import past now s k.agrees.in_place calls step new sa p
+    continues (event.Join fresh) line other p = continues-join past now s k.agrees.in_place calls step new fresh p
+    continues (event.Own member spir) line other p = continues-own past now s k.agrees.in_place calls step new member spir p
+    continues (event.Draw member spir) line other p = continues-draw past now s k.agrees.in_place calls step new member spir p
+    continues (event.Crash member) line other p = continues-crash past now s k.agrees.in_place calls step new member p
+    continues (event.Send from spir payload) line other p = continues-send past now s k.agrees.in_place calls step new apart spir payload (fits_send from spir payload line) from p
+    continues (event.Deliver meant to) line other p = continues-delivery past now s k.agrees.in_place calls step new apart (event.Deliver meant to) tt to refl p
+    continues (event.Alter meant to place octet) line other p = continues-delivery past now s k.agrees.in_place calls step new apart (event.Alter meant to place octet) tt to refl p
+    continues (event.Cut meant to keep) line other p = continues-delivery past now s k.agrees.in_place calls step new apart (event.Cut meant to keep) tt to refl p
+    continues (event.Inject to medium octets) line other p = continues-delivery past now s k.agrees.in_place calls step new apart (event.Inject to medium octets) tt to refl p
 
 -- the cluster was configured before anything else
-module _ (now : Moment) (s : Standing) (m : Mirrors [] s) (identity : Identity) (lifetime window : ℕ) (ticket_key : List ℕ) (calls : List Call) (step : Step) (new : Standing) (c : Configures s window calls step new) where
+module _ (now : Moment) (s : EndsHeld) (m : Agrees [] s) (identity : Identity) (lifetime window : ℕ) (ticket_key : List ℕ) (calls : List Call) (step : Step) (new : EndsHeld) (c : Configures s window calls step new) where
   abbrev first_turn : Turn
   first_turn = record { moment = now; event = event.Cluster identity lifetime window ticket_key; calls = calls; step = step }
 
-  nobody_seated : AreSeated window s.members
-  nobody_seated place holder l is = absurd (omega (arith, l, ap (λ (x : Scene). x.joined) m.scene))
+  nobody_seated : AreInPlace window s.members
+  nobody_seated place holder l is = absurd (omega (arith, l, ap (λ (x : RunState). x.joined) m.state))
 
-  abbrev configured_as : Standing
+  abbrev configured_as : EndsHeld
   configured_as = record s { window = window }
 
   said : step.verdict ≡ out.Configured
   said = c.yields.says.said
 
-  configured : Mirrors (first_turn ∷ []) new
-  configured = subst (Mirrors (first_turn ∷ [])) (sym c.leaves) (record {
-    scene = rw said (λ i. record {
+  configured : Agrees (first_turn ∷ []) new
+  configured = subst (Agrees (first_turn ∷ [])) (sym c.leaves) (record {
+    state = rw said (λ i. record {
       boxes = s.boxes;
       started = true;
-      joined = (m.scene i).joined;
-      ended = (m.scene i).ended;
+      joined = (m.state i).joined;
+      ended = (m.state i).ended;
       datagrams = datagrams_of (first_turn ∷ []);
-      slots = (m.scene i).slots;
-      held = (m.scene i).held;
+      slots = (m.state i).slots;
+      held = (m.state i).held;
     });
     window = rw said refl;
-    seated = nobody_seated;
+    in_place = nobody_seated;
     short = subst (λ gives. AllByRecursion IsShort (option_to_list (option_map plain_datagram gives))) (sym c.yields.says.quiet.gives) tt;
   })
 
@@ -119,18 +119,18 @@ no_turns : (past : List Turn) → has_turns past ≡ false → past ≡ []
 no_turns [] e = refl
 no_turns (turn ∷ past) e = absurd (cc)
 
-module _ (now : Moment) (calls : List Call) (step : Step) (new : Standing) where
-  configures : (past : List Turn) (s : Standing) (k : AreKept past s) (identity : Identity) (lifetime window : ℕ) (ticket_key : List ℕ) → AreShown calls → Plays past s (event.Cluster identity lifetime window ticket_key) calls step new
+module _ (now : Moment) (calls : List Call) (step : Step) (new : EndsHeld) where
+  configures : (past : List Turn) (s : EndsHeld) (k : AreKept past s) (identity : Identity) (lifetime window : ℕ) (ticket_key : List ℕ) → AreShown calls → Plays past s (event.Cluster identity lifetime window ticket_key) calls step new
       → GoesOn past now s k calls step new (event.Cluster identity lifetime window ticket_key)
   configures [] s k identity lifetime window ticket_key shown p = record {
-    mirrors = configured now s k.mirrors identity lifetime window ticket_key calls step new p;
-    boxes = ap (λ (x : Standing). x.boxes) p.leaves;
+    agrees = configured now s k.agrees identity lifetime window ticket_key calls step new p;
+    boxes = ap (λ (x : EndsHeld). x.boxes) p.leaves;
   }
   configures (turn ∷ past) s k identity lifetime window ticket_key shown p =
       goes_on (turn ∷ past) now s k calls step new shown (event.Cluster identity lifetime window ticket_key) p
-      (rejected (turn ∷ past) now s k.mirrors.seated calls step new (event.Cluster identity lifetime window ticket_key) refusal.Late refl p)
+      (rejected (turn ∷ past) now s k.agrees.in_place calls step new (event.Cluster identity lifetime window ticket_key) refusal.Late refl p)
 
-  module _ (past : List Turn) (s : Standing) (k : AreKept past s) (shown : AreShown calls) where
+  module _ (past : List Turn) (s : EndsHeld) (k : AreKept past s) (shown : AreShown calls) where
     plays_on : (e : Event) → IsLine (plain e) → Plays past s e calls step new → GoesOn past now s k calls step new e
     plays_on (event.Cluster identity lifetime window ticket_key) line p = configures past s k identity lifetime window ticket_key shown p
     plays_on (event.Import sa) line p = goes_on past now s k calls step new shown (event.Import sa) p (continues past now s k calls step new shown (event.Import sa) line (λ a b c d e. absurd (cc)) p)
@@ -152,14 +152,14 @@ module _ (now : Moment) (calls : List Call) (step : Step) (new : Standing) where
     kept e line p =
         let on = plays_on e line p in
         record {
-          mirrors = on.mirrors;
+          agrees = on.agrees;
           local = subst (λ boxes. Local boxes (record { moment = now; event = e; calls = calls; step = step } ∷ past)) (sym on.boxes) (explained past now s k calls step new shown e p, k.local);
         }
 
 none_few : (calls : List Call) → calls ≡ [] → length calls ≤ 1
 none_few calls e = omega (arith, ap length e)
 
-rejecting_few : {P : Type 0} (b : Bool) (s : Standing) (why : Refusal) (calls : List Call) (step : Step) (new : Standing) → (P → length calls ≤ 1) → Rejecting b s why calls step new P → length calls ≤ 1
+rejecting_few : {P : Type 0} (b : Bool) (s : EndsHeld) (why : Refusal) (calls : List Call) (step : Step) (new : EndsHeld) → (P → length calls ≤ 1) → Rejecting b s why calls step new P → length calls ≤ 1
 rejecting_few true s why calls step new f r = none_few calls r.refuses.no_calls
 rejecting_few false s why calls step new f r = f r
 
@@ -173,11 +173,11 @@ taken_few v spir member [] e = absurd e
 taken_few v spir member (call ∷ []) e = omega arith
 taken_few v spir member (call ∷ other ∷ more) e = absurd e
 
-module _ (past : List Turn) (s : Standing) (calls : List Call) (step : Step) (new : Standing) where
+module _ (past : List Turn) (s : EndsHeld) (calls : List Call) (step : Step) (new : EndsHeld) where
   up_few : {P : Type 0} (member : ℕ) → (P → length calls ≤ 1) → WhereUpAs s member calls step new P → length calls ≤ 1
   up_few member f =
       rejecting_few (not (has_member member s.members)) s refusal.NoMember calls step new
-      (rejecting_few (is_none (seat s.members (member - 1))) s refusal.Down calls step new f)
+      (rejecting_few (is_none (holder_at s.members (member - 1))) s refusal.Down calls step new f)
 
   member_few : (member : ℕ) (m : Medium) (octets : List ℕ) → Acts s member (HolderTakes m octets calls step) new → length calls ≤ 1
   member_few member medium.Ike octets a = none_few calls a.acts.0.no_calls

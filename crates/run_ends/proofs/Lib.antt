@@ -3,7 +3,7 @@ pub mod Bounds
 pub mod EventLaws
 pub mod FitLaws
 pub mod KeptLaws
-pub mod MirrorLaws
+pub mod AgreementLaws
 pub mod ReceiveLaws
 pub mod Refusing
 pub mod SendLaws

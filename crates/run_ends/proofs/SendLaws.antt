@@ -35,7 +35,7 @@ use Rattle.turn_rules.specs.MemberPackets.{SendsData, SendsDataTo, outbound_of, 
 use Rattle.turn_rules.specs.Packets.{Sends}
 use Rattle.turn_rules.specs.Steps.{Says}
 use Rattle.run_ends.proofs.Bounds.{sends-short}
-use Rattle.run_ends.specs.Casts.{IsShort}
+use Rattle.run_ends.specs.Parties.{IsShort}
 
 -- A send uses a number as a draw does: the verdicts are the same but for their names.
 abbrev pub swapped : Verdict → Verdict

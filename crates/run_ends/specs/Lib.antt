@@ -1,3 +1,3 @@
 pub mod Asked
-pub mod Casts
+pub mod Parties
 pub mod Runs

@@ -4,10 +4,10 @@ ghost use Rattle.std.specs.Prelude.{◌≡◌, ◌≤◌, [], List, IfOk, OnErr,
 ghost use Rattle.keeper_book.specs.Asks.{Asks};
 ghost use Rattle.keeper_book.specs.declared.calls.Call.{Call};
 ghost use Rattle.turn_rules.specs.Datagrams.{PlainDatagram, arrives, datagrams_of};
-ghost use Rattle.run_ends.specs.Casts.{Delivers, HolderTakes, IsShort, PeerActs, PeerTakes, TakenBy, WhereArrives};
+ghost use Rattle.run_ends.specs.Parties.{Delivers, HolderTakes, IsShort, PeerActs, PeerTakes, TakenBy, WhereArrives};
 
 use crate::arrivals::{Arrival, arriving, verdict_of};
-use crate::cast::{Cast, refused};
+use crate::parties::{Parties, refused};
 use crate::sends::is_full;
 use cluster_member::Member;
 use cluster_peer::Peer;
@@ -16,7 +16,7 @@ use ha_base::Memory;
 use keeper_book::Keeper;
 use turn_trace::Trace;
 
-impl Cast {
+impl Parties {
     pub(crate) fn deliver<K: Keeper>(
         &mut self,
         keeper: &mut K,

@@ -7,7 +7,7 @@ ghost use Rattle.turn_rules.specs.Datagrams.{datagrams_of};
 ghost use Rattle.run_ends.specs.Asked.{AsksAsSeen, newest_calls};
 ghost use Rattle.run_ends.specs.Runs.{CausedSince, Grows, LackMemory, StandsTold};
 
-use crate::cast::Cast;
+use crate::parties::Parties;
 use event_text::{Event, Turn};
 use ha_base::{Memory, Moment};
 use keeper_book::{Gate, Keeper};
@@ -18,19 +18,19 @@ use turn_trace::Trace;
 /// The members of a cluster, the peer, and what they did.
 #[derive(Drop)]
 pub struct Ends {
-    cast: Cast,
+    parties: Parties,
     trace: Trace,
 }
 
 impl Model for Ends {
-    ghost use Rattle.run_ends.specs.Casts.{AreKept};
+    ghost use Rattle.run_ends.specs.Parties.{AreKept};
     ghost use Rattle.run_ends.specs.Runs.{Run};
 
     ghost Value = { Run };
 
-    ghost view = { λ e. record { boxes = e.cast.boxes; past = e.trace.past } };
+    ghost view = { λ e. record { boxes = e.parties.boxes; past = e.trace.past } };
 
-    ghost invariant = { λ e. AreKept e.trace.past e.cast };
+    ghost invariant = { λ e. AreKept e.trace.past e.parties };
 }
 
 impl Ends {
@@ -39,7 +39,7 @@ impl Ends {
         ensures { result ≡ record { boxes = boxes; past = [] } }
     {
         Ends {
-            cast: Cast::new(alloc, boxes),
+            parties: Parties::new(alloc, boxes),
             trace: Trace::new(alloc),
         }
     }
@@ -70,7 +70,7 @@ impl Ends {
         ensures held { K.held keeper.new.keeper ≡ K.held keeper.old.keeper }
     {
         self.trace.reserve()?;
-        let step = self.cast.play(keeper, &self.trace, &event)?;
+        let step = self.parties.play(keeper, &self.trace, &event)?;
         let calls = keeper.take_calls();
         self.trace.push(Turn {
             moment: now,

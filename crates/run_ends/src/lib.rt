@@ -2,7 +2,7 @@
 #![tactic(auto)]
 
 mod arrivals;
-mod cast;
+mod parties;
 mod deliveries;
 mod ends;
 mod members;

@@ -4,9 +4,9 @@ ghost use Rattle.std.specs.Prelude.{◌≡◌, false, [], List, MatchOption, IfO
 ghost use Rattle.cluster_member.specs.Members.{AsksInVain};
 ghost use Rattle.keeper_book.specs.Asks.{Asks};
 ghost use Rattle.keeper_book.specs.declared.calls.Call.{Call};
-ghost use Rattle.run_ends.specs.Casts.{ActsUp, Crashes, DrawsAs, IsPlaceOf, Joins, TakesOverAs, WhereUpAs, has_member};
+ghost use Rattle.run_ends.specs.Parties.{ActsUp, Crashes, DrawsAs, IsPlaceOf, Joins, TakesOverAs, WhereUpAs, has_member};
 
-use crate::cast::{Cast, refused};
+use crate::parties::{Parties, refused};
 use cluster_member::Member;
 use event_text::{Refusal, Step, Verdict};
 use ha_base::Memory;
@@ -15,7 +15,7 @@ use keeper_book::Keeper;
 /// The most members of a run.
 const MAX_MEMBERS: usize = 64;
 
-impl Cast {
+impl Parties {
     pub(crate) fn join(&mut self, fresh: [u8; 24]) -> Result<Step, Memory>
         ensures joins { IfOk result (λ step. Joins self.old [] step self.new) }
         ensures err { OnErr result (self.new ≡ self.old) }

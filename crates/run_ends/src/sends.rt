@@ -5,9 +5,9 @@ ghost use Rattle.keeper_book.specs.Asks.{Asks};
 ghost use Rattle.keeper_book.specs.declared.calls.Call.{Call};
 ghost use Rattle.turn_rules.specs.Datagrams.{datagrams_of};
 ghost use Rattle.turn_rules.specs.Slots.{PeerSends};
-ghost use Rattle.run_ends.specs.Casts.{ActsUp, PeerActs, SendsAs, SendsBy, WhereRoomAs};
+ghost use Rattle.run_ends.specs.Parties.{ActsUp, PeerActs, SendsAs, SendsBy, WhereRoomAs};
 
-use crate::cast::{Cast, refused};
+use crate::parties::{Parties, refused};
 use event_text::{Party, Refusal, Step};
 use ha_base::Memory;
 use keeper_book::Keeper;
@@ -23,7 +23,7 @@ pub(crate) fn is_full(trace: &Trace) -> bool
     trace.datagrams() >= MAX_DATAGRAMS
 }
 
-impl Cast {
+impl Parties {
     pub(crate) fn send<K: Keeper>(
         &mut self,
         keeper: &mut K,

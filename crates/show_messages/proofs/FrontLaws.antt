@@ -6,7 +6,7 @@ use Rattle.std.proofs.lemmas.List.{length-append}
 use Rattle.line_fields.specs.declared.fault.LineFault.{LineFault}
 use Rattle.line_fields.specs.declared.fault.LineReason.TheVariants as reasons
 use Rattle.line_fields.specs.Fields.{fault_at}
-use Rattle.input_lines.specs.Lines.{lines_of, unfed}
+use Rattle.input_lines.specs.Lines.{lines_of, without_line_feed}
 use Rattle.input_lines.specs.Limits.{overlong}
 use Rattle.input_lines.proofs.FirstLines.{first_line}
 use Rattle.input_lines.proofs.LimitLaws.{IsPast, overlong_both, overlong_none, past, unless_ok}
@@ -16,10 +16,10 @@ use Rattle.show_messages.specs.declared.reader.Place.{Place}
 -- ---- a line that passes the end of the file
 
 -- a line that passes the end is at fault, whatever follows
-past_line : (n : ℕ) (line : List ℕ) (others : List (List ℕ)) (p : Place) (h : IsPast p.before n) → p.before ≤ 67108864 → 67108865 ≤ p.before + n → n ≤ length line → n ≤ length (unfed line) → messages_at (line ∷ others) p ≡ faulty p.line h.fault
+past_line : (n : ℕ) (line : List ℕ) (others : List (List ℕ)) (p : Place) (h : IsPast p.before n) → p.before ≤ 67108864 → 67108865 ≤ p.before + n → n ≤ length line → n ≤ length (without_line_feed line) → messages_at (line ∷ others) p ≡ faulty p.line h.fault
 unfolding messages_at line_in
 past_line n line others p h within far_enough long unfed_long =
-    rw (overlong_both p.before n n (length line) (length (unfed line)) within far_enough far_enough long unfed_long, h.is) refl
+    rw (overlong_both p.before n n (length line) (length (without_line_feed line)) within far_enough far_enough long unfed_long, h.is) refl
 
 -- ---- a line that is read
 
@@ -36,7 +36,7 @@ on_same p (Ok (Some message)) f g h = ap (with_message message) (h (Some message
 step : (line : List ℕ) (ls ms : List (List ℕ)) (p : Place) → ((count : ℕ) → p.before + length line ≤ 67108864 → messages_at ls (behind_line p (length line) count) ≡ messages_at ms (behind_line p (length line) count)) → messages_at (line ∷ ls) p ≡ messages_at (line ∷ ms) p
 unfolding messages_at
 step line ls ms p h =
-    on_same p (line_in p (length line) (unfed line)) _ _ (λ x e count. h count (read_within p (length line) (unfed line) x e))
+    on_same p (line_in p (length line) (without_line_feed line)) _ _ (λ x e count. h count (read_within p (length line) (without_line_feed line) x e))
 
 at_front : (fuel : ℕ) (a b : List ℕ) (p : Place) → length a ≤ fuel → p.before ≤ 67108864 → 67108865 ≤ p.before + length a → messages_at (lines_of (a ++ b)) p ≡ messages_at (lines_of a) p
 at_front zero a b p small within far_enough = absurd (omega arith)

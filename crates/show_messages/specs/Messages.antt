@@ -1,7 +1,7 @@
 -- The messages that an input holds, up to its first fault: one a line, in hexadecimal.
 use Rattle.std.specs.Prelude.{ℕ, ◌+◌, ◌==◌, List, [], ◌∷◌, length, Option, Some, None, Result, Ok, Err, if◌then◌else◌}
 use Rattle.input_lines.specs.Limits.{Left, overlong, unless}
-use Rattle.input_lines.specs.Lines.{is_passed, lines_of, unfed}
+use Rattle.input_lines.specs.Lines.{is_passed, lines_of, without_line_feed}
 use Rattle.line_fields.specs.Octets.{decoded, is_hex}
 use Rattle.line_fields.specs.Fields.{fault_at}
 use Rattle.line_fields.specs.declared.fault.LineFault.{LineFault}
@@ -44,7 +44,7 @@ on_line p (Ok (Some message)) rest = with_message message (rest (p.count + 1))
 -- what lines hold from a place on
 unfoldable pub messages_at : List (List ℕ) → Place → Messages
 messages_at [] p = record { messages = []; fault = None }
-messages_at (line ∷ lines) p = on_line p (line_in p (length line) (unfed line)) (λ count. messages_at lines (behind_line p (length line) count))
+messages_at (line ∷ lines) p = on_line p (line_in p (length line) (without_line_feed line)) (λ count. messages_at lines (behind_line p (length line) count))
 
 -- what an input holds
 abbrev pub messages_of : List ℕ → Messages

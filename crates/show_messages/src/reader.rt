@@ -28,7 +28,7 @@ pub struct Place {
 fn digits_in<'a>(place: Place, octets: usize, line: &'a [u8]) -> Result<Option<&'a [u8]>, LineFault>
     requires file { place.before ≤ 67108864 }
     requires line { octets < 2 ^ 63 }
-    requires fed { length line.now ≤ octets }
+    requires line_within { length line.now ≤ octets }
     ensures fault { IfErr result (λ f. line_in place octets line.now ≡ Err f) }
     ensures passed { IfOk result (λ digits. IfNone digits (line_in place octets line.now ≡ Ok None)) }
     ensures message { IfOk result (λ digits. IfSome digits (λ d. line_in place octets line.now ≡ Ok (Some (decoded d.now)))) }

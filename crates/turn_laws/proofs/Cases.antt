@@ -10,7 +10,7 @@ use Rattle.event_text.specs.declared.verdict.Refusal.TheVariants as refusal
 use Rattle.keeper_book.specs.declared.calls.Call.{Call}
 use Rattle.turn_rules.specs.Datagrams.{MAX_DATAGRAMS}
 use Rattle.turn_rules.specs.Fits.{Refuses, Refusing, WherePresent, WhereRoom, WhereUp, has_joined}
-use Rattle.turn_rules.specs.Scenes.{Scene}
+use Rattle.turn_rules.specs.States.{RunState}
 
 -- the members are counted from 1
 abbrev pub IsCounted : Party → Type 0
@@ -22,18 +22,18 @@ module _ {Q : Type 0} (calls : List Call) (step : Step) (refused : (why : Refusa
   refusing-cases true why otherwise r = refused why r
   refusing-cases false why otherwise r = otherwise refl r
 
-  is_counted : (scene : Scene) (member : ℕ) → has_joined member scene ≡ true → (member - 1) + 1 ≡ member
-  is_counted scene member joined =
-      let some : 0 < member = ltb-true 0 member (and_parts (nat_lt 0 member) (nat_le member scene.joined) joined).0 in
+  is_counted : (state : RunState) (member : ℕ) → has_joined member state ≡ true → (member - 1) + 1 ≡ member
+  is_counted state member joined =
+      let some : 0 < member = ltb-true 0 member (and_parts (nat_lt 0 member) (nat_le member state.joined) joined).0 in
       omega arith
 
-  pub up-cases : {P : Type 0} (scene : Scene) (member : ℕ) → ((member - 1) + 1 ≡ member → P → Q) → WhereUp scene member calls step P → Q
-  up-cases scene member otherwise = refusing-cases (not (has_joined member scene)) refusal.NoMember
-      (λ joined. refusing-cases (scene.ended (member - 1)) refusal.Down (λ up. otherwise (is_counted scene member (not-false (has_joined member scene) joined))))
+  pub up-cases : {P : Type 0} (state : RunState) (member : ℕ) → ((member - 1) + 1 ≡ member → P → Q) → WhereUp state member calls step P → Q
+  up-cases state member otherwise = refusing-cases (not (has_joined member state)) refusal.NoMember
+      (λ joined. refusing-cases (state.ended (member - 1)) refusal.Down (λ up. otherwise (is_counted state member (not-false (has_joined member state) joined))))
 
-  pub room-cases : {P : Type 0} (scene : Scene) → (P → Q) → WhereRoom scene calls step P → Q
-  room-cases scene otherwise = refusing-cases (nat_le MAX_DATAGRAMS (length scene.datagrams)) refusal.DatagramsFull (λ room. otherwise)
+  pub room-cases : {P : Type 0} (state : RunState) → (P → Q) → WhereRoom state calls step P → Q
+  room-cases state otherwise = refusing-cases (nat_le MAX_DATAGRAMS (length state.datagrams)) refusal.DatagramsFull (λ room. otherwise)
 
-  pub present-cases : {P : Type 0} (scene : Scene) (party : Party) → (IsCounted party → P → Q) → WherePresent scene party calls step P → Q
-  present-cases scene parties.Peer otherwise r = otherwise tt r
-  present-cases scene (parties.Member member) otherwise r = up-cases scene member otherwise r
+  pub present-cases : {P : Type 0} (state : RunState) (party : Party) → (IsCounted party → P → Q) → WherePresent state party calls step P → Q
+  present-cases state parties.Peer otherwise r = otherwise tt r
+  present-cases state (parties.Member member) otherwise r = up-cases state member otherwise r

@@ -36,7 +36,7 @@ use Rattle.turn_rules.specs.Held.{Held, held_by, window_by}
 use Rattle.turn_rules.specs.Local.{IsExplained, Local}
 use Rattle.turn_rules.specs.MemberPackets.{IsReceiver, ReceivesPacket, TakesPacket, inbound_of}
 use Rattle.turn_rules.specs.Packets.{Drops, IsVerdictOf}
-use Rattle.turn_rules.specs.Scenes.{Scene, held_unless, scene_by}
+use Rattle.turn_rules.specs.States.{RunState, held_unless, state_by}
 use Rattle.turn_rules.specs.Slots.{Slot, SlotReceives, SlotTakes, first_slot, peer_counter, receives_at, slot_inbound, slots_by, with_slot}
 
 -- what a packet that was opened is accepted as
@@ -100,58 +100,58 @@ seen_by_end true why calls step of_run seen refused =
 seen_by_end false why calls step of_run seen otherwise = (refl, otherwise)
 
 -- an end is there: the peer always, and a member that joined and did not end
-abbrev IsThere : Scene → Party → Type 0
-IsThere scene parties.Peer = Unit {0}
-IsThere scene (parties.Member member) = (has_joined member scene ≡ true) × (scene.ended (member - 1) ≡ false)
+abbrev IsThere : RunState → Party → Type 0
+IsThere state parties.Peer = Unit {0}
+IsThere state (parties.Member member) = (has_joined member state ≡ true) × (state.ended (member - 1) ≡ false)
 
 not-false : (b : Bool) → not b ≡ false → b ≡ true
 not-false true e = refl
 not-false false e = absurd (cc)
 
-there : {P : Type 0} (scene : Scene) (to : Party) (calls : List Call) (step : Step) → is_refused_by_run step.verdict ≡ false → WherePresent scene to calls step P → IsThere scene to × P
-there scene parties.Peer calls step seen present = (tt, present)
-there scene (parties.Member member) calls step seen present =
-    let joined = seen_by_end (not (has_joined member scene)) refusal.NoMember calls step refl seen present in
-    let up = seen_by_end (scene.ended (member - 1)) refusal.Down calls step refl seen joined.1 in
-    ((not-false (has_joined member scene) joined.0, up.0), up.1)
+there : {P : Type 0} (state : RunState) (to : Party) (calls : List Call) (step : Step) → is_refused_by_run step.verdict ≡ false → WherePresent state to calls step P → IsThere state to × P
+there state parties.Peer calls step seen present = (tt, present)
+there state (parties.Member member) calls step seen present =
+    let joined = seen_by_end (not (has_joined member state)) refusal.NoMember calls step refl seen present in
+    let up = seen_by_end (state.ended (member - 1)) refusal.Down calls step refl seen joined.1 in
+    ((not-false (has_joined member state) joined.0, up.0), up.1)
 
 -- what arrives, the end receives
-delivered : (scene : Scene) (to : Party) (event : Event) (x : PlainDatagram) (calls : List Call) (step : Step) → is_refused_by_run step.verdict ≡ false → arrives scene.datagrams event ≡ Ok x → Delivers scene to event calls step
-    → IsThere scene to × Receives scene to x.medium x.octets calls step
-delivered scene to event x calls step seen arrived does =
-    let room = seen_by_end (nat_le MAX_DATAGRAMS (length scene.datagrams)) refusal.DatagramsFull calls step refl seen does in
-    let present = there scene to calls step seen room.1 in
-    (present.0, subst (λ r. MatchResult r (λ datagram. Receives scene to datagram.medium datagram.octets calls step) (λ why. Refuses why calls step)) arrived present.1)
+delivered : (state : RunState) (to : Party) (event : Event) (x : PlainDatagram) (calls : List Call) (step : Step) → is_refused_by_run step.verdict ≡ false → arrives state.datagrams event ≡ Ok x → Delivers state to event calls step
+    → IsThere state to × Receives state to x.medium x.octets calls step
+delivered state to event x calls step seen arrived does =
+    let room = seen_by_end (nat_le MAX_DATAGRAMS (length state.datagrams)) refusal.DatagramsFull calls step refl seen does in
+    let present = there state to calls step seen room.1 in
+    (present.0, subst (λ r. MatchResult r (λ datagram. Receives state to datagram.medium datagram.octets calls step) (λ why. Refuses why calls step)) arrived present.1)
 
-abbrev ReceivedBy : Scene → Performer → PlainDatagram → List Call → Step → Type 0
-ReceivedBy scene end x calls step = (to : Party) × (Some (end_of_party to) ≡ Some end) × IsThere scene to × Receives scene to x.medium x.octets calls step
+abbrev ReceivedBy : RunState → Performer → PlainDatagram → List Call → Step → Type 0
+ReceivedBy state end x calls step = (to : Party) × (Some (end_of_party to) ≡ Some end) × IsThere state to × Receives state to x.medium x.octets calls step
 
-received_by : (scene : Scene) (event : Event) (end : Performer) (x : PlainDatagram) (calls : List Call) (step : Step) → is_refused_by_run step.verdict ≡ false → performer_of event step.verdict ≡ Some end
-    → arrives scene.datagrams event ≡ Ok x → Does scene event calls step → ReceivedBy scene end x calls step
-received_by scene (event.Deliver which to) end x calls step seen by arrived does = let got = delivered scene to (event.Deliver which to) x calls step seen arrived does in (to, by, got.0, got.1)
-received_by scene (event.Alter which to place octet) end x calls step seen by arrived does = let got = delivered scene to (event.Alter which to place octet) x calls step seen arrived does in (to, by, got.0, got.1)
-received_by scene (event.Cut which to keep) end x calls step seen by arrived does = let got = delivered scene to (event.Cut which to keep) x calls step seen arrived does in (to, by, got.0, got.1)
-received_by scene (event.Inject to medium octets) end x calls step seen by arrived does = let got = delivered scene to (event.Inject to medium octets) x calls step seen arrived does in (to, by, got.0, got.1)
-received_by scene event end x calls step seen by arrived does = absurd (cc)
+received_by : (state : RunState) (event : Event) (end : Performer) (x : PlainDatagram) (calls : List Call) (step : Step) → is_refused_by_run step.verdict ≡ false → performer_of event step.verdict ≡ Some end
+    → arrives state.datagrams event ≡ Ok x → Does state event calls step → ReceivedBy state end x calls step
+received_by state (event.Deliver which to) end x calls step seen by arrived does = let got = delivered state to (event.Deliver which to) x calls step seen arrived does in (to, by, got.0, got.1)
+received_by state (event.Alter which to place octet) end x calls step seen by arrived does = let got = delivered state to (event.Alter which to place octet) x calls step seen arrived does in (to, by, got.0, got.1)
+received_by state (event.Cut which to keep) end x calls step seen by arrived does = let got = delivered state to (event.Cut which to keep) x calls step seen arrived does in (to, by, got.0, got.1)
+received_by state (event.Inject to medium octets) end x calls step seen by arrived does = let got = delivered state to (event.Inject to medium octets) x calls step seen arrived does in (to, by, got.0, got.1)
+received_by state event end x calls step seen by arrived does = absurd (cc)
 
 performed : (refused : Bool) (x : Option Performer) (end : Performer) → (if refused then None else x) ≡ Some end → (refused ≡ false) × (x ≡ Some end)
 performed true x end e = absurd (cc)
 performed false x end e = (refl, e)
 
 -- octets that came to an end are received by it
-came-received : (boxes : ℕ) (past : List Turn) (turn : Turn) (end : Performer) (octets : List ℕ) → IsExplained boxes past turn → Came past turn end octets → ReceivedBy (scene_by boxes past) end (record { medium = medium.Esp; octets = octets }) turn.calls turn.step
+came-received : (boxes : ℕ) (past : List Turn) (turn : Turn) (end : Performer) (octets : List ℕ) → IsExplained boxes past turn → Came past turn end octets → ReceivedBy (state_by boxes past) end (record { medium = medium.Esp; octets = octets }) turn.calls turn.step
 came-received boxes past turn end octets explained came =
     let by = performed (is_refused_by_run turn.step.verdict) (performer_of turn.event turn.step.verdict) end came.by_it in
-    received_by (scene_by boxes past) turn.event end (record { medium = medium.Esp; octets = octets }) turn.calls turn.step by.0 by.1 came.arrived explained.fits
+    received_by (state_by boxes past) turn.event end (record { medium = medium.Esp; octets = octets }) turn.calls turn.step by.0 by.1 came.arrived explained.fits
 
 both-true : (a b : Bool) → (a && b) ≡ true → a ≡ true
 both-true true b e = refl
 both-true false b e = absurd (cc)
 
 -- what a member that is there holds is what its own turns say
-held-there : (boxes : ℕ) (past : List Turn) (member : ℕ) → IsThere (scene_by boxes past) (parties.Member member) → (scene_by boxes past).held (member - 1) ≡ held_by (window_by past) (own (Member member) past)
+held-there : (boxes : ℕ) (past : List Turn) (member : ℕ) → IsThere (state_by boxes past) (parties.Member member) → (state_by boxes past).held (member - 1) ≡ held_by (window_by past) (own (Member member) past)
 held-there boxes past member is =
-    let some : nat_lt 0 member ≡ true = both-true (nat_lt 0 member) (nat_le member (scene_by boxes past).joined) is.0 in
+    let some : nat_lt 0 member ≡ true = both-true (nat_lt 0 member) (nat_le member (state_by boxes past).joined) is.0 in
     let place : member - 1 + 1 ≡ member = grind (arith, nat_tests) in
     (λ i spir. held_unless (is.1 i) (held_by (window_by past) (own (Member (member - 1 + 1)) past) spir))
     ∙ ap (λ k. held_by (window_by past) (own (Member k) past)) place
@@ -160,7 +160,7 @@ module _ (law : SealedPacketsOpen) (boxes : ℕ) (past : List Turn) (turn : Turn
   member-accepts-it : MemberAccepts past turn
   member-accepts-it member spir number held payload octets came is genuine allowed = by_party (came-received boxes past turn (Member member) octets explained came)
     where
-      by_party : ReceivedBy (scene_by boxes past) (Member member) (record { medium = medium.Esp; octets = octets }) turn.calls turn.step → IsAcceptedAs (counter_name held.sa counter.EspIn) number payload turn.step.verdict
+      by_party : ReceivedBy (state_by boxes past) (Member member) (record { medium = medium.Esp; octets = octets }) turn.calls turn.step → IsAcceptedAs (counter_name held.sa counter.EspIn) number payload turn.step.verdict
       by_party (parties.Peer, by, here, does) = absurd (cc)
       by_party (parties.Member other, by, here, does) =
           let same : other ≡ member = cc in
@@ -171,7 +171,7 @@ module _ (law : SealedPacketsOpen) (boxes : ℕ) (past : List Turn) (turn : Turn
   peer-accepts-it : PeerAccepts past turn
   peer-accepts-it number slot payload octets came is genuine = by_party (came-received boxes past turn Peer octets explained came)
     where
-      by_party : ReceivedBy (scene_by boxes past) Peer (record { medium = medium.Esp; octets = octets }) turn.calls turn.step → IsAcceptedAs (peer_counter slot.sa counter.EspIn) number payload turn.step.verdict
+      by_party : ReceivedBy (state_by boxes past) Peer (record { medium = medium.Esp; octets = octets }) turn.calls turn.step → IsAcceptedAs (peer_counter slot.sa counter.EspIn) number payload turn.step.verdict
       by_party (parties.Peer, by, here, does) = peer-takes law number payload octets (slots_by (window_by past) (own Peer past)) slot turn.calls turn.step is genuine does
       by_party (parties.Member other, by, here, does) = absurd (cc)
 

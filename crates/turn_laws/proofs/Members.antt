@@ -9,7 +9,7 @@ use Rattle.turn_laws.proofs.Deeds.{performer_at}
 use Rattle.turn_rules.specs.Draws.{refusal_of_stop}
 use Rattle.turn_rules.specs.Ends.{Member, is_of_run, is_refused_by_run, own, performer_of}
 use Rattle.turn_rules.specs.Held.{Held, held_by, window_by}
-use Rattle.turn_rules.specs.Scenes.{has_ended, held_unless, scene_by}
+use Rattle.turn_rules.specs.States.{has_ended, held_unless, state_by}
 
 pub stop-of_member : (why : Stop) → is_of_run (refusal_of_stop why) ≡ false
 stop-of_member stop.Keeper = refl
@@ -23,8 +23,8 @@ pub member-performs : (event : Event) (verdict : Verdict) (member : ℕ) → per
 member-performs event verdict member by not_run = rw not_run by
 
 module _ (boxes : ℕ) (past : List Turn) where
-  -- what a member of a scene holds, its own turns say
-  pub own-held : (member spir : ℕ) (held : Held) → (member - 1) + 1 ≡ member → (scene_by boxes past).held (member - 1) spir ≡ Some held → held_by (window_by past) (own (Member member) past) spir ≡ Some held
+  -- what a member of a state holds, its own turns say
+  pub own-held : (member spir : ℕ) (held : Held) → (member - 1) + 1 ≡ member → (state_by boxes past).held (member - 1) spir ≡ Some held → held_by (window_by past) (own (Member member) past) spir ≡ Some held
   own-held member spir held counted is =
       subst (λ n. held_by (window_by past) (own (Member n) past) spir ≡ Some held) counted (by_test (has_ended ((member - 1) + 1) past) is)
     where

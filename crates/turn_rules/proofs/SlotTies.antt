@@ -32,7 +32,7 @@ use Rattle.turn_rules.specs.Held.{accepted, after_number, after_received, first_
 use Rattle.turn_rules.specs.Local.{IsExplained, Local}
 use Rattle.turn_rules.specs.Packets.{Drops, IsVerdictOf, Sends}
 use Rattle.turn_rules.specs.Peers.{admits, associations_by, clashes, entered, entered_in}
-use Rattle.turn_rules.specs.Scenes.{Scene, scene_by}
+use Rattle.turn_rules.specs.States.{RunState, state_by}
 use Rattle.turn_rules.specs.Slots.{PeerReceives, PeerSends, Slot, SlotReceives, SlotSends, SlotTakes, entered_slot, first_slot, has_spir, is_entered, peer_counter, receives_at, records, sent, sent_of, since_entered, slot_after, slot_by, slot_outbound, slots_after, slots_by, with_slot}
 use Rattle.turn_rules.specs.Steps.{Says}
 
@@ -149,20 +149,20 @@ not-false : (b : Bool) → not b ≡ false → b ≡ true
 not-false true e = refl
 not-false false e = absurd (cc)
 
-enters-admitted : (scene : Scene) (event : Event) (calls : List Call) (step : Step) (sa : Record) → Does scene event calls step → entered event step.verdict ≡ Some sa → admits (records scene.slots) sa ≡ true
-enters-admitted scene (event.Import asked) calls step sa does e =
+enters-admitted : (state : RunState) (event : Event) (calls : List Call) (step : Step) (sa : Record) → Does state event calls step → entered event step.verdict ≡ Some sa → admits (records state.slots) sa ≡ true
+enters-admitted state (event.Import asked) calls step sa does e =
     let is : (step.verdict ≡ out.Entered) × (asked ≡ sa) = entered-import asked sa step.verdict e in
     let said : (why : Refusal) → step.verdict ≢ out.Refused why = λ why refused. let both : out.Entered ≡ out.Refused why = sym is.0 ∙ refused in absurd (cc) in
     let first = unless_refused (not (is_importable asked)) refusal.SpiRange calls step does (said refusal.SpiRange) in
-    let second = unless_refused (not (admits (records scene.slots) asked)) refusal.SpiInUse calls step first.1 (said refusal.SpiInUse) in
-    subst (λ x. admits (records scene.slots) x ≡ true) is.1 (not-false (admits (records scene.slots) asked) second.0)
-enters-admitted scene event calls step sa does e = absurd (cc)
+    let second = unless_refused (not (admits (records state.slots) asked)) refusal.SpiInUse calls step first.1 (said refusal.SpiInUse) in
+    subst (λ x. admits (records state.slots) x ≡ true) is.1 (not-false (admits (records state.slots) asked) second.0)
+enters-admitted state event calls step sa does e = absurd (cc)
 
 -- what comes to the peer was admitted
 pub import-admits : (boxes : ℕ) (past : List Turn) (turn : Turn) → IsExplained boxes past turn → (sa : Record) → entered turn.event turn.step.verdict ≡ Some sa → admits (associations_by (own Peer past)) sa ≡ true
 import-admits boxes past turn explained sa e =
     subst (λ slots. admits slots sa ≡ true) (records-slots_by (window_by past) (own Peer past))
-    (enters-admitted (scene_by boxes past) turn.event turn.calls turn.step sa explained.fits e)
+    (enters-admitted (state_by boxes past) turn.event turn.calls turn.step sa explained.fits e)
 
 -- the associations that came to the peer differ
 pub associations-apart : (boxes : ℕ) (past : List Turn) → Local boxes past → AreApart (associations_by (own Peer past))
@@ -198,7 +198,7 @@ window-own (event.Cluster identity lifetime window ticket_key) verdict mine = re
 window-own event verdict mine = refl
 
 -- and a turn that sets it is the first
-sets-first : (boxes : ℕ) (past : List Turn) (event : Event) (calls : List Call) (step : Step) → Does (scene_by boxes past) event calls step → (window_in event step.verdict ≡ None) ⊎ (past ≡ [])
+sets-first : (boxes : ℕ) (past : List Turn) (event : Event) (calls : List Call) (step : Step) → Does (state_by boxes past) event calls step → (window_in event step.verdict ≡ None) ⊎ (past ≡ [])
 sets-first boxes [] event calls step does = inr refl
 sets-first boxes (turn ∷ past) (event.Cluster identity lifetime window ticket_key) calls step does = inl (ap (window_in (event.Cluster identity lifetime window ticket_key)) does.says.said)
 sets-first boxes (turn ∷ past) event calls step does = inl refl
@@ -207,14 +207,14 @@ keeps-window : (turn : Turn) (past : List Turn) → window_of_turn turn ≡ None
 keeps-window turn past none = ap (λ size. unwrap_or (first_of size (found window_of_turn past)) 64) none
 
 -- what the ends of a run hold of the peer's associations, after a turn of the peer's own and after one of another end
-pub scene_slots-own : (boxes : ℕ) (past : List Turn) (turn : Turn) → IsExplained boxes past turn → is_by Peer turn ≡ true
-    → (scene_by boxes (turn ∷ past)).slots ≡ slots_after (window_by past) turn.event turn.step.verdict (scene_by boxes past).slots
-scene_slots-own boxes past turn explained mine =
+pub state_slots-own : (boxes : ℕ) (past : List Turn) (turn : Turn) → IsExplained boxes past turn → is_by Peer turn ≡ true
+    → (state_by boxes (turn ∷ past)).slots ≡ slots_after (window_by past) turn.event turn.step.verdict (state_by boxes past).slots
+state_slots-own boxes past turn explained mine =
     ap (λ size. slots_by size (own Peer (turn ∷ past))) (keeps-window turn past (window-own turn.event turn.step.verdict mine))
     ∙ own_slots-cons (window_by past) boxes past turn explained mine
 
-pub scene_slots-other : (boxes : ℕ) (past : List Turn) (turn : Turn) → IsExplained boxes past turn → is_by Peer turn ≡ false → (scene_by boxes (turn ∷ past)).slots ≡ (scene_by boxes past).slots
-scene_slots-other boxes past turn explained other =
+pub state_slots-other : (boxes : ℕ) (past : List Turn) (turn : Turn) → IsExplained boxes past turn → is_by Peer turn ≡ false → (state_by boxes (turn ∷ past)).slots ≡ (state_by boxes past).slots
+state_slots-other boxes past turn explained other =
     other_slots-cons (window_by (turn ∷ past)) past turn other
     ∙ ⊎_elim
     (λ none. ap (λ size. slots_by size (own Peer past)) (keeps-window turn past none))

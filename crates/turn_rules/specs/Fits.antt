@@ -19,7 +19,7 @@ use Rattle.turn_rules.specs.Deliveries.{MemberTakes, PeerTakes}
 use Rattle.turn_rules.specs.Draws.{Draws, Enters, TakesOver}
 use Rattle.turn_rules.specs.MemberPackets.{SendsData}
 use Rattle.turn_rules.specs.Peers.{admits}
-use Rattle.turn_rules.specs.Scenes.{Scene, scene_by}
+use Rattle.turn_rules.specs.States.{RunState, state_by}
 use Rattle.turn_rules.specs.Slots.{PeerSends, Slot, records}
 use Rattle.turn_rules.specs.Steps.{IsQuiet, Says}
 
@@ -53,78 +53,78 @@ pub record Quietly (rule : List Call → Verdict → Type 0) (calls : List Call)
   pub quiet : IsQuiet step
 
 -- a member of this number has joined
-abbrev pub has_joined : ℕ → Scene → Bool
-has_joined member scene = nat_lt 0 member && nat_le member scene.joined
+abbrev pub has_joined : ℕ → RunState → Bool
+has_joined member state = nat_lt 0 member && nat_le member state.joined
 
 -- a member that never joined, or ended, does nothing
-abbrev pub WhereUp : Scene → ℕ → List Call → Step → Type 0 → Type 0
-WhereUp scene member calls step otherwise =
-    Refusing (not (has_joined member scene)) refusal.NoMember calls step
-    (Refusing (scene.ended (member - 1)) refusal.Down calls step otherwise)
+abbrev pub WhereUp : RunState → ℕ → List Call → Step → Type 0 → Type 0
+WhereUp state member calls step otherwise =
+    Refusing (not (has_joined member state)) refusal.NoMember calls step
+    (Refusing (state.ended (member - 1)) refusal.Down calls step otherwise)
 
 -- the peer is always there
-abbrev pub WherePresent : Scene → Party → List Call → Step → Type 0 → Type 0
-WherePresent scene parties.Peer calls step otherwise = otherwise
-WherePresent scene (parties.Member member) calls step otherwise = WhereUp scene member calls step otherwise
+abbrev pub WherePresent : RunState → Party → List Call → Step → Type 0 → Type 0
+WherePresent state parties.Peer calls step otherwise = otherwise
+WherePresent state (parties.Member member) calls step otherwise = WhereUp state member calls step otherwise
 
-abbrev pub WhereRoom : Scene → List Call → Step → Type 0 → Type 0
-WhereRoom scene calls step otherwise = Refusing (nat_le MAX_DATAGRAMS (length scene.datagrams)) refusal.DatagramsFull calls step otherwise
+abbrev pub WhereRoom : RunState → List Call → Step → Type 0 → Type 0
+WhereRoom state calls step otherwise = Refusing (nat_le MAX_DATAGRAMS (length state.datagrams)) refusal.DatagramsFull calls step otherwise
 
 -- the cluster is configured before anything else
-abbrev pub Configures : Scene → List Call → Step → Type 0
-Configures scene calls step = Refusing scene.started refusal.Late calls step (Yields out.Configured calls step)
+abbrev pub Configures : RunState → List Call → Step → Type 0
+Configures state calls step = Refusing state.started refusal.Late calls step (Yields out.Configured calls step)
 
-abbrev pub Imports : Scene → Record → List Call → Step → Type 0
-Imports scene sa calls step =
+abbrev pub Imports : RunState → Record → List Call → Step → Type 0
+Imports state sa calls step =
     Refusing (not (is_importable sa)) refusal.SpiRange calls step
-    (Refusing (not (admits (records scene.slots) sa)) refusal.SpiInUse calls step
+    (Refusing (not (admits (records state.slots) sa)) refusal.SpiInUse calls step
     (Quietly (Enters sa) calls step))
 
-abbrev pub Joins : Scene → List Call → Step → Type 0
-Joins scene calls step =
-    Refusing (nat_le MAX_MEMBERS scene.joined || nat_le scene.boxes scene.joined) (refusal.NoRoom scene.joined) calls step
-    (Yields (out.Member (scene.joined + 1)) calls step)
+abbrev pub Joins : RunState → List Call → Step → Type 0
+Joins state calls step =
+    Refusing (nat_le MAX_MEMBERS state.joined || nat_le state.boxes state.joined) (refusal.NoRoom state.joined) calls step
+    (Yields (out.Member (state.joined + 1)) calls step)
 
 -- a member draws a number of what it holds
-abbrev pub DrawsOf : Scene → ℕ → ℕ → List Call → Step → Type 0
-DrawsOf scene member spir calls step = MatchOption (scene.held (member - 1) spir)
+abbrev pub DrawsOf : RunState → ℕ → ℕ → List Call → Step → Type 0
+DrawsOf state member spir calls step = MatchOption (state.held (member - 1) spir)
     (Refuses refusal.NotOwner calls step)
     (λ held. Quietly (Draws held) calls step)
 
 -- the peer sends by its associations, and a member by what it holds
-abbrev pub SendsAs : Scene → Party → ℕ → List ℕ → List Call → Step → Type 0
-SendsAs scene parties.Peer spir payload calls step = (calls ≡ []) × ((after : List Slot) × PeerSends spir scene.slots payload step after)
-SendsAs scene (parties.Member member) spir payload calls step = MatchOption (scene.held (member - 1) spir)
+abbrev pub SendsAs : RunState → Party → ℕ → List ℕ → List Call → Step → Type 0
+SendsAs state parties.Peer spir payload calls step = (calls ≡ []) × ((after : List Slot) × PeerSends spir state.slots payload step after)
+SendsAs state (parties.Member member) spir payload calls step = MatchOption (state.held (member - 1) spir)
     (Refuses refusal.NotOwner calls step)
     (λ held. SendsData held payload calls step)
 
 -- an end receives a datagram; none receives an IKE message yet
-abbrev pub Receives : Scene → Party → Medium → List ℕ → List Call → Step → Type 0
-Receives scene to medium.Ike octets calls step = Refuses refusal.NotBuilt calls step
-Receives scene parties.Peer medium.Esp octets calls step = PeerTakes scene.slots octets calls step
-Receives scene (parties.Member member) medium.Esp octets calls step = MemberTakes (scene.held (member - 1)) octets calls step
+abbrev pub Receives : RunState → Party → Medium → List ℕ → List Call → Step → Type 0
+Receives state to medium.Ike octets calls step = Refuses refusal.NotBuilt calls step
+Receives state parties.Peer medium.Esp octets calls step = PeerTakes state.slots octets calls step
+Receives state (parties.Member member) medium.Esp octets calls step = MemberTakes (state.held (member - 1)) octets calls step
 
 -- what an event delivers comes to an end
-abbrev pub Delivers : Scene → Party → Event → List Call → Step → Type 0
-Delivers scene to event calls step =
-    WhereRoom scene calls step
-    (WherePresent scene to calls step
-    (MatchResult (arrives scene.datagrams event) (λ datagram. Receives scene to datagram.medium datagram.octets calls step) (λ why. Refuses why calls step)))
+abbrev pub Delivers : RunState → Party → Event → List Call → Step → Type 0
+Delivers state to event calls step =
+    WhereRoom state calls step
+    (WherePresent state to calls step
+    (MatchResult (arrives state.datagrams event) (λ datagram. Receives state to datagram.medium datagram.octets calls step) (λ why. Refuses why calls step)))
 
 -- the calls of an event and what the ends do, by what they hold
-abbrev pub Does : Scene → Event → List Call → Step → Type 0
-Does scene (event.Cluster identity lifetime window ticket_key) calls step = Configures scene calls step
-Does scene (event.Import sa) calls step = Imports scene sa calls step
-Does scene (event.Join fresh) calls step = Joins scene calls step
-Does scene (event.Own member spir) calls step = WhereUp scene member calls step (Quietly (TakesOver spir member) calls step)
-Does scene (event.Draw member spir) calls step = WhereUp scene member calls step (DrawsOf scene member spir calls step)
-Does scene (event.Crash member) calls step = WhereUp scene member calls step (Yields out.Down calls step)
-Does scene (event.Send from spir payload) calls step = WhereRoom scene calls step (WherePresent scene from calls step (SendsAs scene from spir payload.octets calls step))
-Does scene (event.Deliver which to) calls step = Delivers scene to (event.Deliver which to) calls step
-Does scene (event.Alter which to place octet) calls step = Delivers scene to (event.Alter which to place octet) calls step
-Does scene (event.Cut which to keep) calls step = Delivers scene to (event.Cut which to keep) calls step
-Does scene (event.Inject to medium octets) calls step = Delivers scene to (event.Inject to medium octets) calls step
+abbrev pub Does : RunState → Event → List Call → Step → Type 0
+Does state (event.Cluster identity lifetime window ticket_key) calls step = Configures state calls step
+Does state (event.Import sa) calls step = Imports state sa calls step
+Does state (event.Join fresh) calls step = Joins state calls step
+Does state (event.Own member spir) calls step = WhereUp state member calls step (Quietly (TakesOver spir member) calls step)
+Does state (event.Draw member spir) calls step = WhereUp state member calls step (DrawsOf state member spir calls step)
+Does state (event.Crash member) calls step = WhereUp state member calls step (Yields out.Down calls step)
+Does state (event.Send from spir payload) calls step = WhereRoom state calls step (WherePresent state from calls step (SendsAs state from spir payload.octets calls step))
+Does state (event.Deliver which to) calls step = Delivers state to (event.Deliver which to) calls step
+Does state (event.Alter which to place octet) calls step = Delivers state to (event.Alter which to place octet) calls step
+Does state (event.Cut which to keep) calls step = Delivers state to (event.Cut which to keep) calls step
+Does state (event.Inject to medium octets) calls step = Delivers state to (event.Inject to medium octets) calls step
 
 -- the same, after these turns
 abbrev pub Fits : ℕ → List Turn → Event → List Call → Step → Type 0
-Fits boxes past event calls step = Does (scene_by boxes past) event calls step
+Fits boxes past event calls step = Does (state_by boxes past) event calls step

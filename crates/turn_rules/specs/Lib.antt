@@ -10,7 +10,7 @@ pub mod MemberPackets
 pub mod Packets
 pub mod Peers
 pub mod Safe
-pub mod Scenes
+pub mod States
 pub mod Services
 pub mod Slots
 pub mod Steps

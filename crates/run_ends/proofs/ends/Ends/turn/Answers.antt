@@ -6,7 +6,7 @@ use Rattle.keeper_book.specs.Told.{HaveCause}
 use Rattle.keeper_book.specs.declared.calls.Call.{Call}
 use Rattle.turn_rules.specs.Local.{AreShown}
 use Rattle.run_ends.specs.Asked.{AsksAsSeen, newest_calls}
-use Rattle.run_ends.specs.Casts.{AreKept, Plays}
+use Rattle.run_ends.specs.Parties.{AreKept, Plays}
 use Rattle.run_ends.specs.Runs.{CausedSince, Run, StandsTold}
 use Rattle.run_ends.proofs.AskedLaws.{asked-behind}
 use Rattle.run_ends.proofs.KeptLaws.{boxes-stay, few, kept}
@@ -23,8 +23,8 @@ module _ (g : _) (c : goal.After-push g) where
   more : c.push.new.self.past ≡ turn ∷ past
   more = c.push.ensures ∙ ap (λ (ts : List Turn). turn ∷ ts) c.in_ok-reserve.ensures.past
 
-  plays : Plays past c.self.inside.cast c.args.event c.in_ok-step.ensures.plays.0 c.in_ok-step.step c.play.new.self
-  plays = subst (λ (ts : List Turn). Plays ts c.self.inside.cast c.args.event c.in_ok-step.ensures.plays.0 c.in_ok-step.step c.play.new.self) c.in_ok-reserve.ensures.past c.in_ok-step.ensures.plays.1
+  plays : Plays past c.self.inside.parties c.args.event c.in_ok-step.ensures.plays.0 c.in_ok-step.step c.play.new.self
+  plays = subst (λ (ts : List Turn). Plays ts c.self.inside.parties c.args.event c.in_ok-step.ensures.plays.0 c.in_ok-step.step c.play.new.self) c.in_ok-reserve.ensures.past c.in_ok-step.ensures.plays.1
 
   shown : AreShown c.in_ok-step.ensures.plays.0
   shown = spoken-shown c.args.keeper.now c.in_ok-step.ensures.plays.0 c.play.new.keeper c.in_ok-step.ensures.plays.2 (λ a call b passed. passed.open_answer)
@@ -34,13 +34,13 @@ module _ (g : _) (c : goal.After-push g) where
       let p = c.in_ok-step.ensures.plays in
       c.take_calls-calls.ensures.calls
       ∙ told-all p.0 c.args.keeper.now.calls c.play.new.keeper.calls c.args.keeper.now.missed c.play.new.keeper.missed c.requires.empty c.requires.told
-      (few past c.self.inside.cast p.0 c.in_ok-step.step c.play.new.self c.args.event plays)
+      (few past c.self.inside.parties p.0 c.in_ok-step.step c.play.new.self c.args.event plays)
       p.2.adds
 
   are_kept : AreKept (turn ∷ past) c.play.new.self
   are_kept =
       subst (λ (cs : List Call). AreKept (record { moment = c.args.now; event = c.args.event; calls = cs; step = c.in_ok-step.step } ∷ past) c.play.new.self) (sym calls_are)
-      (kept c.args.now c.in_ok-step.ensures.plays.0 c.in_ok-step.step c.play.new.self past c.self.inside.cast c.self.invariant shown c.args.event c.requires.fits plays)
+      (kept c.args.now c.in_ok-step.ensures.plays.0 c.in_ok-step.step c.play.new.self past c.self.inside.parties c.self.invariant shown c.args.event c.requires.fits plays)
 
 pub invariant_of-self-2 : goal.invariant_of-self-2
 invariant_of-self-2 g c = subst (λ (turns : List Turn). AreKept turns c.play.new.self) (sym (more g c)) (are_kept g c)
@@ -51,7 +51,7 @@ returns-clause-grows g c = record {
   more = more g c ∙ ap (λ (run : Run). turn g c ∷ run.past) c.self.view_is;
   of_event = refl;
   at_moment = refl;
-  boxes = boxes-stay c.args.now c.in_ok-step.ensures.plays.0 c.in_ok-step.step c.play.new.self (past g c) c.self.inside.cast c.self.invariant (shown g c) c.args.event c.requires.fits (plays g c) ∙ ap (λ (run : Run). run.boxes) c.self.view_is;
+  boxes = boxes-stay c.args.now c.in_ok-step.ensures.plays.0 c.in_ok-step.step c.play.new.self (past g c) c.self.inside.parties c.self.invariant (shown g c) c.args.event c.requires.fits (plays g c) ∙ ap (λ (run : Run). run.boxes) c.self.view_is;
 }
 
 pub returns-clause-local : goal.returns-clause-local

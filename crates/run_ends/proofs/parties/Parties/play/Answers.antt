@@ -3,7 +3,7 @@ use Rattle.std.proofs.Common.{[], sym}
 use Rattle.keeper_book.proofs.Asking.{asks_none}
 use Rattle.turn_rules.specs.Datagrams.{datagrams_of}
 use Rattle.run_ends.proofs.Bounds.{arrives-short}
-use Rattle.run_ends.proofs.cast.Cast.play.Goals as goal
+use Rattle.run_ends.proofs.parties.Parties.play.Goals as goal
 
 pub returns-in-Cluster-clause-plays : goal.returns-in-Cluster-clause-plays
 returns-in-Cluster-clause-plays g c = ([], rw (c.in-Cluster.is, sym c.of-settings.ensures) c.configure.ensures, asks_none c.args.keeper.now)

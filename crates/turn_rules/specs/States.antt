@@ -13,7 +13,7 @@ use Rattle.turn_rules.specs.Slots.{Slot, slots_by}
 
 -- boxes: how many services were handed in for members; joined: how many members joined. Members are counted from 1, and
 -- `ended` and `held` have the place of a member, counted from 0.
-pub record Scene : Type 0 where
+pub record RunState : Type 0 where
   pub boxes : ℕ
   pub started : Bool
   pub joined : ℕ
@@ -49,8 +49,8 @@ has_turns [] = false
 has_turns (turn ∷ past) = true
 
 -- what the turns of a run say that its ends hold, each by its own turns
-abbrev pub scene_by : ℕ → List Turn → Scene
-scene_by boxes past = record {
+abbrev pub state_by : ℕ → List Turn → RunState
+state_by boxes past = record {
   boxes = boxes;
   started = has_turns past;
   joined = joins past;

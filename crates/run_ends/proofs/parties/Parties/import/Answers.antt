@@ -5,7 +5,7 @@ use Rattle.turn_rules.specs.Fits.{is_importable}
 use Rattle.turn_rules.specs.Peers.{admits}
 use Rattle.turn_rules.specs.Slots.{records}
 use Rattle.run_ends.proofs.Refusing.{clashes}
-use Rattle.run_ends.proofs.cast.Cast.import.Goals as goal
+use Rattle.run_ends.proofs.parties.Parties.import.Goals as goal
 
 pub returns-then-not-admits-clause-imports : goal.returns-then-not-admits-clause-imports
 returns-then-not-admits-clause-imports g c =

@@ -11,7 +11,7 @@ ghost use Rattle.replay_set.specs.Window.{IsWindowSize};
 ghost use Rattle.turn_rules.specs.Datagrams.{datagrams_of};
 ghost use Rattle.turn_rules.specs.Fits.{is_importable};
 ghost use Rattle.turn_rules.specs.Steps.{Says};
-ghost use Rattle.run_ends.specs.Casts.{ConfiguresFirst, Imports, IsShort, Plays};
+ghost use Rattle.run_ends.specs.Parties.{ConfiguresFirst, Imports, IsShort, Plays};
 
 use crate::settings::Settings;
 use cluster_member::{Member, of_fault};
@@ -31,7 +31,7 @@ const LEAST_ESP_SPI: u32 = 65_536;
 
 /// The peer, and the members that joined.
 #[derive(Drop)]
-pub(crate) struct Cast {
+pub(crate) struct Parties {
     pub(crate) alloc: Global,
     // how many services were handed in for members
     pub(crate) boxes: usize,
@@ -41,12 +41,12 @@ pub(crate) struct Cast {
     pub(crate) members: Vec<Option<Member>>,
 }
 
-impl Model for Cast {
+impl Model for Parties {
     ghost use Rattle.std.specs.Prelude.{◌≡◌, ◌≤◌, length};
     ghost use Rattle.replay_set.specs.Window.{IsWindowSize};
-    ghost use Rattle.run_ends.specs.Casts.{Standing};
+    ghost use Rattle.run_ends.specs.Parties.{EndsHeld};
 
-    ghost Value = { Standing };
+    ghost Value = { EndsHeld };
 
     ghost view = { λ c. record {
       boxes = c.boxes;
@@ -77,13 +77,13 @@ fn is_importable(sa: &Record) -> bool
         && sa.starts.iv > 0
 }
 
-impl Cast {
+impl Parties {
     /// Ends that have done nothing, and services for as many members as `boxes` says.
-    pub fn new(alloc: Global, boxes: usize) -> Cast
+    pub fn new(alloc: Global, boxes: usize) -> Parties
         ensures { result ≡ record { boxes = boxes; window = 64; slots = []; members = [] } }
     {
         let settings = Settings::by_default();
-        Cast {
+        Parties {
             alloc,
             boxes,
             peer: Peer::new(alloc, settings.gateway(), settings.window),
