@@ -13,20 +13,6 @@ use std::process::ExitCode;
 /// How many members a run has services for.
 const MEMBERS: usize = 64;
 
-/// The exit status of want of memory.
-const NO_MEMORY: u8 = 3;
-
-fn code_of(status: Status) -> u8 {
-    match status {
-        Status::Done => 0,
-        Status::FaultyLine => 1,
-        Status::Words => 2,
-        Status::Memory => NO_MEMORY,
-        Status::ReadFault => 4,
-        Status::WriteFault => 5,
-    }
-}
-
 // The words of the command line. Words that can't be read for another cause than memory are taken as no words.
 fn words(rt: &HostRuntime) -> Result<Vec<String>, AllocError> {
     let mut words = Vec::new(rt.alloc());
@@ -69,8 +55,6 @@ fn run(rt: &HostRuntime) -> Result<Status, AllocError> {
 }
 
 fn main(rt: HostRuntime) -> ExitCode {
-    ExitCode::from(match run(&rt) {
-        Ok(status) => code_of(status),
-        Err(_) => NO_MEMORY,
-    })
+    let status = run(&rt).unwrap_or(Status::Memory);
+    ExitCode::from(status.exit_code())
 }

@@ -10,7 +10,7 @@ ghost use Rattle.replay_world.specs.Commands.{command_of, named_by};
 ghost use Rattle.replay_world.specs.declared.top.Command.TheVariants.{Run, Show};
 ghost use Rattle.report_text.specs.Faults.{fault_line};
 ghost use Rattle.event_text.specs.declared.place.InputFault.{InputFault};
-ghost use Rattle.replay_world.specs.Statuses.{AtEnd};
+ghost use Rattle.replay_world.specs.Statuses.{AtEnd, exit_code};
 ghost use Rattle.turn_rules.specs.Services.{AreGiven, service_of};
 
 use crate::input::{Unread, read_input};
@@ -37,6 +37,22 @@ pub enum Status {
     ReadFault,
     /// The output, or a line on the error output, could not be written.
     WriteFault,
+}
+
+impl Status {
+    /// The number that the process ends with, from 0 to 5.
+    pub fn exit_code(self) -> u8
+        ensures { result ≡ exit_code self }
+    {
+        match self {
+            Status::Done => 0,
+            Status::FaultyLine => 1,
+            Status::Words => 2,
+            Status::Memory => 3,
+            Status::ReadFault => 4,
+            Status::WriteFault => 5,
+        }
+    }
 }
 
 /// What the words of a command line ask for.

@@ -2,20 +2,8 @@
 
 use crate::run::{Failing, Outcome, play};
 use anyhow::bail;
-use replay_world::top::Status;
 use std::alloc::Global;
 use std::str;
-
-fn code_of(status: Status) -> u8 {
-    match status {
-        Status::Done => 0,
-        Status::FaultyLine => 1,
-        Status::Words => 2,
-        Status::Memory => 3,
-        Status::ReadFault => 4,
-        Status::WriteFault => 5,
-    }
-}
 
 /// The answer of a case, whose first line says what is done with the rest.
 pub fn answer(alloc: Global, case: &str) -> anyhow::Result<String> {
@@ -39,7 +27,7 @@ fn in_pieces(alloc: Global, input: &str) -> anyhow::Result<String> {
     }
     let written = str::from_utf8(whole.written())?;
     let said = str::from_utf8(whole.said())?;
-    Ok(format!(in alloc; "pieces\n{written}status {}\n{said}", code_of(whole.status))?)
+    Ok(format!(in alloc; "pieces\n{written}status {}\n{said}", whole.status.exit_code())?)
 }
 
 // What a run writes before a call fails is a front of what it writes else.
@@ -48,7 +36,7 @@ fn code_with(alloc: Global, input: &str, whole: &Outcome, failing: Failing) -> a
     if !whole.written().starts_with(outcome.written()) {
         bail!("what was written is no front of the report");
     }
-    Ok(code_of(outcome.status))
+    Ok(outcome.status.exit_code())
 }
 
 fn with_faults(alloc: Global, input: &str) -> anyhow::Result<String> {
