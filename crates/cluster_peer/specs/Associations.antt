@@ -1,5 +1,5 @@
 -- What the peer keeps of an association.
-use Rattle.std.specs.Prelude.{ℕ, ◌≡◌, ◌^◌}
+use Rattle.std.specs.Prelude.{◌≡◌, ◌^◌}
 use Rattle.keeper_book.specs.declared.counters.Counter.TheVariants as counter
 use Rattle.keeper_book.specs.declared.records.Record.{Record}
 use Rattle.spend_once.specs.Lot.{Remaining}

@@ -67,14 +67,18 @@ fn window(rt: &impl Abort, base: u64, noted: u64) -> ReplaySet {
 
 #[test]
 fn a_packet_is_sealed(rt: HostRuntime) -> Result<(), Fail> {
-    let mut plain = Octets::with_room(rt.alloc(), PAYLOAD.len() + PACKET_OVERHEAD).ok().ok_or("memory")?;
+    let mut plain = Octets::with_room(rt.alloc(), PAYLOAD.len() + PACKET_OVERHEAD)
+        .ok()
+        .ok_or("memory")?;
     spell_plain(&PAYLOAD, 4, &mut plain);
     assert_eq!(rt;
         plain.as_slice(),
         [0x30, 0x1f, 0xee, 0x2d, 1, 2, 2, 4].as_slice()
     );
 
-    let mut packet = Octets::with_room(rt.alloc(), PAYLOAD.len() + PACKET_OVERHEAD).ok().ok_or("memory")?;
+    let mut packet = Octets::with_room(rt.alloc(), PAYLOAD.len() + PACKET_OVERHEAD)
+        .ok()
+        .ok_or("memory")?;
     seal_packet(
         &key(&rt),
         SPI,

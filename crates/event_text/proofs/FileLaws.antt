@@ -1,6 +1,6 @@
 -- An input without a fault is the text of its events.
 use Rattle.std.proofs.Common.{◌≡◌, ◌≢◌, ℕ, ◌+◌, ◌<◌, ◌≤◌, Bool, true, false, not, cond, eqb, List, [], ◌∷◌, ◌++◌, length, Option, Some, None, Result, Ok, Err, refl, sym, ap, ◌∙◌, subst, append_assoc, append-nil, arith, inl, inr, ◌⊎◌, codes}
-use Rattle.std.proofs.lemmas.Bool.{and_parts, cases_lt, eqb-false, le-leb, le-ltb, lt-ltb, ne_eqb}
+use Rattle.std.proofs.lemmas.Bool.{and_parts, eqb-false, le-ltb, ne_eqb}
 use Rattle.std.specs.List.{AllByRecursion, filter, list_all}
 use Rattle.std.proofs.lemmas.Bool.Decides.{eqb_tells}
 use Rattle.std.proofs.lemmas.List.{length-append}
@@ -22,7 +22,7 @@ use Rattle.event_text.specs.EventFile.{EventText, SayEvents}
 use Rattle.event_text.proofs.EventLaws.{line_again, line_takes}
 use Rattle.line_fields.proofs.FieldLaws.{pick}
 use Rattle.event_text.proofs.FrontLaws.{read_within, version_within}
-use Rattle.input_lines.proofs.LimitLaws.{overlong_none, unless_ok}
+use Rattle.input_lines.proofs.LimitLaws.{short_line as short_read, unless_ok}
 
 -- lines one after another
 joined : List (List ℕ) → List ℕ
@@ -108,14 +108,6 @@ unfed_size (c ∷ cs) =
       | inr other ↦ rw other.0 (omega arith)
     ]
 
--- a line that is at its place is not too long
-short_read : (before octets size : ℕ) → size ≤ octets → before + octets ≤ 67108864 → overlong before octets size ≡ None → size ≤ 16384
-short_read before octets size within fits none =
-    elim (cases_lt 16384 size) [
-      | inl more ↦ absurd (let is_long = rw (lt-ltb 16384 size more, le-leb (before + 16385) 67108865 (omega arith)) at none in cc)
-      | inr le ↦ le
-    ]
-
 record ReadsAt (ls : List (List ℕ)) (p : Place) (events : List (Moment × PlainEvent)) : Type 0 where
   are_lines : AllByRecursion IsLine (bare ls)
   say : SayEvents p.last.0 (filter is_said (bare ls)) events
@@ -159,7 +151,7 @@ line_read l p x e =
     let none = unless_ok (overlong p.before (length l) (length (without_line_feed l))) _ x e in
     record {
       whole = unfed_whole l;
-      short = short_read p.before (length l) (length (without_line_feed l)) (unfed_size l) (overlong_none p.before (length l) (length (without_line_feed l)) none) none;
+      short = short_read p.before (length l) (length (without_line_feed l)) (unfed_size l) none;
     }
 
 -- a line and what follows it were read

@@ -50,7 +50,7 @@ fn is_fresh(service: &Box<dyn Service>) -> bool
 
 /// Whether no service has executed anything.
 pub fn are_fresh(services: &Vec<Box<dyn Service>>) -> bool
-    ensures { IsTrue result → AllByRecursion (λ service. count service ≡ 0) services.now.items }
+    ensures { IsTrue result ↔ AllByRecursion (λ service. count service ≡ 0) services.now.items }
 {
     for service in services {
         if !is_fresh(service) {

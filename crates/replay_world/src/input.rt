@@ -3,10 +3,8 @@ ghost use Rattle.std.specs.Io.KnownBytes.{Consumes, IsAtEnd, Keeps};
 ghost use Rattle.ha_base.specs.Faults.{HasFailed};
 
 use ha_base::{Memory, Octets, Source};
+use input_lines::INPUT_OCTETS;
 use std::alloc::Global;
-
-/// The most octets of an input; one more is a fault.
-const MOST_OCTETS: usize = 67_108_864;
 
 /// How many octets a read asks for.
 const PIECE: usize = 65_536;
@@ -39,7 +37,7 @@ pub(crate) fn read_input<S: Source>(alloc: Global, source: &mut S) -> Result<Oct
 {
     let mut input = Octets::new(alloc);
     let mut piece = [0; PIECE];
-    while input.as_slice().len() <= MOST_OCTETS {
+    while input.as_slice().len() <= INPUT_OCTETS {
         match source.read(&mut piece) {
             Ok(0) => return Ok(input),
             Ok(n) => input.extend(&piece[..n])?,

@@ -2,10 +2,10 @@
 #![tactic(auto)]
 
 mod arrivals;
-mod parties;
 mod deliveries;
 mod ends;
 mod members;
+mod parties;
 mod sends;
 mod settings;
 

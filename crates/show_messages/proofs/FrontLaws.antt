@@ -1,11 +1,7 @@
 -- What an input holds is told by as many of its octets as an input may have, and one more.
-use Rattle.std.proofs.Common.{◌≡◌, ℕ, zero, suc, ◌+◌, ◌-◌, ◌<◌, ◌≤◌, Bool, true, false, ◌&&◌, eqb, ltb, leb, List, [], ◌∷◌, ◌++◌, length, Option, Some, None, Result, Ok, Err, refl, sym, ap, ◌∙◌, append_assoc, append-nil, arith, inl, inr, ◌⊎◌}
-use Rattle.std.proofs.lemmas.Bool.{cases_lt, le-leb, lt-leb, lt-ltb}
-use Rattle.std.proofs.lemmas.Bool.Decides.{eqb_tells}
+use Rattle.std.proofs.Common.{◌≡◌, ℕ, zero, suc, ◌+◌, ◌≤◌, List, [], ◌∷◌, ◌++◌, length, Option, Some, None, Result, Ok, Err, refl, sym, ap, ◌∙◌, append_assoc, append-nil, arith, inl, inr}
 use Rattle.std.proofs.lemmas.List.{length-append}
 use Rattle.line_fields.specs.declared.fault.LineFault.{LineFault}
-use Rattle.line_fields.specs.declared.fault.LineReason.TheVariants as reasons
-use Rattle.line_fields.specs.Fields.{fault_at}
 use Rattle.input_lines.specs.Lines.{lines_of, without_line_feed}
 use Rattle.input_lines.specs.Limits.{overlong}
 use Rattle.input_lines.proofs.FirstLines.{first_line}

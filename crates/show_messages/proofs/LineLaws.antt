@@ -1,11 +1,7 @@
 -- Lines of an input that is not at its end.
-use Rattle.std.proofs.Common.{◌≡◌, ℕ, ◌+◌, ◌-◌, ◌<◌, ◌≤◌, Bool, true, false, ◌&&◌, cond, eqb, ltb, leb, List, [], ◌∷◌, length, Some, None, refl, arith, inl, inr}
-use Rattle.std.proofs.lemmas.Bool.{cases_lt, le-leb, lt-ltb}
+use Rattle.std.proofs.Common.{◌≡◌, ℕ, ◌<◌, Bool, true, false, cond, eqb, List, [], ◌∷◌, length, None, refl, arith}
 use Rattle.input_lines.specs.Lines.{lines_of}
-use Rattle.line_fields.specs.Fields.{fault_at}
 use Rattle.line_fields.specs.Words.{onto}
-use Rattle.line_fields.specs.declared.fault.LineFault.{LineFault}
-use Rattle.line_fields.specs.declared.fault.LineReason.TheVariants as reasons
 use Rattle.show_messages.specs.Messages.{messages_at}
 use Rattle.show_messages.specs.declared.reader.Place.{Place}
 

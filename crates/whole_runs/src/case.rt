@@ -27,7 +27,10 @@ fn in_pieces(alloc: Global, input: &str) -> anyhow::Result<String> {
     }
     let written = str::from_utf8(whole.written())?;
     let said = str::from_utf8(whole.said())?;
-    Ok(format!(in alloc; "pieces\n{written}status {}\n{said}", whole.status.exit_code())?)
+    Ok(format!(in alloc;
+        "pieces\n{written}status {}\n{said}",
+        whole.status.exit_code()
+    )?)
 }
 
 // What a run writes before a call fails is a front of what it writes else.

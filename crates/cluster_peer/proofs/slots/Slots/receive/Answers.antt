@@ -1,6 +1,5 @@
 -- A packet that is long enough has an SPI.
-use Rattle.std.proofs.Common.{◌≡◌, ◌≤◌, ◌<◌, MatchOption, List, ℕ, length, arith, sym, subst}
-use Rattle.esp_packets.specs.Packet.{spi_of}
+use Rattle.std.proofs.Common.{◌≡◌, MatchOption, arith, subst}
 use Rattle.ha_base.specs.declared.esp_outcomes.EspDrop.TheVariants as drop
 use Rattle.turn_rules.specs.Packets.{Drops}
 use Rattle.turn_rules.specs.Slots.{Slot, SlotReceives, first_slot, receives_at, with_slot}

@@ -1,7 +1,7 @@
 -- A packet is received by the association at its place.
 use Rattle.std.proofs.Common.{◌≡◌, Some, ap, sym, ◌∙◌}
 use Rattle.std.proofs.Math.ListN.{set}
-use Rattle.turn_rules.specs.Slots.{Slot, first_slot, receives_at, with_slot}
+use Rattle.turn_rules.specs.Slots.{first_slot, receives_at, with_slot}
 use Rattle.cluster_peer.specs.Slots.{IsFirst, Slotted}
 use Rattle.cluster_peer.proofs.SlotLemmas.{first_at, put_at}
 use Rattle.cluster_peer.proofs.slots.Slots.receive_at.Goals as goal

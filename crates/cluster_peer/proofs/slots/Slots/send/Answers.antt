@@ -1,7 +1,7 @@
 -- A payload is sent by the association at its place.
 use Rattle.std.proofs.Common.{◌≡◌, Some, ap, sym, ◌∙◌}
 use Rattle.std.proofs.Math.ListN.{set}
-use Rattle.turn_rules.specs.Slots.{Slot, first_slot, has_spir, with_slot}
+use Rattle.turn_rules.specs.Slots.{first_slot, has_spir, with_slot}
 use Rattle.cluster_peer.specs.Slots.{IsFirst, Slotted}
 use Rattle.cluster_peer.proofs.SlotLemmas.{first_at, put_at}
 use Rattle.cluster_peer.proofs.slots.Slots.send.Goals as goal
