@@ -1,2 +1,3 @@
+mod AskedLaws
 mod OwnedLaws
 pub mod PlayedLaws

@@ -8,10 +8,11 @@ use Rattle.event_text.specs.declared.place.InputFault.{InputFault}
 use Rattle.event_text.specs.declared.turn.Turn.{Turn}
 use Rattle.ha_base.specs.declared.outside.Moment.{Moment}
 use Rattle.keeper_book.specs.Book.{Book}
+use Rattle.keeper_book.specs.declared.calls.Call.{Call}
 use Rattle.ha_base.specs.Faults.{AppendsFront}
 use Rattle.replay_world.specs.Owning.{OwnedTold}
 use Rattle.run_ends.specs.Runs.{CausedSince, StandsTold}
-use Rattle.turn_rules.specs.Local.{Local}
+use Rattle.turn_rules.specs.Local.{Local, calls_of}
 use Rattle.turn_rules.specs.Safe.{Safe}
 
 -- the moment and the event of a turn, as a line has them
@@ -28,14 +29,17 @@ abbrev pub prefixed : List (Moment × PlainEvent) → Contents → Contents
 prefixed events rest = record { events = events ++ rest.events; fault = rest.fault }
 
 -- What an input was played as: the trace has one turn for each of its events up to its first fault, where it has one, each
--- explained by those before it, and the text is the report of the trace. given: what the services may give in a trace.
-pub record IsPlayed (given : List Turn → Type 0) (boxes : ℕ) (input : List ℕ) (fault : Option InputFault) (text : List ℕ) (book now_book : Option Book) (faults now_faults : ℕ) : Type 0 where
+-- explained by those before it, and the text is the report of the trace. given: what the services may give in a trace;
+-- asked: which calls were asked of the keeper.
+pub record IsPlayed (given : List Turn → Type 0) (asked : List Call → Type 0) (boxes : ℕ) (input : List ℕ) (fault : Option InputFault) (text : List ℕ) (book now_book : Option Book) (faults now_faults : ℕ) : Type 0 where
   pub trace : List Turn
   pub events : contents_of input ≡ record { events = titles trace; fault = fault }
   pub written : text ≡ report trace
   pub local : Local boxes trace
   -- what was executed, the services may give
   pub serves : given trace
+  -- the calls of its turns were asked of the keeper, in this order, and no others
+  pub asks : asked (calls_of trace)
   -- where the keeper told an empty book, it tells the one that the calls of the trace lead to
   pub stands : StandsTold [] book → StandsTold trace now_book
   -- and the numbers of its epochs belong to one end each
@@ -47,18 +51,18 @@ pub record IsPlayed (given : List Turn → Type 0) (boxes : ℕ) (input : List �
 
 -- an input was read, to its end or until it was too long to be one, and what was written is the report of what it was
 -- played as
-pub record Completes (given : List Turn → Type 0) (boxes : ℕ) (left still_left written now_written : Option (List ℕ)) (book now_book : Option Book) (faults now_faults : ℕ) (fault : Option InputFault) : Type 0 where
+pub record Completes (given : List Turn → Type 0) (asked : List Call → Type 0) (boxes : ℕ) (left still_left written now_written : Option (List ℕ)) (book now_book : Option Book) (faults now_faults : ℕ) (fault : Option InputFault) : Type 0 where
   pub input : List ℕ
   pub text : List ℕ
   pub read : Consumes left still_left input
   pub whole : IsAtEnd still_left ⊎ (67108864 < length input)
   -- one that is too long is not read on: pieces are of at most 65,536 octets
   pub bounded : length input ≤ 67108864 + 65536
-  pub played : IsPlayed given boxes input fault text book now_book faults now_faults
+  pub played : IsPlayed given asked boxes input fault text book now_book faults now_faults
   pub wrote : Appends written now_written text
 
 -- the same, but of what was to be written only a front was
-pub record BreaksOff (given : List Turn → Type 0) (boxes : ℕ) (left still_left written now_written : Option (List ℕ)) (book now_book : Option Book) (faults now_faults : ℕ) : Type 0 where
+pub record BreaksOff (given : List Turn → Type 0) (asked : List Call → Type 0) (boxes : ℕ) (left still_left written now_written : Option (List ℕ)) (book now_book : Option Book) (faults now_faults : ℕ) : Type 0 where
   pub input : List ℕ
   pub text : List ℕ
   pub fault : Option InputFault
@@ -66,5 +70,5 @@ pub record BreaksOff (given : List Turn → Type 0) (boxes : ℕ) (left still_le
   pub whole : IsAtEnd still_left ⊎ (67108864 < length input)
   -- one that is too long is not read on: pieces are of at most 65,536 octets
   pub bounded : length input ≤ 67108864 + 65536
-  pub played : IsPlayed given boxes input fault text book now_book faults now_faults
+  pub played : IsPlayed given asked boxes input fault text book now_book faults now_faults
   pub wrote : AppendsFront written now_written text

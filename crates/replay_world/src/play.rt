@@ -2,8 +2,9 @@ ghost use Rattle.std.specs.Prelude.{◌≡◌, ℕ, List, [], ◌++◌, false, v
 ghost use Rattle.event_text.specs.Input.{contents_of, left_contents};
 ghost use Rattle.report_text.specs.Report.{report, turns_text};
 ghost use Rattle.replay_world.specs.Played.{IsPlayed, prefixed, titles};
+ghost use Rattle.run_ends.specs.Asked.{AsksAsSeen};
 ghost use Rattle.run_ends.specs.Runs.{CausedSince, StandsTold};
-ghost use Rattle.turn_rules.specs.Local.{Local};
+ghost use Rattle.turn_rules.specs.Local.{Local, calls_of};
 ghost use Rattle.turn_rules.specs.Services.{AreGiven, service_of};
 
 use crate::world::World;
@@ -43,6 +44,8 @@ fn play_events<K: Keeper>(
         → OnOk result (StandsTold world.new.ends.past (K.book keeper.new.keeper)) }
     ensures caused { (start : ℕ) → CausedSince start (K.faults keeper.old.keeper) world.old.ends.past
         → OnOk result (CausedSince start (K.faults keeper.new.keeper) world.new.ends.past) }
+    ensures asks { (start : K) → AsksAsSeen K.Keeper start (calls_of world.old.ends.past) keeper.old.keeper
+        → OnOk result (AsksAsSeen K.Keeper start (calls_of world.new.ends.past) keeper.new.keeper) }
 {
     loop {
         match reader.next_event(alloc) {
@@ -76,6 +79,8 @@ fn play_input<K: Keeper>(
     ensures stands { StandsTold [] (K.book keeper.old.keeper) → OnOk result (StandsTold world.new.ends.past (K.book keeper.new.keeper)) }
     ensures caused { (start : ℕ) → CausedSince start (K.faults keeper.old.keeper) []
         → OnOk result (CausedSince start (K.faults keeper.new.keeper) world.new.ends.past) }
+    ensures asks { (start : K) → AsksAsSeen K.Keeper start [] keeper.old.keeper
+        → OnOk result (AsksAsSeen K.Keeper start (calls_of world.new.ends.past) keeper.new.keeper) }
 {
     match EventReader::new(input) {
         Err(fault) => Ok(Some(fault)),
@@ -104,6 +109,8 @@ pub(crate) fn play<K: Keeper>(
     ensures stands { StandsTold [] (K.book keeper.old.keeper) → OnOk result (StandsTold world.new.ends.past (K.book keeper.new.keeper)) }
     ensures caused { (start : ℕ) → CausedSince start (K.faults keeper.old.keeper) []
         → OnOk result (CausedSince start (K.faults keeper.new.keeper) world.new.ends.past) }
+    ensures asks { (start : K) → AsksAsSeen K.Keeper start [] keeper.old.keeper
+        → OnOk result (AsksAsSeen K.Keeper start (calls_of world.new.ends.past) keeper.new.keeper) }
 {
     let mut report = Octets::new(alloc);
     write_head(&mut report)?;
@@ -123,7 +130,8 @@ fn play_run<K: Keeper>(
     requires told { keeper.old.missed ≡ false }
     requires empty { keeper.old.calls ≡ [] }
     ensures held { K.held keeper.new.keeper ≡ K.held keeper.old.keeper }
-    ensures played { IfOk result (λ played. IsPlayed (AreGiven gives (service_of peer_service services.items)) (vec_len services) input.now played.fault played.report.octets
+    ensures played { IfOk result (λ played. IsPlayed (AreGiven gives (service_of peer_service services.items))
+        (λ calls. AsksAsSeen K.Keeper keeper.old.keeper calls keeper.new.keeper) (vec_len services) input.now played.fault played.report.octets
         (K.book keeper.old.keeper) (K.book keeper.new.keeper) (K.faults keeper.old.keeper) (K.faults keeper.new.keeper)) }
 {
     nothing_is_executed();
@@ -142,10 +150,12 @@ pub(crate) fn play_file<K: Keeper>(
     services: Vec<Box<dyn Service>>,
 ) -> Result<Played, Memory>
     ensures held { K.held keeper.new ≡ K.held keeper.old }
-    ensures played { IfOk result (λ played. IsPlayed (AreGiven gives (service_of peer_service services.items)) (vec_len services)
+    ensures played { IfOk result (λ played. IsPlayed (AreGiven gives (service_of peer_service services.items))
+        (λ calls. AsksAsSeen K.Keeper keeper.old calls keeper.new) (vec_len services)
         input.now.octets played.fault played.report.octets
         (K.book keeper.old) (K.book keeper.new) (K.faults keeper.old) (K.faults keeper.new)) }
 {
     let mut gate = Gate::new(keeper);
-    play_run(alloc, input.as_slice(), &mut gate, peer_service, services)
+    let played = play_run(alloc, input.as_slice(), &mut gate, peer_service, services)?;
+    Ok(played)
 }

@@ -11,6 +11,7 @@ ghost use Rattle.replay_world.specs.declared.top.Command.TheVariants.{Run, Show}
 ghost use Rattle.report_text.specs.Faults.{fault_line};
 ghost use Rattle.event_text.specs.declared.place.InputFault.{InputFault};
 ghost use Rattle.replay_world.specs.Statuses.{AtEnd, exit_code};
+ghost use Rattle.run_ends.specs.Asked.{AsksAsSeen};
 ghost use Rattle.turn_rules.specs.Services.{AreGiven, service_of};
 
 use crate::input::{Unread, read_input};
@@ -178,21 +179,23 @@ fn run_command<S: Source, O: Sink, D: Sink, K: Keeper>(
     ensures read_fault { result ≡ Status.ReadFault → HasFailed (S.faults source.old) (S.faults source.new) }
     ensures write_fault { result ≡ Status.WriteFault → HasFailed (O.faults out.old) (O.faults out.new)
         ⊎ HasFailed (D.faults diag.old) (D.faults diag.new) }
-    ensures done { result ≡ Status.Done → Completes (AreGiven gives (service_of peer_service services.items)) (vec_len services) (S.left source.old) (S.left source.new)
-        (O.written out.old) (O.written out.new) (K.book keeper.old) (K.book keeper.new)
+    ensures done { result ≡ Status.Done → Completes (AreGiven gives (service_of peer_service services.items)) (λ calls. AsksAsSeen K.Keeper keeper.old calls keeper.new)
+        (vec_len services) (S.left source.old) (S.left source.new) (O.written out.old) (O.written out.new) (K.book keeper.old) (K.book keeper.new)
         (K.faults keeper.old) (K.faults keeper.new) None }
-    ensures faulty { result ≡ Status.FaultyLine → (fault : InputFault) × Completes (AreGiven gives (service_of peer_service services.items)) (vec_len services) (S.left source.old) (S.left source.new)
-        (O.written out.old) (O.written out.new) (K.book keeper.old) (K.book keeper.new)
+    ensures faulty { result ≡ Status.FaultyLine → (fault : InputFault) × Completes (AreGiven gives (service_of peer_service services.items)) (λ calls. AsksAsSeen K.Keeper keeper.old calls keeper.new)
+        (vec_len services) (S.left source.old) (S.left source.new) (O.written out.old) (O.written out.new) (K.book keeper.old) (K.book keeper.new)
         (K.faults keeper.old) (K.faults keeper.new) (Some fault)
         × Appends (D.written diag.old) (D.written diag.new) (fault_line fault) }
     ensures quiet { result ≡ Status.Done → diag.new ≡ diag.old }
     ensures nothing { result ≡ Status.ReadFault → Keeps (O.written out.old) (O.written out.new) }
     ensures unplayed { result ≡ Status.ReadFault → keeper.new ≡ keeper.old }
     ensures no_memory { result ≡ Status.Memory → Keeps (O.written out.old) (O.written out.new)
-        ⊎ BreaksOff (AreGiven gives (service_of peer_service services.items)) (vec_len services) (S.left source.old) (S.left source.new) (O.written out.old) (O.written out.new)
+        ⊎ BreaksOff (AreGiven gives (service_of peer_service services.items)) (λ calls. AsksAsSeen K.Keeper keeper.old calls keeper.new)
+        (vec_len services) (S.left source.old) (S.left source.new) (O.written out.old) (O.written out.new)
         (K.book keeper.old) (K.book keeper.new) (K.faults keeper.old) (K.faults keeper.new) }
     ensures front { result ≡ Status.WriteFault
-        → BreaksOff (AreGiven gives (service_of peer_service services.items)) (vec_len services) (S.left source.old) (S.left source.new) (O.written out.old) (O.written out.new)
+        → BreaksOff (AreGiven gives (service_of peer_service services.items)) (λ calls. AsksAsSeen K.Keeper keeper.old calls keeper.new)
+        (vec_len services) (S.left source.old) (S.left source.new) (O.written out.old) (O.written out.new)
         (K.book keeper.old) (K.book keeper.new) (K.faults keeper.old) (K.faults keeper.new) }
 {
     let input = match input_of(alloc, source, diag) {
@@ -266,19 +269,21 @@ pub fn replay<S: Source, O: Sink, D: Sink, K: Keeper>(
     ensures nothing { result ≡ Status.ReadFault → Keeps (O.written out.old) (O.written out.new) }
     ensures unplayed { result ≡ Status.ReadFault → keeper.new ≡ keeper.old }
     ensures done { command_of words.now.items ≡ Some Run → result ≡ Status.Done
-        → Completes (AreGiven gives (service_of peer_service services.items)) (vec_len services) (S.left source.old) (S.left source.new)
-        (O.written out.old) (O.written out.new) (K.book keeper.old) (K.book keeper.new)
+        → Completes (AreGiven gives (service_of peer_service services.items)) (λ calls. AsksAsSeen K.Keeper keeper.old calls keeper.new)
+        (vec_len services) (S.left source.old) (S.left source.new) (O.written out.old) (O.written out.new) (K.book keeper.old) (K.book keeper.new)
         (K.faults keeper.old) (K.faults keeper.new) None }
     ensures faulty { command_of words.now.items ≡ Some Run → result ≡ Status.FaultyLine
-        → (fault : InputFault) × Completes (AreGiven gives (service_of peer_service services.items)) (vec_len services) (S.left source.old) (S.left source.new)
-        (O.written out.old) (O.written out.new) (K.book keeper.old) (K.book keeper.new)
+        → (fault : InputFault) × Completes (AreGiven gives (service_of peer_service services.items)) (λ calls. AsksAsSeen K.Keeper keeper.old calls keeper.new)
+        (vec_len services) (S.left source.old) (S.left source.new) (O.written out.old) (O.written out.new) (K.book keeper.old) (K.book keeper.new)
         (K.faults keeper.old) (K.faults keeper.new) (Some fault)
         × Appends (D.written diag.old) (D.written diag.new) (fault_line fault) }
     ensures no_memory { command_of words.now.items ≡ Some Run → result ≡ Status.Memory → Keeps (O.written out.old) (O.written out.new)
-        ⊎ BreaksOff (AreGiven gives (service_of peer_service services.items)) (vec_len services) (S.left source.old) (S.left source.new) (O.written out.old) (O.written out.new)
+        ⊎ BreaksOff (AreGiven gives (service_of peer_service services.items)) (λ calls. AsksAsSeen K.Keeper keeper.old calls keeper.new)
+        (vec_len services) (S.left source.old) (S.left source.new) (O.written out.old) (O.written out.new)
         (K.book keeper.old) (K.book keeper.new) (K.faults keeper.old) (K.faults keeper.new) }
     ensures front { command_of words.now.items ≡ Some Run → result ≡ Status.WriteFault
-        → BreaksOff (AreGiven gives (service_of peer_service services.items)) (vec_len services) (S.left source.old) (S.left source.new) (O.written out.old) (O.written out.new)
+        → BreaksOff (AreGiven gives (service_of peer_service services.items)) (λ calls. AsksAsSeen K.Keeper keeper.old calls keeper.new)
+        (vec_len services) (S.left source.old) (S.left source.new) (O.written out.old) (O.written out.new)
         (K.book keeper.old) (K.book keeper.new) (K.faults keeper.old) (K.faults keeper.new) }
     ensures shows { command_of words.now.items ≡ Some Show → result ≡ Status.Done
         → ShowsAll (S.left source.old) (S.left source.new) (O.written out.old) (O.written out.new) None }

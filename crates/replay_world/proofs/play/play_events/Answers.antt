@@ -4,6 +4,7 @@ use Rattle.std.specs.Prelude.{slice_get}
 use Rattle.event_text.specs.Events.{plain}
 use Rattle.event_text.specs.Input.{left_contents, with_event}
 use Rattle.replay_world.specs.Played.{prefixed, titles}
+use Rattle.replay_world.proofs.AskedLaws.{asks-more}
 use Rattle.replay_world.proofs.PlayedLaws.{newest, prefixed-turn, text-turn}
 use Rattle.replay_world.proofs.play.play_events.Goals as goal
 
@@ -30,4 +31,5 @@ loop-moment-preserved-in-Continue-branch-2 g c =
       local = t.local;
       stands = λ before. t.stands (i.stands before);
       caused = λ start before. t.caused start (i.caused start before);
+      asks = λ start before. asks-more g.K.Keeper start c.loop-moment.keeper.keeper c.turn.new.keeper.keeper past c.turn.new.self.ends.past grown.turn grown.more (i.asks start before) t.asks;
     }

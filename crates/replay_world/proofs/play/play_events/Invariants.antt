@@ -2,8 +2,9 @@ use Rattle.std.proofs.Common.{◌≡◌, ℕ, false, List, [], ◌++◌, length}
 use Rattle.event_text.specs.Input.{left_contents}
 use Rattle.report_text.specs.Report.{turns_text}
 use Rattle.replay_world.specs.Played.{prefixed, titles}
+use Rattle.run_ends.specs.Asked.{AsksAsSeen}
 use Rattle.run_ends.specs.Runs.{CausedSince, StandsTold}
-use Rattle.turn_rules.specs.Local.{Local}
+use Rattle.turn_rules.specs.Local.{Local, calls_of}
 use Rattle.replay_world.proofs.play.play_events.Given as goal
 
 abbrev pub invariant-loop-moment : goal.invariant-loop-moment
@@ -17,6 +18,7 @@ invariant-loop-moment g l = record {
   local : Local l.world.ends.boxes l.world.ends.past;
   stands : StandsTold l.fn.world.ends.past (g.K.Keeper.book l.fn.keeper.keeper) → StandsTold l.world.ends.past (g.K.Keeper.book l.keeper.keeper);
   caused : (start : ℕ) → CausedSince start (g.K.Keeper.faults l.fn.keeper.keeper) l.fn.world.ends.past → CausedSince start (g.K.Keeper.faults l.keeper.keeper) l.world.ends.past;
+  asks : (start : g.row.K.Denot) → AsksAsSeen g.K.Keeper start (calls_of l.fn.world.ends.past) l.fn.keeper.keeper → AsksAsSeen g.K.Keeper start (calls_of l.world.ends.past) l.keeper.keeper;
 }
 
 abbrev pub decreases-loop-moment : goal.decreases-loop-moment

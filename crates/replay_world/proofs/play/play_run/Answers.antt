@@ -2,6 +2,7 @@
 use Rattle.std.proofs.Common.{ap, subst, ◌∙◌}
 use Rattle.run_ends.specs.Runs.{Run}
 use Rattle.turn_rules.specs.Local.{Local}
+use Rattle.replay_world.proofs.AskedLaws.{asks-nothing}
 use Rattle.replay_world.proofs.OwnedLaws.{owned_told, safe_told}
 use Rattle.replay_world.proofs.PlayedLaws.{none_caused, none_given}
 use Rattle.replay_world.proofs.play.play_run.Goals as goal
@@ -17,6 +18,7 @@ returns-clause-played g c =
       written = p.text;
       local = subst (λ n. Local n past) boxes p.local;
       serves = none_given _ _ past (c.nothing_is_executed.ensures c.play.new.world.ends.boxes past p.local);
+      asks = p.asks _ (asks-nothing _ _);
       stands = p.stands;
       owned = λ before. owned_told c.play.new.world.ends.boxes past _ p.local (p.stands before);
       safe = λ before. safe_told c.runs_are_safe.ensures c.play.new.world.ends.boxes past _ p.local (p.stands before);
