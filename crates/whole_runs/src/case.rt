@@ -2,15 +2,17 @@
 
 use crate::run::{Failing, Outcome, play};
 use anyhow::bail;
+use replay_world::top::Status;
 use std::alloc::Global;
 use std::str;
 
 /// The answer of a case, whose first line says what is done with the rest.
 pub fn answer(alloc: Global, case: &str) -> anyhow::Result<String> {
     match case.split_once('\n') {
-        Some(("pieces", input)) => in_pieces(alloc, input),
+        Some(("pieces", input)) => in_pieces(alloc, "run", "pieces", input),
+        Some(("shows", input)) => in_pieces(alloc, "show", "shows", input),
         Some(("faults", input)) => with_faults(alloc, input),
-        _ => bail!("a case is pieces or faults"),
+        _ => bail!("a case is pieces, shows or faults"),
     }
 }
 
@@ -18,32 +20,45 @@ fn is_same(one: &Outcome, other: &Outcome) -> bool {
     one.status == other.status && one.written() == other.written() && one.said() == other.said()
 }
 
-fn in_pieces(alloc: Global, input: &str) -> anyhow::Result<String> {
-    let whole = play(alloc, input, 65_536, Failing::Nothing)?;
-    let cut = play(alloc, input, 7, Failing::Nothing)?;
-    let single = play(alloc, input, 1, Failing::Nothing)?;
+fn in_pieces(alloc: Global, word: &str, kind: &str, input: &str) -> anyhow::Result<String> {
+    let whole = play(alloc, word, input, 65_536, Failing::Nothing)?;
+    let cut = play(alloc, word, input, 7, Failing::Nothing)?;
+    let single = play(alloc, word, input, 1, Failing::Nothing)?;
     if !is_same(&whole, &cut) || !is_same(&whole, &single) {
         bail!("the outcome depends on the pieces");
     }
     let written = str::from_utf8(whole.written())?;
     let said = str::from_utf8(whole.said())?;
     Ok(format!(in alloc;
-        "pieces\n{written}status {}\n{said}",
+        "{kind}\n{written}status {}\n{said}",
         whole.status.exit_code()
     )?)
 }
 
+// What stands on the error output where no write on it fails.
+fn words_of<'a>(status: Status, whole: &'a Outcome) -> &'a [u8] {
+    match status {
+        Status::ReadFault => b"ha: read fault\n",
+        Status::WriteFault => b"ha: write fault\n",
+        _ => whole.said(),
+    }
+}
+
 // What a run writes before a call fails is a front of what it writes else.
 fn code_with(alloc: Global, input: &str, whole: &Outcome, failing: Failing) -> anyhow::Result<u8> {
-    let outcome = play(alloc, input, 7, failing)?;
+    let outcome = play(alloc, "run", input, 7, failing)?;
     if !whole.written().starts_with(outcome.written()) {
         bail!("what was written is no front of the report");
+    }
+    let is_cut = matches!(failing, Failing::Diagnosis(_));
+    if !is_cut && outcome.said() != words_of(outcome.status, whole) {
+        bail!("another line stands on the error output");
     }
     Ok(outcome.status.exit_code())
 }
 
 fn with_faults(alloc: Global, input: &str) -> anyhow::Result<String> {
-    let whole = play(alloc, input, 7, Failing::Nothing)?;
+    let whole = play(alloc, "run", input, 7, Failing::Nothing)?;
     let mut answer = String::new(alloc);
     answer.push_str("faults\n")?;
     for call in 0..10 {

@@ -79,15 +79,16 @@ fn sink(alloc: Global, piece: u32, call: Option<u8>) -> anyhow::Result<MemorySin
     }
 }
 
-// Calls the top call with a keeper and services of its own.
+// Calls the top call with a word, and with a keeper and services of its own.
 fn call(
     alloc: Global,
+    word: &str,
     source: &mut MemorySource,
     out: &mut MemorySink,
     diag: &mut MemorySink,
 ) -> anyhow::Result<Status> {
     let mut words = Vec::new(alloc);
-    words.push(String::from_str(alloc, "run")?)?;
+    words.push(String::from_str(alloc, word)?)?;
     let mut services: Vec<Box<dyn Service>> = Vec::with_capacity(alloc, MEMBERS)?;
     for _ in 0..MEMBERS {
         services.push(Box::new(alloc, TallyService::new())?)?;
@@ -129,11 +130,17 @@ impl Outcome {
     }
 }
 
-/// Plays an input in pieces.
-pub fn play(alloc: Global, input: &str, piece: u32, failing: Failing) -> anyhow::Result<Outcome> {
+/// Plays or shows an input in pieces, as the word says.
+pub fn play(
+    alloc: Global,
+    word: &str,
+    input: &str,
+    piece: u32,
+    failing: Failing,
+) -> anyhow::Result<Outcome> {
     let mut source = source(alloc, input, piece, failing.of_source())?;
     let mut out = sink(alloc, piece, failing.of_out())?;
     let mut diag = sink(alloc, piece, failing.of_diag())?;
-    let status = call(alloc, &mut source, &mut out, &mut diag)?;
+    let status = call(alloc, word, &mut source, &mut out, &mut diag)?;
     Ok(Outcome { status, out, diag })
 }
