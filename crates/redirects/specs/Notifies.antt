@@ -1,0 +1,15 @@
+-- The data of a REDIRECT notify (RFC 5685).
+use Rattle.std.specs.Prelude.{◌≡◌, ℕ, ◌≤◌, ◌⊎◌, List, ◌∷◌, ◌++◌, length}
+use Rattle.ha_base.specs.declared.identities.GatewayId.{GatewayId}
+
+-- how many octets name a gateway: 4 for IPv4, which is 1, 16 for IPv6, which is 2, and 1 to 255 for FQDN, which is 3
+abbrev pub IsSize : ℕ → ℕ → Type 0
+IsSize kind size = ((kind ≡ 1) × (size ≡ 4)) ⊎ ((kind ≡ 2) × (size ≡ 16)) ⊎ ((kind ≡ 3) × (1 ≤ size) × (size ≤ 255))
+
+-- the octets are the type of the gateway's identity, its length, the identity, and the nonce, which takes up the rest
+pub record SpellsRedirect (gateway : GatewayId) (nonce octets : List ℕ) : Type 0 where
+  pub octets_are : octets ≡ gateway.kind ∷ length gateway.octets ∷ gateway.octets ++ nonce
+  pub size : IsSize gateway.kind (length gateway.octets)
+
+abbrev pub HasRedirect : List ℕ → Type 0
+HasRedirect octets = (gateway : GatewayId) × (nonce : List ℕ) × SpellsRedirect gateway nonce octets
