@@ -1,0 +1,4 @@
+pub mod Notifies
+pub mod Counters
+pub mod Answers
+pub mod Laws
