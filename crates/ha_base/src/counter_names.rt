@@ -1,4 +1,4 @@
-/// One of the two ends of an association.
+/// One of the two ends of an IKE SA.
 #[derive(Clone, Copy, Debug, PartialEq, Eq)]
 pub enum End {
     Cluster,
@@ -8,9 +8,9 @@ pub enum End {
 /// What a counter counts.
 #[derive(Clone, Copy, Debug, PartialEq, Eq)]
 pub enum Kind {
-    /// ESP numbers that the cluster sends (RFC 4303, section 3.3.3).
+    /// Sequence numbers of the ESP packets that the end sends (RFC 4303, section 3.3.3).
     EspOut,
-    /// ESP numbers that the cluster receives (RFC 4303, section 3.4.3).
+    /// Sequence numbers of the ESP packets that the end receives (RFC 4303, section 3.4.3).
     EspIn,
     /// Explicit IVs of IKE messages (RFC 5282, section 3.1).
     Iv,
@@ -37,7 +37,7 @@ pub struct Derivation {
     pub spir: u64,
 }
 
-/// Where a key comes from.
+/// What a counter, and the key whose IVs it counts, belongs to.
 #[derive(Clone, Copy, Debug, PartialEq, Eq)]
 pub enum Origin {
     /// An association that was imported, by its responder's SPI.

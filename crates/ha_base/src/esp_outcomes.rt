@@ -13,15 +13,15 @@ pub struct EspOpened {
 /// Why an ESP packet was dropped, in the order of the checks.
 #[derive(Clone, Copy, Debug, PartialEq, Eq)]
 pub enum EspDrop {
-    /// Fewer than 34 octets.
+    /// Fewer octets than the shortest packet has, which is 34.
     Short,
-    /// No association receives at this SPI.
+    /// No Child SA receives at this SPI.
     WrongSpi,
-    /// The number lies below the window, or below the base.
+    /// The number lies below the window or below the base, or its low half stands for none below the counter's end.
     Stale,
     /// The number was accepted before.
     Seen,
-    /// The integrity check value does not hold (RFC 4106, section 8).
+    /// The integrity check value does not hold (RFC 4106, section 6).
     NotOpened,
     /// The pad length does not fit the plaintext.
     Padding,

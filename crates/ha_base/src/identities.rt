@@ -7,7 +7,7 @@ pub struct Identity {
     pub octets: OctetArray<64>,
 }
 
-/// A gateway as REDIRECT names it (RFC 5685, section 4): IPv4 is 1, IPv6 2 and FQDN 3.
+/// A gateway as REDIRECT names it (RFC 5685, section 9.2): IPv4 is 1, IPv6 2 and FQDN 3.
 #[derive(Clone, Copy, Debug, PartialEq, Eq)]
 pub struct GatewayId {
     pub kind: u8,

@@ -1,4 +1,5 @@
 ghost use Rattle.std.specs.Prelude.{◌≡◌};
+ghost use Rattle.ha_base.specs.KeySizes.{sealing_octets};
 
 use crate::short_lists::OctetList;
 
@@ -9,11 +10,23 @@ pub enum KeySize {
     Bits256,
 }
 
-/// The keys of an IKE association (RFC 7296, section 2.14; RFC 5282, section 7.1): a sealing key is 16 or 32 octets of
-/// AES key and 4 of salt.
+impl KeySize {
+    /// How many octets a sealing key of this size has: those of the AES key and 4 of salt (RFC 4106, section 8.1).
+    pub fn sealing_octets(self) -> usize
+        ensures { result ≡ sealing_octets self }
+    {
+        match self {
+            KeySize::Bits128 => 20,
+            KeySize::Bits256 => 36,
+        }
+    }
+}
+
+/// The keys of an IKE SA (RFC 7296, section 2.14; RFC 5282, section 7.1): a sealing key is 16 or 32 octets of AES key
+/// and 4 of salt.
 #[derive(Clone, Debug, PartialEq, Eq, Drop)]
 pub struct SaKeys {
-    /// From which the keys of child associations, and of a resumed association, are derived.
+    /// From which the keys of Child SAs, and of a resumed IKE SA, are derived.
     pub sk_d: [u8; 32],
     /// Seals what the initiator sends, which is the peer.
     pub sk_ei: OctetList<36>,
@@ -25,7 +38,7 @@ pub struct SaKeys {
     pub sk_pr: [u8; 32],
 }
 
-/// The keys of the child association (RFC 7296, section 2.17), of the same form as the sealing keys.
+/// The keys of the Child SA (RFC 7296, section 2.17), of the same form as the sealing keys.
 #[derive(Clone, Debug, PartialEq, Eq, Drop)]
 pub struct ChildKeys {
     /// Seals the packets that the cluster receives.

@@ -2,6 +2,7 @@
 //! executes a request.
 #![tactic(auto)]
 
+mod big_endian;
 mod counter_names;
 mod esp_outcomes;
 mod identities;
@@ -14,6 +15,7 @@ mod short_lists;
 mod std_streams;
 mod streams;
 
+pub use big_endian::{read_u32, read_u64};
 pub use counter_names::{CounterName, Derivation, End, Kind, Origin};
 pub use esp_outcomes::{EspDrop, EspOpened};
 pub use identities::{GatewayId, Identity};
@@ -22,7 +24,7 @@ pub use memory_streams::{MemorySink, MemorySource};
 pub use octet_store::Octets;
 pub use outside::{Failed, Memory, Moment};
 pub use services::{LONGEST_REQUEST, MOST_REQUESTS, Reply, Service, TallyService, are_fresh};
-pub use short_lists::{OctetArray, OctetList};
+pub use short_lists::{NumberList, OctetArray, OctetList};
 pub use std_streams::{StdSink, StdSource};
 pub use streams::{Sink, Source, write_all};
 

@@ -1,4 +1,4 @@
-/// A fault of the outside: a read, a write or a keeper's call did not happen.
+/// A fault of a source or of a sink: a read or a write did not happen.
 #[derive(Clone, Copy, Debug, PartialEq, Eq)]
 pub struct Failed;
 

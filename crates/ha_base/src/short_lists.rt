@@ -58,6 +58,49 @@ impl<const N: usize> OctetList<N> {
     }
 }
 
+/// At most `N` numbers of 32 bits in place, such as Message IDs.
+#[derive(Clone, Debug, PartialEq, Eq, Drop)]
+pub struct NumberList<const N: usize> {
+    kept: ArrayVec<u32, N>,
+}
+
+impl<const N: usize> Model for NumberList<N> {
+    ghost use Rattle.std.specs.Prelude.{ℕ, List};
+
+    ghost Value = { List ℕ };
+
+    ghost view = { λ list. list.kept.items };
+
+    ghost inverse = { λ items. record { kept = record { items = items } } };
+}
+
+impl<const N: usize> NumberList<N> {
+    /// No numbers.
+    pub fn new() -> Self
+        ensures { result ≡ [] }
+    {
+        NumberList {
+            kept: ArrayVec::new(),
+        }
+    }
+
+    /// Appends a number.
+    pub fn push(&mut self, number: u32)
+        requires { length self.old < N }
+        ensures { self.new ≡ self.old ++ number ∷ [] }
+    {
+        self.kept.push(number);
+    }
+
+    /// The numbers.
+    pub fn as_slice(&self) -> &[u32]
+        ensures value { result.now ≡ self.now }
+        ensures within { length self.now ≤ N }
+    {
+        self.kept.as_slice()
+    }
+}
+
 /// At most `N` octets in place, which are copied without memory.
 #[derive(Clone, Copy, Debug, PartialEq, Eq)]
 pub struct OctetArray<const N: usize> {

@@ -1,7 +1,7 @@
 ghost use Rattle.std.specs.Prelude.{◌≡◌, ℕ, ◌<◌, ◌≤◌, List, Option, length, IfOk, OnOk, OnErr};
 ghost use Rattle.std.specs.Io.{ReadsAtMost, WritesAtMost};
 ghost use Rattle.std.specs.Io.KnownBytes.{Appends, ReadConsumes, WriteAppends};
-ghost use Rattle.ha_base.specs.Faults.{AppendsFront, HasFailed};
+ghost use Rattle.ha_base.specs.Faults.{AppendsFront, Rose};
 
 use crate::outside::Failed;
 
@@ -20,7 +20,7 @@ pub trait Source {
         ensures octets { ReadConsumes (left self.old) (left self.new) result buf.new }
         ensures later { faults self.old ≤ faults self.new }
         ensures none { OnOk result (faults self.new ≡ faults self.old) }
-        ensures failed { OnErr result (HasFailed (faults self.old) (faults self.new)) };
+        ensures failed { OnErr result (Rose (faults self.old) (faults self.new)) };
 }
 
 /// Where octets go to.
@@ -39,7 +39,7 @@ pub trait Sink {
         ensures octets { WriteAppends (written self.old) (written self.new) result piece.now }
         ensures later { faults self.old ≤ faults self.new }
         ensures none { OnOk result (faults self.new ≡ faults self.old) }
-        ensures failed { OnErr result (HasFailed (faults self.old) (faults self.new)) };
+        ensures failed { OnErr result (Rose (faults self.old) (faults self.new)) };
 }
 
 /// Writes all octets, as often as it takes. After an error, a fault of the sink, some of them were written from the front.
@@ -48,7 +48,7 @@ pub fn write_all<O: Sink>(out: &mut O, octets: &[u8]) -> Result<(), Failed>
     ensures err { OnErr result (AppendsFront (O.written out.old) (O.written out.new) octets.now) }
     ensures later { O.faults out.old ≤ O.faults out.new }
     ensures none { OnOk result (O.faults out.new ≡ O.faults out.old) }
-    ensures failed { OnErr result (HasFailed (O.faults out.old) (O.faults out.new)) }
+    ensures failed { OnErr result (Rose (O.faults out.old) (O.faults out.new)) }
 {
     let mut at = 0;
     while at < octets.len() {

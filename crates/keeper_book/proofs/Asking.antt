@@ -6,7 +6,8 @@ use Rattle.keeper_book.specs.declared.calls.Call.{Call}
 use Rattle.keeper_book.specs.declared.calls.KeeperAnswer.{KeeperAnswer}
 use Rattle.keeper_book.specs.Spoken.{Spoken, EachGives}
 use Rattle.keeper_book.specs.Book.{Book, EntersAll, EntersTold, EntersAllTold}
-use Rattle.keeper_book.specs.Told.{AddsTold, AddsAllTold, HasCause, HaveCause, IsFailed, AnyFailed, Rose, seen}
+use Rattle.ha_base.specs.Faults.{Rose}
+use Rattle.keeper_book.specs.Told.{AddsTold, AddsAllTold, HasCause, HaveCause, IsFailed, AnyFailed, seen}
 
 enters_none : (book : Option Book) → EntersAllTold book [] book
 enters_none None = refl

@@ -1,6 +1,6 @@
 -- What a keeper's calls say of it: the calls that it tells, and its count of faults.
 use Rattle.std.specs.Prelude.{ℕ, ◌+◌, ◌<◌, ◌≤◌, ◌≡◌, ◌⊎◌, if◌then◌else◌, Option, Some, None, List, [], ◌∷◌, ◌++◌, length, Result, Ok, Err}
-use Rattle.ha_base.specs.Faults.{one_more}
+use Rattle.ha_base.specs.Faults.{Rose}
 use Rattle.keeper_book.specs.declared.TheConstants.{MAX_ASSOCIATIONS, MAX_EPOCHS}
 use Rattle.keeper_book.specs.declared.calls.Call.{Call}
 use Rattle.keeper_book.specs.declared.calls.KeeperAnswer.{KeeperAnswer}
@@ -54,10 +54,6 @@ IsRefusalOf (ask.Cover spir kind child epoch upto) fault.Unknown = Unit {0}
 IsRefusalOf (ask.Cover spir kind child epoch upto) fault.Closed = Unit {0}
 IsRefusalOf (ask.Cover spir kind child epoch upto) (fault.Replaced other) = Unit {0}
 IsRefusalOf asked why = ⊥
-
--- a count of faults that rose, as far as 64 bits can tell
-abbrev pub Rose : ℕ → ℕ → Type 0
-Rose before now = one_more before ≤ now
 
 -- the caller saw a failed call
 abbrev pub IsFailed : KeeperAnswer → Type 0

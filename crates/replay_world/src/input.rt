@@ -1,6 +1,6 @@
 ghost use Rattle.std.specs.Prelude.{◌≡◌, ◌+◌, ◌<◌, ◌≤◌, ◌^◌, ◌⊎◌, length, Ok, Err, IfOk, OnOk};
 ghost use Rattle.std.specs.Io.KnownBytes.{Consumes, IsAtEnd, Keeps};
-ghost use Rattle.ha_base.specs.Faults.{HasFailed};
+ghost use Rattle.ha_base.specs.Faults.{Rose};
 
 use ha_base::{Memory, Octets, Source};
 use input_lines::INPUT_OCTETS;
@@ -33,7 +33,7 @@ pub(crate) fn read_input<S: Source>(alloc: Global, source: &mut S) -> Result<Oct
     ensures bounded { IfOk result (λ input. length input.octets ≤ 67108864 + 65536) }
     ensures later { S.faults source.old ≤ S.faults source.new }
     ensures none { OnOk result (S.faults source.new ≡ S.faults source.old) }
-    ensures fault { result ≡ Err Unread.Fault → HasFailed (S.faults source.old) (S.faults source.new) }
+    ensures fault { result ≡ Err Unread.Fault → Rose (S.faults source.old) (S.faults source.new) }
 {
     let mut input = Octets::new(alloc);
     let mut piece = [0; PIECE];

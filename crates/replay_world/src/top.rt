@@ -3,7 +3,7 @@
 ghost use Rattle.std.specs.Prelude.{◌≡◌, ◌≢◌, ◌+◌, ◌<◌, ◌≤◌, ◌⊎◌, IfErr, IfOk, OnOk, Some, None, length, string_bytes, vec_len};
 ghost use Rattle.std.specs.List.{AllByRecursion};
 ghost use Rattle.std.specs.Io.KnownBytes.{Appends, Consumes, IsAtEnd, Keeps};
-ghost use Rattle.ha_base.specs.Faults.{AppendsFront, HasFailed};
+ghost use Rattle.ha_base.specs.Faults.{AppendsFront, Rose};
 ghost use Rattle.replay_world.specs.Played.{BreaksOff, Completes};
 ghost use Rattle.replay_world.specs.Shows.{ShowsAll, ShowsFront};
 ghost use Rattle.replay_world.specs.Commands.{command_of, named_by};
@@ -96,7 +96,7 @@ fn complain<D: Sink>(diag: &mut D, line: &[u8], status: Status) -> Status
 fn name_line<D: Sink>(alloc: Global, diag: &mut D, fault: InputFault) -> Status
     ensures status { result ≡ Status.FaultyLine ⊎ (result ≡ Status.Memory ⊎ result ≡ Status.WriteFault) }
     ensures none { result ≡ Status.FaultyLine → D.faults diag.new ≡ D.faults diag.old }
-    ensures failed { result ≡ Status.WriteFault → HasFailed (D.faults diag.old) (D.faults diag.new) }
+    ensures failed { result ≡ Status.WriteFault → Rose (D.faults diag.old) (D.faults diag.new) }
     ensures says { result ≡ Status.FaultyLine → Appends (D.written diag.old) (D.written diag.new) (fault_line fault) }
 {
     let mut text = Octets::new(alloc);
@@ -121,7 +121,7 @@ fn input_of<S: Source, D: Sink>(
     ensures none { OnOk result (S.faults source.new ≡ S.faults source.old) }
     ensures quiet { OnOk result (diag.new ≡ diag.old) }
     ensures status { IfErr result (λ status. (status ≡ Status.Memory) ⊎ (status ≡ Status.ReadFault)) }
-    ensures failed { IfErr result (λ status. status ≡ Status.ReadFault → HasFailed (S.faults source.old) (S.faults source.new)) }
+    ensures failed { IfErr result (λ status. status ≡ Status.ReadFault → Rose (S.faults source.old) (S.faults source.new)) }
 {
     match read_input(alloc, source) {
         Ok(input) => Ok(input),
@@ -142,8 +142,8 @@ fn put_output<O: Sink, D: Sink>(
     ensures no_words { result ≢ Status.Words }
     ensures no_read { result ≢ Status.ReadFault }
     ensures none_failed { AtEnd result ((O.faults out.new ≡ O.faults out.old) × (D.faults diag.new ≡ D.faults diag.old)) }
-    ensures write_fault { result ≡ Status.WriteFault → HasFailed (O.faults out.old) (O.faults out.new)
-        ⊎ HasFailed (D.faults diag.old) (D.faults diag.new) }
+    ensures write_fault { result ≡ Status.WriteFault → Rose (O.faults out.old) (O.faults out.new)
+        ⊎ Rose (D.faults diag.old) (D.faults diag.new) }
     ensures wrote { AtEnd result (Appends (O.written out.old) (O.written out.new) text.now.octets) }
     ensures front { AppendsFront (O.written out.old) (O.written out.new) text.now.octets }
     ensures done { result ≡ Status.Done → fault ≡ None }
@@ -176,9 +176,9 @@ fn run_command<S: Source, O: Sink, D: Sink, K: Keeper>(
     ensures held { K.held keeper.new ≡ K.held keeper.old }
     ensures none_failed { AtEnd result ((S.faults source.new ≡ S.faults source.old) × (O.faults out.new ≡ O.faults out.old)
         × (D.faults diag.new ≡ D.faults diag.old)) }
-    ensures read_fault { result ≡ Status.ReadFault → HasFailed (S.faults source.old) (S.faults source.new) }
-    ensures write_fault { result ≡ Status.WriteFault → HasFailed (O.faults out.old) (O.faults out.new)
-        ⊎ HasFailed (D.faults diag.old) (D.faults diag.new) }
+    ensures read_fault { result ≡ Status.ReadFault → Rose (S.faults source.old) (S.faults source.new) }
+    ensures write_fault { result ≡ Status.WriteFault → Rose (O.faults out.old) (O.faults out.new)
+        ⊎ Rose (D.faults diag.old) (D.faults diag.new) }
     ensures done { result ≡ Status.Done → Completes (AreGiven gives (service_of peer_service services.items)) (λ calls. AsksAsSeen K.Keeper keeper.old calls keeper.new)
         (vec_len services) (S.left source.old) (S.left source.new) (O.written out.old) (O.written out.new) (K.book keeper.old) (K.book keeper.new)
         (K.faults keeper.old) (K.faults keeper.new) None }
@@ -218,9 +218,9 @@ fn show_command<S: Source, O: Sink, D: Sink>(
     ensures command { result ≢ Status.Words }
     ensures none_failed { AtEnd result ((S.faults source.new ≡ S.faults source.old) × (O.faults out.new ≡ O.faults out.old)
         × (D.faults diag.new ≡ D.faults diag.old)) }
-    ensures read_fault { result ≡ Status.ReadFault → HasFailed (S.faults source.old) (S.faults source.new) }
-    ensures write_fault { result ≡ Status.WriteFault → HasFailed (O.faults out.old) (O.faults out.new)
-        ⊎ HasFailed (D.faults diag.old) (D.faults diag.new) }
+    ensures read_fault { result ≡ Status.ReadFault → Rose (S.faults source.old) (S.faults source.new) }
+    ensures write_fault { result ≡ Status.WriteFault → Rose (O.faults out.old) (O.faults out.new)
+        ⊎ Rose (D.faults diag.old) (D.faults diag.new) }
     ensures done { result ≡ Status.Done → ShowsAll (S.left source.old) (S.left source.new) (O.written out.old) (O.written out.new) None }
     ensures faulty { result ≡ Status.FaultyLine → (fault : InputFault)
         × ShowsAll (S.left source.old) (S.left source.new) (O.written out.old) (O.written out.new) (Some fault)
@@ -258,9 +258,9 @@ pub fn replay<S: Source, O: Sink, D: Sink, K: Keeper>(
     ensures held { K.held keeper.new ≡ K.held keeper.old }
     ensures none_failed { AtEnd result ((S.faults source.new ≡ S.faults source.old) × (O.faults out.new ≡ O.faults out.old)
         × (D.faults diag.new ≡ D.faults diag.old)) }
-    ensures read_fault { result ≡ Status.ReadFault → HasFailed (S.faults source.old) (S.faults source.new) }
-    ensures write_fault { result ≡ Status.WriteFault → HasFailed (O.faults out.old) (O.faults out.new)
-        ⊎ HasFailed (D.faults diag.old) (D.faults diag.new) }
+    ensures read_fault { result ≡ Status.ReadFault → Rose (S.faults source.old) (S.faults source.new) }
+    ensures write_fault { result ≡ Status.WriteFault → Rose (O.faults out.old) (O.faults out.new)
+        ⊎ Rose (D.faults diag.old) (D.faults diag.new) }
     ensures words { result ≡ Status.Words → command_of words.now.items ≡ None }
     ensures no_words { command_of words.now.items ≡ None → result ≡ Status.Words ⊎ result ≡ Status.WriteFault }
     ensures untouched { command_of words.now.items ≡ None → Keeps (O.written out.old) (O.written out.new)

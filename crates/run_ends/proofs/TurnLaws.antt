@@ -4,7 +4,8 @@ use Rattle.event_text.specs.declared.turn.Turn.{Turn}
 use Rattle.keeper_book.specs.Book.{Book, EntersAll, EntersAllTold}
 use Rattle.keeper_book.specs.Gates.{told_calls}
 use Rattle.keeper_book.specs.Spoken.{EachGives, Spoken}
-use Rattle.keeper_book.specs.Told.{AddsAllTold, AnyFailed, HaveCause, Rose}
+use Rattle.ha_base.specs.Faults.{Rose}
+use Rattle.keeper_book.specs.Told.{AddsAllTold, AnyFailed, HaveCause}
 use Rattle.keeper_book.specs.declared.calls.Call.{Call}
 use Rattle.turn_rules.specs.Local.{AreShown, calls_of}
 use Rattle.run_ends.specs.Runs.{CausedSince, StandsTold}
