@@ -6,4 +6,5 @@ pub mod SelectorView
 pub mod PayloadView
 pub mod Spelling
 pub mod Writing
+pub mod Notifications
 pub mod Headers

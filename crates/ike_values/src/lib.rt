@@ -4,6 +4,8 @@
 mod attribute;
 mod header;
 mod lengths;
+mod notifications;
+pub mod notify_types;
 mod payload;
 mod proposal;
 mod selector;

@@ -1,5 +1,6 @@
 ghost use Rattle.std.specs.Prelude.{◌≡◌, [], ◌∷◌, ◌++◌, map, OnOk, OnErr};
 
+use crate::notifications::first_notify;
 use crate::proposal::Proposals;
 use crate::selector::Selectors;
 use crate::validity::fits_chain;
@@ -114,7 +115,8 @@ impl Model for Payloads {
 }
 
 impl Payloads {
-    ghost use Rattle.std.specs.Prelude.{◌↔◌, IsTrue};
+    ghost use Rattle.std.specs.Prelude.{◌↔◌, IsTrue, MatchOption, None, Some};
+    ghost use Rattle.ike_values.specs.Notifications.{first_notify};
     ghost use Rattle.ike_values.specs.PayloadView.{payload_value};
     ghost use Rattle.ike_values.specs.Spelling.{HasSpelling};
 
@@ -143,6 +145,15 @@ impl Payloads {
         ensures { map payload_value result.now ≡ self.now }
     {
         self.items.as_slice()
+    }
+
+    /// The data of the first notification of a type (`notify_types`), and none where there is no such.
+    pub fn first_notify(&self, kind: u16) -> Option<&[u8]>
+        ensures { MatchOption result
+            (first_notify kind self.now ≡ None)
+            (λ octets. first_notify kind self.now ≡ Some octets.now) }
+    {
+        first_notify(self.as_slice(), kind)
     }
 
     /// Whether the payloads have a spelling. Every size fits its field, SPIs to delete are as many octets as their size

@@ -5,14 +5,14 @@ use Rattle.std.specs.Bool.{Decides}
 use Rattle.std.proofs.lemmas.Bool.{false≢true}
 use Rattle.std.specs.Str.{bytes_eq}
 use Rattle.std.proofs.lemmas.Slice.Eq.{bytes_eq-Decides}
-use Rattle.redirects.specs.Follows.{IsAnswer, IsDecision, IsLoop, is_recent}
+use Rattle.redirects.specs.Follows.{AnswersAsked, IsDecision, IsLoop, is_recent}
 use Rattle.redirects.specs.declared.asked.Asked.{Asked}
 use Rattle.redirects.specs.declared.asked.Asked.TheVariants.{No, Session, Resumption}
 use Rattle.redirects.specs.declared.decision.Decision.{Decision}
 use Rattle.redirects.specs.Laws.{DecisionIsUnique}
 
 -- where the redirect answers what was asked, the follows decide
-decided_same : (follows : List ℕ) (now : ℕ) (asked : Asked) (nonce : List ℕ) (first second : Decision) → IsAnswer asked nonce →
+decided_same : (follows : List ℕ) (now : ℕ) (asked : Asked) (nonce : List ℕ) (first second : Decision) → AnswersAsked asked nonce →
     IsDecision follows now asked nonce first → IsDecision follows now asked nonce second → first ≡ second
 decided_same follows now asked nonce first second answers one other = go (nat_le 5 (count_by (is_recent now) follows)) refl
   where

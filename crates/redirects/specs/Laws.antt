@@ -1,10 +1,10 @@
--- What is kept of the follows decides as all of them do, and what a notify says is unique.
+-- What is kept of the follows decides as all of them do, and what a notification says is unique.
 use Rattle.std.specs.Prelude.{◌≡◌, ℕ, ◌≤◌, ⊤, All, List, [], ◌∷◌}
 use Rattle.ha_base.specs.declared.identities.GatewayId.{GatewayId}
 use Rattle.redirects.specs.Follows.{IsDecision, kept_of}
 use Rattle.redirects.specs.declared.asked.Asked.{Asked}
 use Rattle.redirects.specs.declared.decision.Decision.{Decision}
-use Rattle.redirects.specs.Notifies.{SpellsRedirect}
+use Rattle.redirects.specs.Notifications.{SpellsRedirect}
 
 -- no follow is later than the one before it in the list
 abbrev pub IsLatestFirst : List ℕ → Type 0
@@ -29,6 +29,7 @@ abbrev pub FollowingKeepsTheOrder : Type 0
 FollowingKeepsTheOrder =
     (follows : List ℕ) (now : ℕ) → IsLatestFirst follows → All (λ moment. moment ≤ now) (kept_of follows) → IsLatestFirst (now ∷ follows)
 
+-- so what is written for a gateway and a nonce is read as these
 abbrev pub ReadingIsUnique : Type 0
 ReadingIsUnique =
     (first second : GatewayId) (nonce other octets : List ℕ) →

@@ -1,3 +1,3 @@
 pub mod Follows
 pub mod Laws
-pub mod Notifies
+pub mod Notifications

@@ -1,5 +1,5 @@
 /// Whether an end waits for a redirect, and in what exchange it comes.
-#[derive(Clone, Copy, Debug, PartialEq, Eq)]
+#[derive(Clone, Copy)]
 pub enum Asked {
     /// It waits for none.
     No,

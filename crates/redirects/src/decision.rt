@@ -1,9 +1,9 @@
 /// What becomes of a redirect.
-#[derive(Clone, Copy, Debug, PartialEq, Eq)]
+#[derive(Clone, Copy, Debug, PartialEq)]
 pub enum Decision {
     /// It is followed.
     Follow,
-    /// So many redirects were followed in the last 300 seconds, and no more are (RFC 5685, section 7).
+    /// So many redirects were followed within the period, and no more are (RFC 5685, section 7).
     Loop(u32),
     /// Its nonce is not that of the request (RFC 5685, section 3).
     Nonce,

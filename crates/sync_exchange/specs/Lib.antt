@@ -1,4 +1,4 @@
-pub mod Notifies
+pub mod Notifications
 pub mod Counters
 pub mod Answers
 pub mod Laws

@@ -1,4 +1,4 @@
-ghost use Rattle.sync_exchange.specs.Laws.{AnswersAreUnique, BothEndsAgree, CountersNeverFall, RequestsAreAcceptedOnce, SpelledDeltasAreRead, SpelledIdsAreRead};
+ghost use Rattle.sync_exchange.specs.Laws.{AnswersAreUnique, BothEndsAgree, CountersNeverFall, RequestsAreAcceptedOnce, WrittenRequestsAreRead, WrittenResponsesAreRead};
 
 /// A peer answers a request in one way only.
 pub fn answers_are_unique()
@@ -20,12 +20,12 @@ pub fn both_ends_agree()
     ensures { BothEndsAgree }
 {}
 
-/// The three numbers of a Message ID synchronisation are read as they were written.
-pub fn spelled_ids_are_read()
-    ensures { SpelledIdsAreRead }
+/// A request to synchronise is read as it was written.
+pub fn written_requests_are_read()
+    ensures { WrittenRequestsAreRead }
 {}
 
-/// A delta in eight octets is read as it was written.
-pub fn spelled_deltas_are_read()
-    ensures { SpelledDeltasAreRead }
+/// The Message IDs of a response are read as they were written.
+pub fn written_responses_are_read()
+    ensures { WrittenResponsesAreRead }
 {}

@@ -1,6 +1,6 @@
 ghost use Rattle.sync_exchange.specs.Answers.{IsMemberAnswer};
 
-use crate::notifies::message_ids;
+use crate::message_ids::message_ids;
 use crate::sync_drop::SyncDrop;
 use ike_values::Payloads;
 

@@ -1,18 +1,19 @@
 ghost use Rattle.std.specs.Prelude.{◌≡◌, ◌+◌, MatchOption};
 ghost use Rattle.sync_exchange.specs.Answers.{IsPeerAnswer, IsLeastAnswer};
-ghost use Rattle.sync_exchange.specs.Counters.{CanRise, CannotRise};
+ghost use Rattle.sync_exchange.specs.Counters.{CanRise, CannotRise, rise_of};
 
+use crate::replay_counter::DELTA_OCTETS;
 use crate::request::SyncRequest;
 use crate::sync_drop::SyncDrop;
 
-/// Outgoing sequence numbers are below this one.
-const END: u64 = 1 << 63;
+/// The end of outgoing sequence numbers: each is below it, and the next one at most this.
+pub const SEQUENCE_END: u64 = 1 << 63;
 
 /// What the peer knows of an IKE SA when a synchronisation comes.
-#[derive(Clone, Copy, Debug, PartialEq, Eq)]
+#[derive(Clone, Copy)]
 pub struct PeerState {
-    /// The highest Message ID that the cluster used in a request or announced in a synchronisation that was accepted,
-    /// and none where there is no such.
+    /// The highest Message ID that the cluster used in a request or announced in a synchronisation that was accepted; else
+    /// the one before the first that the association was imported with; and none where there is no such.
     pub highest: Option<u32>,
     /// The Message ID of the peer's own next request.
     pub next_ask: u32,
@@ -21,13 +22,13 @@ pub struct PeerState {
 }
 
 /// What holds at the peer after a synchronisation that it accepts.
-#[derive(Clone, Copy, Debug, PartialEq, Eq)]
+#[derive(Clone, Copy, Debug, PartialEq)]
 pub struct Accepted {
     /// The Message ID of the peer's own next request.
     pub p2: u32,
     /// The Message ID of the next request that the peer expects.
     pub m2: u32,
-    /// The peer's next outgoing ESP sequence number, 2^63 at most.
+    /// The peer's next outgoing ESP sequence number, `SEQUENCE_END` at most.
     pub next_esp: u64,
 }
 
@@ -35,12 +36,14 @@ pub struct Accepted {
 ///
 /// The error is `NotAbove` with the highest Message ID that the cluster used, where the request's is not above it. Else
 /// it is `Delta` where the replay counter notification has neither no octets nor eight, or where the sequence number
-/// would pass 2^63.
+/// would pass its end. A notification without octets, or none, is a delta of 0.
 pub fn peer_accepts(state: &PeerState, request: &SyncRequest) -> Result<Accepted, SyncDrop>
     ensures { IsPeerAnswer state.now request.now result }
 {
     let least = least_above(state.highest, request.m1)?;
-    let next_esp = raised(state.next_esp, request).ok_or(SyncDrop::Delta)?;
+    let next_esp = risen(DELTA_OCTETS as u32, SEQUENCE_END, state.next_esp, request).ok_or(
+        SyncDrop::Delta,
+    )?;
     Ok(Accepted {
         p2: request.p1.max(state.next_ask),
         m2: request.m1.max(least),
@@ -59,14 +62,19 @@ fn least_above(highest: Option<u32>, id: u32) -> Result<u32, SyncDrop>
     }
 }
 
-/// The sequence number after the rise that is asked for, where there is one.
-fn raised(next_esp: u64, request: &SyncRequest) -> Option<u64>
-    ensures { MatchOption result (CannotRise next_esp request.now) (λ risen. CanRise next_esp request.now × (risen ≡ next_esp + request.now.delta)) }
+/// The sequence number after the rise that is asked for, where a delta of this size can be added below this end.
+fn risen(size: u32, end: u64, next_esp: u64, request: &SyncRequest) -> Option<u64>
+    ensures { MatchOption result
+        (CannotRise size end next_esp request.now)
+        (λ risen. CanRise size end next_esp request.now × (risen ≡ next_esp + rise_of size request.now)) }
 {
-    if request.size != 0 && request.size != 8 {
+    if request.size != 0 && request.size != size {
         return None;
     }
-    next_esp
-        .checked_add(request.delta)
-        .filter(|risen| *risen <= END)
+    let rise = if request.size == size {
+        request.delta
+    } else {
+        0
+    };
+    next_esp.checked_add(rise).filter(|risen| *risen <= end)
 }

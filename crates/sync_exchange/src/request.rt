@@ -1,13 +1,14 @@
 ghost use Rattle.sync_exchange.specs.Answers.{IsRequestAnswer};
 
-use crate::notifies::{message_ids, replay_counter, replay_delta, replay_size};
+use crate::message_ids::message_ids;
+use crate::replay_counter::{replay_counter, replay_delta, replay_size};
 use crate::sync_drop::SyncDrop;
 use ike_values::Payloads;
 
 /// What a member that took over asks of its peer (RFC 6311, sections 6.3 and 6.4).
-#[derive(Clone, Copy, Debug, PartialEq, Eq)]
+#[derive(Clone, Copy, Debug, PartialEq)]
 pub struct SyncRequest {
-    /// Random, and the same in the response.
+    /// The same in the response, by which the member knows the response to its last request.
     pub nonce: u32,
     /// The Message ID of the member's next request.
     pub m1: u32,
@@ -15,7 +16,7 @@ pub struct SyncRequest {
     pub p1: u32,
     /// How many octets the replay counter notification has, 2^32 - 1 at most, and 0 where there is none.
     pub size: u32,
-    /// By how much the peer's outgoing ESP sequence number is to rise: 0 where the size is not eight.
+    /// By how much the peer's outgoing ESP sequence number is to rise. It counts only where the size is eight.
     pub delta: u64,
 }
 

@@ -1,5 +1,5 @@
 /// Why a synchronisation was dropped.
-#[derive(Clone, Copy, Debug, PartialEq, Eq)]
+#[derive(Clone, Copy, Debug, PartialEq)]
 pub enum SyncDrop {
     /// The first Message ID synchronisation has not twelve octets, or there is none.
     NotSync,
@@ -7,6 +7,6 @@ pub enum SyncDrop {
     NotAbove(u32),
     /// The nonce of the response is not that of the request.
     Nonce,
-    /// The rise of the sequence number has another size than eight octets, or passes 2^63.
+    /// The replay counter notification has neither no octets nor eight, or the sequence number would pass its end.
     Delta,
 }

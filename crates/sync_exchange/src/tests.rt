@@ -1,12 +1,9 @@
 use super::*;
 use ha_base::Octets;
+use ike_values::notify_types::{IKEV2_MESSAGE_ID_SYNC, IPSEC_REPLAY_COUNTER_SYNC, REQUEST_DATA};
 use ike_values::{NotifyBody, Payload, Payloads};
 use std::alloc::Global;
 use std::test::*;
-
-const SYNC: u16 = 16422;
-
-const COUNTER: u16 = 16423;
 
 /// Notifications of a message: their types and their octets.
 type Notifies = &'static [(u16, &'static [u8])];
@@ -16,9 +13,6 @@ const IDS: &[u8] = &[2, 2, 2, 18, 0, 0, 0, 16, 0, 0, 0, 16];
 
 /// Nonce 00000001, then 258 and 16909060.
 const OTHER_IDS: &[u8] = &[0, 0, 0, 1, 0, 0, 1, 2, 1, 2, 3, 4];
-
-/// Nonce 02020213, then 16 and 17.
-const RETRIED: &[u8] = &[2, 2, 2, 19, 0, 0, 0, 16, 0, 0, 0, 17];
 
 /// 1024 in eight octets.
 const DELTA: &[u8] = &[0, 0, 0, 0, 0, 0, 4, 0];
@@ -38,55 +32,49 @@ fn payloads_of(alloc: Global, notifies: Notifies) -> Result<Payloads, Fail> {
     Ok(payloads)
 }
 
-fn request(nonce: u32, m1: u32, p1: u32, size: u32, delta: u64) -> Result<SyncRequest, SyncDrop> {
-    Ok(SyncRequest {
+fn request(nonce: u32, m1: u32, p1: u32, size: u32, delta: u64) -> SyncRequest {
+    SyncRequest {
         nonce,
         m1,
         p1,
         size,
         delta,
-    })
+    }
 }
 
 #[test]
 fn requests_are_the_first_notifications(rt: HostRuntime) -> Result<(), Fail> {
-    let messages: [(Notifies, Result<SyncRequest, SyncDrop>); 11] = [
+    let messages: [(Notifies, Result<SyncRequest, SyncDrop>); 5] = [
         (
-            &[(SYNC, IDS), (COUNTER, DELTA)],
-            request(0x0202_0212, 16, 16, 8, 1024),
+            &[
+                (IPSEC_REPLAY_COUNTER_SYNC, DELTA),
+                (IKEV2_MESSAGE_ID_SYNC, IDS),
+                (IKEV2_MESSAGE_ID_SYNC, OTHER_IDS),
+            ],
+            Ok(request(0x0202_0212, 16, 16, 8, 1024)),
         ),
         (
-            &[(COUNTER, DELTA), (SYNC, IDS)],
-            request(0x0202_0212, 16, 16, 8, 1024),
+            &[
+                (REQUEST_DATA, IDS),
+                (IKEV2_MESSAGE_ID_SYNC, OTHER_IDS),
+                (IPSEC_REPLAY_COUNTER_SYNC, &[]),
+                (IPSEC_REPLAY_COUNTER_SYNC, DELTA),
+            ],
+            Ok(request(1, 258, 16_909_060, 0, 0)),
         ),
         (
-            &[(SYNC, IDS), (SYNC, OTHER_IDS)],
-            request(0x0202_0212, 16, 16, 0, 0),
+            &[
+                (IKEV2_MESSAGE_ID_SYNC, IDS),
+                (IPSEC_REPLAY_COUNTER_SYNC, &[0, 0, 4, 0]),
+            ],
+            Ok(request(0x0202_0212, 16, 16, 4, 0)),
         ),
         (
-            &[(40_960, IDS), (SYNC, OTHER_IDS)],
-            request(1, 258, 16_909_060, 0, 0),
-        ),
-        (
-            &[(SYNC, IDS), (COUNTER, &[]), (COUNTER, DELTA)],
-            request(0x0202_0212, 16, 16, 0, 0),
-        ),
-        (
-            &[(SYNC, IDS), (COUNTER, &[0, 0, 4, 0]), (COUNTER, DELTA)],
-            request(0x0202_0212, 16, 16, 4, 0),
-        ),
-        (
-            &[(SYNC, IDS), (COUNTER, IDS)],
-            request(0x0202_0212, 16, 16, 12, 0),
-        ),
-        (&[], Err(SyncDrop::NotSync)),
-        (&[(COUNTER, DELTA), (40_960, IDS)], Err(SyncDrop::NotSync)),
-        (
-            &[(SYNC, &[2, 2, 2, 18, 0, 0, 0, 16, 0, 0, 0]), (SYNC, IDS)],
+            &[(IKEV2_MESSAGE_ID_SYNC, DELTA), (IKEV2_MESSAGE_ID_SYNC, IDS)],
             Err(SyncDrop::NotSync),
         ),
         (
-            &[(SYNC, &[2, 2, 2, 18, 0, 0, 0, 16, 0, 0, 0, 16, 0])],
+            &[(IPSEC_REPLAY_COUNTER_SYNC, DELTA)],
             Err(SyncDrop::NotSync),
         ),
     ];
@@ -98,156 +86,58 @@ fn requests_are_the_first_notifications(rt: HostRuntime) -> Result<(), Fail> {
 }
 
 #[test]
+fn notifications_are_written(rt: HostRuntime) {
+    let ids = MessageIds {
+        nonce: 1,
+        send: 258,
+        receive: 16_909_060,
+    };
+    assert_eq!(rt; ids.octets().as_slice(), OTHER_IDS);
+    assert_eq!(rt; delta_octets(1024).as_slice(), DELTA);
+}
+
+#[test]
 fn members_take_the_greater_of_each_pair(rt: HostRuntime) -> Result<(), Fail> {
-    let responses: [(u32, u32, u32, Notifies, Result<(u32, u32), SyncDrop>); 8] = [
-        (16, 16, 0x0202_0212, &[(SYNC, IDS)], Ok((16, 16))),
-        (17, 16, 0x0202_0213, &[(SYNC, IDS)], Err(SyncDrop::Nonce)),
-        (17, 16, 0x0202_0213, &[(SYNC, RETRIED)], Ok((17, 16))),
-        (3, 2, 1, &[(SYNC, OTHER_IDS)], Ok((16_909_060, 258))),
-        (
-            16_909_061,
-            259,
-            1,
-            &[(SYNC, OTHER_IDS)],
-            Ok((16_909_061, 259)),
-        ),
-        (
-            4_294_967_295,
-            0,
-            1,
-            &[(SYNC, OTHER_IDS)],
-            Ok((4_294_967_295, 258)),
-        ),
-        (
-            3,
-            2,
-            1,
-            &[(SYNC, IDS), (SYNC, OTHER_IDS)],
-            Err(SyncDrop::Nonce),
-        ),
-        (
-            3,
-            2,
-            1,
-            &[(SYNC, DELTA), (SYNC, OTHER_IDS)],
-            Err(SyncDrop::NotSync),
-        ),
+    let payloads = payloads_of(rt.alloc(), &[(IKEV2_MESSAGE_ID_SYNC, OTHER_IDS)])?;
+    let greater = [
+        (3, 2, 1, Ok((16_909_060, 258))),
+        (16_909_061, 259, 1, Ok((16_909_061, 259))),
+        (3, 2, 2, Err(SyncDrop::Nonce)),
     ];
-    for (next, floor, nonce, notifies, answer) in responses {
-        let payloads = payloads_of(rt.alloc(), notifies)?;
-        assert_eq!(rt;
-            member_accepts(next, floor, nonce, &payloads),
-            answer,
-            "{notifies:?}"
-        );
+    for (next, floor, nonce, answer) in greater {
+        assert_eq!(rt; member_accepts(next, floor, nonce, &payloads), answer);
     }
     Ok(())
 }
 
-/// What the peer answers where its highest, its next Message ID and its next sequence number are these, to M1, P1, the
-/// size of the delta and the delta.
-fn answer(
-    highest: Option<u32>,
-    next_ask: u32,
-    next_esp: u64,
-    (m1, p1, size, delta): (u32, u32, u32, u64),
-) -> Result<Accepted, SyncDrop> {
-    let state = PeerState {
-        highest,
-        next_ask,
+fn accepted(next_esp: u64) -> Result<Accepted, SyncDrop> {
+    Ok(Accepted {
+        p2: 40,
+        m2: 17,
         next_esp,
-    };
-    let request = SyncRequest {
-        nonce: 1,
-        m1,
-        p1,
-        size,
-        delta,
-    };
-    peer_accepts(&state, &request)
-}
-
-fn accepted(p2: u32, m2: u32, next_esp: u64) -> Result<Accepted, SyncDrop> {
-    Ok(Accepted { p2, m2, next_esp })
+    })
 }
 
 #[test]
 fn peers_accept_what_is_above_the_highest(rt: HostRuntime) {
-    let last = u32::MAX;
+    let state = PeerState {
+        highest: Some(16),
+        next_ask: 40,
+        next_esp: SEQUENCE_END - 1024,
+    };
     let answers = [
-        (Some(2), 2, 1, (16, 16, 0, 0), accepted(16, 16, 1)),
-        (Some(2), 40, 1, (16, 16, 0, 0), accepted(40, 16, 1)),
-        (Some(16), 16, 1, (16, 16, 0, 0), Err(SyncDrop::NotAbove(16))),
-        (Some(16), 16, 1, (17, 16, 0, 0), accepted(16, 17, 1)),
-        (Some(0), 1, 2, (16, 16, 8, 1024), accepted(16, 16, 1026)),
-        (
-            Some(16),
-            16,
-            1026,
-            (16, 16, 8, 1024),
-            Err(SyncDrop::NotAbove(16)),
-        ),
-        (
-            Some(16),
-            16,
-            1026,
-            (17, 16, 8, 1024),
-            accepted(16, 17, 2050),
-        ),
-        (None, 0, 1, (0, 0, 0, 0), accepted(0, 0, 1)),
-        (None, last, 1, (last, 0, 0, 0), accepted(last, last, 1)),
-        (
-            Some(last),
-            0,
-            1,
-            (last, last, 0, 0),
-            Err(SyncDrop::NotAbove(last)),
-        ),
-        (
-            Some(last - 1),
-            0,
-            1,
-            (last, last, 0, 0),
-            accepted(last, last, 1),
-        ),
-        (Some(16), 16, 1, (16, 16, 4, 0), Err(SyncDrop::NotAbove(16))),
+        (17, 8, 1024, accepted(SEQUENCE_END)),
+        (17, 8, 1025, Err(SyncDrop::Delta)),
+        (17, 0, 1025, accepted(SEQUENCE_END - 1024)),
+        (17, 4, 0, Err(SyncDrop::Delta)),
+        (16, 4, 0, Err(SyncDrop::NotAbove(16))),
     ];
-    for (highest, next_ask, next_esp, asked, expected) in answers {
+    for (m1, size, delta, answer) in answers {
+        let request = request(1, m1, 16, size, delta);
         assert_eq!(rt;
-            answer(highest, next_ask, next_esp, asked),
-            expected,
-            "{asked:?}"
-        );
-    }
-}
-
-#[test]
-fn sequence_numbers_rise_up_to_their_end(rt: HostRuntime) {
-    let end: u64 = 1 << 63;
-    let rises = [
-        (11, 8, 1024, Some(1035)),
-        (end - 500, 8, 1024, None),
-        (end - 1024, 8, 1024, Some(end)),
-        (end - 1023, 8, 1024, None),
-        (end, 0, 0, Some(end)),
-        (end + 1, 0, 0, None),
-        (1, 8, u64::MAX, None),
-        (u64::MAX, 8, u64::MAX, None),
-        (1, 4, 0, None),
-        (1, 7, 0, None),
-        (1, 9, 0, None),
-        (1, 12, 0, None),
-    ];
-    for (next_esp, size, delta, risen) in rises {
-        let expected = match risen {
-            Some(risen) => accepted(16, 16, risen),
-            None => Err(SyncDrop::Delta),
-        };
-        let asked = (16, 16, size, delta);
-        assert_eq!(rt;
-            answer(Some(2), 2, next_esp, asked),
-            expected,
-            "{next_esp} {asked:?}"
+            peer_accepts(&state, &request),
+            answer,
+            "{m1} {size} {delta}"
         );
     }
 }

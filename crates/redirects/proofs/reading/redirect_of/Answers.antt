@@ -1,5 +1,5 @@
 use Rattle.std.proofs.Common.{◌≡◌, ◌++◌, ◌∙◌, ap, sym, subst}
-use Rattle.redirects.specs.Notifies.{SpellsRedirect}
+use Rattle.redirects.specs.Notifications.{SpellsRedirect}
 use Rattle.redirects.proofs.reading.redirect_of.Goals as goal
 
 pub returns-clause-redirect : goal.returns-clause-redirect

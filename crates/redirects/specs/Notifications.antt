@@ -1,4 +1,4 @@
--- The data of a REDIRECT notify (RFC 5685).
+-- The data of REDIRECT and REDIRECTED_FROM notifications (RFC 5685, sections 9.2 and 9.3).
 use Rattle.std.specs.Prelude.{◌≡◌, ℕ, ◌≤◌, ◌⊎◌, List, ◌∷◌, ◌++◌, length}
 use Rattle.ha_base.specs.declared.identities.GatewayId.{GatewayId}
 
@@ -6,10 +6,14 @@ use Rattle.ha_base.specs.declared.identities.GatewayId.{GatewayId}
 abbrev pub IsSize : ℕ → ℕ → Type 0
 IsSize kind size = ((kind ≡ 1) × (size ≡ 4)) ⊎ ((kind ≡ 2) × (size ≡ 16)) ⊎ ((kind ≡ 3) × (1 ≤ size) × (size ≤ 255))
 
+-- the octets of the gateway's identity are as many as its type says
+abbrev pub IsGateway : GatewayId → Type 0
+IsGateway gateway = IsSize gateway.kind (length gateway.octets)
+
 -- the octets are the type of the gateway's identity, its length, the identity, and the nonce, which takes up the rest
 pub record SpellsRedirect (gateway : GatewayId) (nonce octets : List ℕ) : Type 0 where
   pub octets_are : octets ≡ gateway.kind ∷ length gateway.octets ∷ gateway.octets ++ nonce
-  pub size : IsSize gateway.kind (length gateway.octets)
+  pub size : IsGateway gateway
 
 abbrev pub HasRedirect : List ℕ → Type 0
 HasRedirect octets = (gateway : GatewayId) × (nonce : List ℕ) × SpellsRedirect gateway nonce octets
