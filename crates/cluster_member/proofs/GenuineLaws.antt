@@ -3,7 +3,7 @@ use Rattle.std.proofs.Common.{ℕ, ◌^◌, ◌<◌, List, length, Ok, ⊎_elim,
 use Rattle.std.proofs.lemmas.Bool.{cases_lt}
 use Rattle.esp_packets.specs.Laws.{Accepts, SealedPacketsOpen}
 use Rattle.esp_packets.specs.Packet.{spi_of}
-use Rattle.event_text.specs.declared.verdict.EspVerdict.{EspVerdict}
+use Rattle.events.specs.declared.verdict.EspVerdict.{EspVerdict}
 use Rattle.keeper_book.specs.declared.calls.Call.{Call}
 use Rattle.keeper_book.specs.declared.counters.Counter.TheVariants as counter
 use Rattle.turn_rules.proofs.GenuinePackets.{IsSized, genuine-long, genuine-opens, ready-goes, same_receiver}

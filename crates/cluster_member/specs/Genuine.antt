@@ -1,7 +1,7 @@
 -- Packets that the peer sealed for what a member holds.
 use Rattle.std.specs.Prelude.{ℕ, List}
 use Rattle.esp_packets.specs.Packet.{spi_of}
-use Rattle.event_text.specs.declared.verdict.EspVerdict.{EspVerdict}
+use Rattle.events.specs.declared.verdict.EspVerdict.{EspVerdict}
 use Rattle.keeper_book.specs.declared.calls.Call.{Call}
 use Rattle.keeper_book.specs.declared.counters.Counter.TheVariants as counter
 use Rattle.turn_rules.specs.Draws.{counter_name}

@@ -1,7 +1,7 @@
 -- The horizons of what a member holds.
 use Rattle.std.specs.Prelude.{ℕ, ◌≡◌}
-use Rattle.event_text.specs.declared.verdict.EspVerdict.{EspVerdict}
-use Rattle.event_text.specs.declared.verdict.EspVerdict.TheVariants as esp
+use Rattle.events.specs.declared.verdict.EspVerdict.{EspVerdict}
+use Rattle.events.specs.declared.verdict.EspVerdict.TheVariants as esp
 use Rattle.ha_base.specs.declared.esp_outcomes.EspOpened.{EspOpened}
 use Rattle.horizons.specs.Reaches.{Reach}
 use Rattle.keeper_book.specs.declared.counters.Counter.{Counter}

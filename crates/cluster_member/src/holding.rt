@@ -12,7 +12,7 @@ ghost use Rattle.turn_rules.specs.MemberPackets.{ReceivesPacketTo, SendsDataTo, 
 
 use crate::refusals;
 use esp_sas::{InboundSa, OutboundSa, Room};
-use event_text::{EspVerdict, Step, Verdict};
+use events::{EspVerdict, Step, Verdict};
 use ha_base::EspOpened;
 use horizons::Horizon;
 use keeper_book::{Keeper, Record, Taken};

@@ -2,7 +2,7 @@ ghost use Rattle.std.specs.Prelude.{◌≡◌, ◌<◌, ◌≤◌, length, Some,
 ghost use Rattle.keeper_book.specs.Asks.{Asks};
 ghost use Rattle.keeper_book.specs.declared.calls.Call.{Call};
 ghost use Rattle.turn_rules.specs.Held.{held_at};
-ghost use Rattle.event_text.specs.declared.verdict.Refusal.TheVariants as refusal;
+ghost use Rattle.events.specs.declared.verdict.Refusal.TheVariants as refusal;
 ghost use Rattle.turn_rules.specs.Packets.{LiesWithin};
 ghost use Rattle.turn_rules.specs.Steps.{Says};
 ghost use Rattle.cluster_member.specs.Members.{DrawsFrom, ReceivesAt, ReceivesFrom, SendsFrom};
@@ -10,7 +10,7 @@ ghost use Rattle.cluster_member.specs.Places.{IsLeastAt, IsLesser, IsPlaceOf, Ke
 
 use crate::holding::Holding;
 use esp_sas::{Room, packet_spi};
-use event_text::{EspVerdict, Refusal, Step, Verdict};
+use events::{EspVerdict, Refusal, Step, Verdict};
 use ha_base::{EspDrop, Memory};
 use keeper_book::Keeper;
 use std::alloc::Global;

@@ -13,7 +13,7 @@ use crate::holdings::Holdings;
 use crate::refusals;
 use esp_packets::sealed_packets_open;
 use esp_sas::Room;
-use event_text::{EspVerdict, Step, Verdict};
+use events::{EspVerdict, Step, Verdict};
 use ha_base::Memory;
 use keeper_book::{Keeper, KeeperFault};
 use std::alloc::Global;

@@ -1,7 +1,7 @@
 ghost use Rattle.std.specs.Prelude.{◌≡◌, ◌≢◌, Some, None};
 ghost use Rattle.turn_rules.specs.Draws.{refusal_of_fault, refusal_of_stop};
 
-use event_text::Refusal;
+use events::Refusal;
 use horizons::Stop;
 use keeper_book::KeeperFault;
 

@@ -2,7 +2,7 @@ ghost use Rattle.std.specs.Prelude.{◌≡◌, length};
 ghost use Rattle.keeper_book.specs.Counters.{AreWithinEnds};
 
 use crate::{Config, Member};
-use event_text::{Refusal, Verdict};
+use events::{Refusal, Verdict};
 use ha_base::{ChildKeys, Identity, KeySize, Memory, OctetArray, OctetList, Origin, SaKeys};
 use keeper_book::{Five, Keeper, MemoryKeeper, Record};
 use std::alloc::Global;

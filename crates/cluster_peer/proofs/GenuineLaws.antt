@@ -3,7 +3,7 @@ use Rattle.std.proofs.Common.{◌≡◌, ℕ, ◌<◌, List, Option, Some, Ok, l
 use Rattle.std.specs.Prelude.{MatchOption}
 use Rattle.std.proofs.lemmas.Bool.{cases_lt}
 use Rattle.esp_packets.specs.Laws.{Accepts, SealedPacketsOpen}
-use Rattle.event_text.specs.declared.verdict.EspVerdict.{EspVerdict}
+use Rattle.events.specs.declared.verdict.EspVerdict.{EspVerdict}
 use Rattle.keeper_book.specs.declared.counters.Counter.TheVariants as counter
 use Rattle.turn_rules.proofs.GenuinePackets.{IsSized, genuine-long, genuine-opens}
 use Rattle.turn_rules.proofs.KeySizes.{sized_to_peer}

@@ -6,7 +6,7 @@ ghost use Rattle.turn_rules.specs.Peers.{clashes};
 ghost use Rattle.turn_rules.specs.Slots.{SlotReceives, SlotSends, entered_slot, peer_counter};
 
 use esp_sas::{InboundSa, OutboundSa, Room};
-use event_text::{EspVerdict, Refusal, Step, Verdict};
+use events::{EspVerdict, Refusal, Step, Verdict};
 use ha_base::{CounterName, End, Kind};
 use keeper_book::Record;
 use spend_once::Lot;

@@ -1,6 +1,6 @@
 ghost use Rattle.std.specs.Prelude.{◌≡◌, ◌≤◌, ◌<◌, [], ◌∷◌, ◌++◌, true, false, IfOk, OnErr, OnOk, length};
 ghost use Rattle.cluster_peer.specs.Genuine.{GenuineAreAccepted};
-ghost use Rattle.event_text.specs.declared.verdict.Refusal.TheVariants as refusal;
+ghost use Rattle.events.specs.declared.verdict.Refusal.TheVariants as refusal;
 ghost use Rattle.replay_set.specs.Window.{IsWindowSize};
 ghost use Rattle.turn_rules.specs.Packets.{LiesWithin};
 ghost use Rattle.turn_rules.specs.Peers.{admits};
@@ -10,7 +10,7 @@ ghost use Rattle.turn_rules.specs.Steps.{Says};
 use crate::slots::Slots;
 use esp_packets::sealed_packets_open;
 use esp_sas::Room;
-use event_text::{EspVerdict, Refusal, Step, Verdict};
+use events::{EspVerdict, Refusal, Step, Verdict};
 use ha_base::{GatewayId, Memory};
 use keeper_book::Record;
 use std::alloc::Global;

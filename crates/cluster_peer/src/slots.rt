@@ -8,7 +8,7 @@ ghost use Rattle.ha_base.specs.declared.esp_outcomes.EspDrop.TheVariants as drop
 
 use crate::association::Association;
 use esp_sas::{Room, packet_spi};
-use event_text::{EspVerdict, Refusal, Step, Verdict};
+use events::{EspVerdict, Refusal, Step, Verdict};
 use ha_base::{EspDrop, Memory};
 use keeper_book::Record;
 use std::alloc::Global;

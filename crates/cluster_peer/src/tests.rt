@@ -2,7 +2,7 @@ ghost use Rattle.std.specs.Prelude.{◌≡◌, length};
 ghost use Rattle.keeper_book.specs.Counters.{AreWithinEnds};
 
 use crate::Peer;
-use event_text::{EspVerdict, Refusal, Step, Verdict};
+use events::{EspVerdict, Refusal, Step, Verdict};
 use ha_base::{
     ChildKeys, EspDrop, GatewayId, Identity, KeySize, OctetArray, OctetList, Origin, SaKeys,
 };

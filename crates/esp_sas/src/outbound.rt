@@ -3,7 +3,7 @@ ghost use Rattle.turn_rules.specs.Packets.{Sends};
 
 use crate::room::Room;
 use aes_gcm::Key;
-use event_text::Step;
+use events::Step;
 use ha_base::CounterName;
 use spend_once::Number;
 use std::marker::Model;

@@ -3,7 +3,7 @@ ghost use Rattle.turn_rules.specs.Packets.{Sends};
 
 use aes_gcm::Key;
 use esp_packets::{PACKET_OVERHEAD, seal_packet, spell_plain};
-use event_text::{Datagram, Medium, Seal, Seals, Step, Verdict};
+use events::{Datagram, Medium, Seal, Seals, Step, Verdict};
 use ha_base::{Memory, Octets};
 use spend_once::Number;
 use std::alloc::Global;

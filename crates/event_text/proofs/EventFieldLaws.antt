@@ -13,15 +13,16 @@ use Rattle.line_fields.specs.Numbers.{is_digit, number_of}
 use Rattle.line_fields.specs.Octets.{IsOctets, octets_text, sized}
 use Rattle.line_fields.proofs.NumberLaws.{own}
 use Rattle.line_fields.proofs.FieldLaws.{IsField, number_field, ok_is, pick, range_field, sized_field}
-use Rattle.event_text.specs.declared.event.Party.{Party}
-use Rattle.event_text.specs.declared.event.Party.TheVariants as parties
-use Rattle.event_text.specs.declared.event.Which.{Which}
-use Rattle.event_text.specs.declared.event.Which.TheVariants as whiches
-use Rattle.event_text.specs.declared.turn.Medium.{Medium}
-use Rattle.event_text.specs.declared.turn.Medium.TheVariants as mediums
+use Rattle.events.specs.declared.event.Party.{Party}
+use Rattle.events.specs.declared.event.Party.TheVariants as parties
+use Rattle.events.specs.declared.event.Which.{Which}
+use Rattle.events.specs.declared.event.Which.TheVariants as whiches
+use Rattle.events.specs.declared.turn.Medium.{Medium}
+use Rattle.events.specs.declared.turn.Medium.TheVariants as mediums
 use Rattle.event_text.specs.EventFields.{is_ticket_key_size, is_window_size, medium_of, member_in, member_of, numbered_in, party_of, ticket_key_in, ticket_key_of, which_of, window_in, window_of}
 use Rattle.replay_set.specs.Window.{IsWindowSize}
-use Rattle.event_text.specs.Grammar.{IsParty, IsTicketKey, IsWhich, medium_word, party_text, which_text}
+use Rattle.event_text.specs.Grammar.{medium_word, party_text, which_text}
+use Rattle.events.specs.Ranges.{IsParty, IsTicketKey, IsWhich}
 
 -- ---- numbers
 

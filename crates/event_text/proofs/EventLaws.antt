@@ -14,10 +14,11 @@ use Rattle.line_fields.specs.declared.fault.LineFault.{LineFault}
 use Rattle.line_fields.specs.declared.fault.LineReason.TheVariants as reasons
 use Rattle.line_fields.specs.Words.{Cursor, line_of, words_of}
 use Rattle.line_fields.specs.Numbers.{number_of}
-use Rattle.event_text.specs.Events.{PlainEvent, Cluster, Import, Join, Own, Draw, Crash, Send, Deliver, Alter, Cut, Inject}
+use Rattle.events.specs.Events.{PlainEvent, Cluster, Import, Join, Own, Draw, Crash, Send, Deliver, Alter, Cut, Inject}
 use Rattle.line_fields.specs.Fields.{◌>>=◌, behind, ended_at, end_in, fault_at, word_at, word_in}
 use Rattle.event_text.specs.Reading.{alter_at, child_keys_at, cluster_at, crash_at, cut_at, datagram_fields_at, deliver_at, draw_at, event_at, fields_at, import_at, inject_at, join_at, line_at, moment_at, own_at, sa_keys_at, send_at, starts_at, told_at}
-use Rattle.event_text.specs.Grammar.{AreChildKeys, AreSaKeys, AreStarts, EventLine, Fits, child_key_words, event_words, five_words, line_words, sa_key_words}
+use Rattle.event_text.specs.Grammar.{EventLine, child_key_words, event_words, five_words, line_words, sa_key_words}
+use Rattle.events.specs.Ranges.{AreChildKeys, AreSaKeys, AreStarts, Fits}
 use Rattle.line_fields.proofs.WordLaws.{line-words, words-line}
 use Rattle.event_text.proofs.EventFieldLaws.{count_field, medium_field, member_field, party_field, place_field, ticket_key_field, which_field, window_field}
 use Rattle.event_text.proofs.SpacelessLaws.{line_spaceless}

@@ -12,7 +12,7 @@ use Rattle.line_fields.specs.declared.fault.LineReason.TheVariants as reasons
 use Rattle.event_text.specs.declared.place.Place.{Place}
 use Rattle.line_fields.specs.Words.{onto}
 use Rattle.input_lines.specs.Lines.{IsFile, IsLine, with_line_feeds, is_passed, is_said, lines_of, no_feed, without_line_feed}
-use Rattle.event_text.specs.Events.{PlainEvent}
+use Rattle.events.specs.Events.{PlainEvent}
 use Rattle.line_fields.specs.Fields.{fault_at}
 use Rattle.event_text.specs.Reading.{line_at}
 use Rattle.event_text.specs.Grammar.{EventLine}

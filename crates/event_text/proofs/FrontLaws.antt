@@ -4,7 +4,7 @@ use Rattle.std.proofs.lemmas.List.{length-append}
 use Rattle.ha_base.specs.declared.outside.Moment.{Moment}
 use Rattle.line_fields.specs.declared.fault.LineFault.{LineFault}
 use Rattle.event_text.specs.declared.place.Place.{Place}
-use Rattle.event_text.specs.Events.{PlainEvent}
+use Rattle.events.specs.Events.{PlainEvent}
 use Rattle.input_lines.specs.Lines.{lines_of, without_line_feed}
 use Rattle.input_lines.specs.Limits.{overlong}
 use Rattle.input_lines.proofs.FirstLines.{first_line}

@@ -2,7 +2,7 @@
 use Rattle.std.proofs.Common.{◌≡◌, ℕ, List, Result, Ok, Err, sym, ap, ◌∙◌}
 use Rattle.ha_base.specs.declared.outside.Moment.{Moment}
 use Rattle.line_fields.specs.declared.fault.LineFault.{LineFault}
-use Rattle.event_text.specs.Events.{PlainEvent}
+use Rattle.events.specs.Events.{PlainEvent}
 use Rattle.event_text.specs.Reading.{line_at}
 use Rattle.event_text.specs.Grammar.{EventLine}
 use Rattle.event_text.proofs.EventLaws.{line_again}

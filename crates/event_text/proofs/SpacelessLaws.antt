@@ -3,14 +3,15 @@ use Rattle.std.proofs.Common.{◌≡◌, ◌-◌, ◌^◌, ◌<◌, true, not, e
 use Rattle.std.proofs.lemmas.Bool.{and_parts}
 use Rattle.std.specs.List.{list_all}
 use Rattle.ha_base.specs.declared.outside.Moment.{Moment}
-use Rattle.event_text.specs.Events.{PlainEvent, Cluster, Import, Join, Own, Draw, Crash, Send, Deliver, Alter, Cut, Inject}
-use Rattle.event_text.specs.declared.event.Party.{Party}
-use Rattle.event_text.specs.declared.event.Party.TheVariants as parties
-use Rattle.event_text.specs.declared.event.Which.{Which}
-use Rattle.event_text.specs.declared.event.Which.TheVariants as whiches
-use Rattle.event_text.specs.declared.turn.Medium.{Medium}
-use Rattle.event_text.specs.declared.turn.Medium.TheVariants as mediums
-use Rattle.event_text.specs.Grammar.{Fits, IsParty, IsWhich, event_words, line_words, medium_word, party_text, which_text}
+use Rattle.events.specs.Events.{PlainEvent, Cluster, Import, Join, Own, Draw, Crash, Send, Deliver, Alter, Cut, Inject}
+use Rattle.events.specs.declared.event.Party.{Party}
+use Rattle.events.specs.declared.event.Party.TheVariants as parties
+use Rattle.events.specs.declared.event.Which.{Which}
+use Rattle.events.specs.declared.event.Which.TheVariants as whiches
+use Rattle.events.specs.declared.turn.Medium.{Medium}
+use Rattle.events.specs.declared.turn.Medium.TheVariants as mediums
+use Rattle.event_text.specs.Grammar.{event_words, line_words, medium_word, party_text, which_text}
+use Rattle.events.specs.Ranges.{Fits, IsParty, IsWhich}
 use Rattle.event_text.proofs.EventFieldLaws.{key_octets, window_small}
 use Rattle.line_fields.proofs.WordLaws.{are_words, is_word, no_space}
 use Rattle.line_fields.proofs.SpacelessLaws.{all_also, is_plain, number_word, plain_octet, word_domain_name, word_esp_spi, word_identity, word_octet, word_octets, word_size, word_spi}

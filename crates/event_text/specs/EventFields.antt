@@ -5,12 +5,12 @@ use Rattle.line_fields.specs.declared.fault.LineReason.{LineReason}
 use Rattle.line_fields.specs.declared.fault.LineReason.TheVariants as reasons
 use Rattle.line_fields.specs.Numbers.{number_of}
 use Rattle.line_fields.specs.Octets.{sized}
-use Rattle.event_text.specs.declared.event.Party.{Party}
-use Rattle.event_text.specs.declared.event.Party.TheVariants as parties
-use Rattle.event_text.specs.declared.event.Which.{Which}
-use Rattle.event_text.specs.declared.event.Which.TheVariants as whiches
-use Rattle.event_text.specs.declared.turn.Medium.{Medium}
-use Rattle.event_text.specs.declared.turn.Medium.TheVariants as mediums
+use Rattle.events.specs.declared.event.Party.{Party}
+use Rattle.events.specs.declared.event.Party.TheVariants as parties
+use Rattle.events.specs.declared.event.Which.{Which}
+use Rattle.events.specs.declared.event.Which.TheVariants as whiches
+use Rattle.events.specs.declared.turn.Medium.{Medium}
+use Rattle.events.specs.declared.turn.Medium.TheVariants as mediums
 
 -- a member's number
 abbrev pub member_of : List ℕ → Result ℕ LineReason

@@ -3,7 +3,7 @@ use Rattle.std.specs.Prelude.{ℕ, ◌≤◌, List, [], ◌∷◌, length, codes
 use Rattle.std.specs.List.{AllByRecursion, filter}
 use Rattle.ha_base.specs.declared.outside.Moment.{Moment}
 use Rattle.input_lines.specs.Lines.{IsFile, IsLine, is_said}
-use Rattle.event_text.specs.Events.{PlainEvent}
+use Rattle.events.specs.Events.{PlainEvent}
 use Rattle.event_text.specs.Grammar.{EventLine}
 
 -- The lines say these events, one each, where the moment of the event before them is `last`.

@@ -8,8 +8,8 @@ use Rattle.event_text.specs.declared.place.InputFault.{InputFault}
 use Rattle.event_text.specs.declared.place.Place.{Place}
 use Rattle.input_lines.specs.Lines.{is_passed, lines_of, without_line_feed}
 use Rattle.input_lines.specs.Limits.{Left, overlong, unless}
-use Rattle.event_text.specs.declared.event.Event.{Event}
-use Rattle.event_text.specs.Events.{PlainEvent, plain}
+use Rattle.events.specs.declared.event.Event.{Event}
+use Rattle.events.specs.Events.{PlainEvent, plain}
 use Rattle.line_fields.specs.Fields.{fault_at}
 use Rattle.event_text.specs.Reading.{line_at}
 

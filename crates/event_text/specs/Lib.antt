@@ -1,4 +1,3 @@
-pub mod Events
 pub mod EventFields
 pub mod Reading
 pub mod Grammar

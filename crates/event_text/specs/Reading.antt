@@ -15,7 +15,7 @@ use Rattle.line_fields.specs.Numbers.{number_of}
 use Rattle.line_fields.specs.Octets.{esp_spi_of, octet_of, sized, spi_of}
 use Rattle.line_fields.specs.Identities.{domain_name_of, identity_of}
 use Rattle.line_fields.specs.Fields.{◌>>=◌, ended_at, fault_at, field, key_size_of, word_at}
-use Rattle.event_text.specs.Events.{PlainEvent, Cluster, Import, Join, Own, Draw, Crash, Send, Deliver, Alter, Cut, Inject}
+use Rattle.events.specs.Events.{PlainEvent, Cluster, Import, Join, Own, Draw, Crash, Send, Deliver, Alter, Cut, Inject}
 use Rattle.event_text.specs.EventFields.{medium_of, member_of, party_of, ticket_key_of, which_of, window_of}
 
 -- a sealing key: an AES key and four octets of salt (RFC 5282, section 7.1)

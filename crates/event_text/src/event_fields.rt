@@ -5,9 +5,8 @@ ghost use Rattle.line_fields.specs.Octets.{sized};
 ghost use Rattle.line_fields.specs.Fields.{Gives, field};
 ghost use Rattle.event_text.specs.EventFields.{is_ticket_key_size, is_window_size, medium_of, party_of, ticket_key_of, which_of, window_of};
 
-use crate::event::{Party, Which};
+use events::{Medium, Party, Which};
 use crate::reading::NUMBERS;
-use crate::turn::Medium;
 use ha_base::{OctetList, Octets};
 use line_fields::{Failure, LineReason, Words, at, list_word, number_word, octet_list, short_word};
 use std::alloc::Global;

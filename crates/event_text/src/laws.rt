@@ -3,7 +3,7 @@
 ghost use Rattle.std.specs.Prelude.{◌≡◌, ℕ, ◌≤◌, List, ◌++◌, length, None};
 ghost use Rattle.event_text.specs.Input.{contents_of};
 ghost use Rattle.ha_base.specs.declared.outside.Moment.{Moment};
-ghost use Rattle.event_text.specs.Events.{PlainEvent};
+ghost use Rattle.events.specs.Events.{PlainEvent};
 ghost use Rattle.event_text.specs.EventFile.{EventText};
 
 /// What an input says is told by as many of its octets as a file may have, and one more: whatever follows them.

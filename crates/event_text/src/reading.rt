@@ -3,13 +3,14 @@
 ghost use Rattle.std.specs.Prelude.{◌≡◌, ◌≢◌, length, IfOk, MatchResult, Ok, Err};
 ghost use Rattle.keeper_book.specs.Counters.{AreWithinEnds};
 ghost use Rattle.keeper_book.specs.Records.{sealing_key_octets};
-ghost use Rattle.event_text.specs.Events.{PlainEvent, plain};
-ghost use Rattle.event_text.specs.Grammar.{EventLine, Fits};
+ghost use Rattle.events.specs.Events.{PlainEvent, plain};
+ghost use Rattle.event_text.specs.Grammar.{EventLine};
+ghost use Rattle.events.specs.Ranges.{Fits};
 ghost use Rattle.ha_base.specs.declared.outside.Moment.{Moment};
 ghost use Rattle.line_fields.specs.Fields.{Gives, Fails};
 ghost use Rattle.event_text.specs.Reading.{sa_keys_at, child_keys_at, starts_at, import_at, join_at, own_at, draw_at, crash_at, cluster_at, send_at, deliver_at, alter_at, cut_at, inject_at, datagram_fields_at, event_at, moment_at, told_at, line_at};
 
-use crate::event::Event;
+use events::Event;
 use crate::event_fields::{medium, octets_in_memory, party, ticket_key, which, window};
 use crate::keys::sealing_key;
 use ha_base::{ChildKeys, KeySize, Moment, Origin, SaKeys};

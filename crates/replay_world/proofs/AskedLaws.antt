@@ -1,7 +1,7 @@
 -- What was asked of a keeper over the turns of a run.
 use Rattle.std.proofs.Common.{◌≡◌, ℕ, List, [], ◌∷◌, ◌++◌, Option, ap, sym, subst}
 use Rattle.std.specs.Borrow.{MutBor}
-use Rattle.event_text.specs.declared.turn.Turn.{Turn}
+use Rattle.events.specs.declared.turn.Turn.{Turn}
 use Rattle.keeper_book.specs.Book.{Book}
 use Rattle.keeper_book.specs.Spoken.{EachGives, Spoken}
 use Rattle.keeper_book.specs.declared.calls.Call.{Call}

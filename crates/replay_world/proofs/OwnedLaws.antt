@@ -1,7 +1,7 @@
 -- Where each turn is explained and the book stands for the calls, all is owned and safe.
 use Rattle.std.proofs.Common.{◌≡◌, ℕ, Option, Some, None, List, Result, Ok, Err, OnOk, OnErr, subst}
-use Rattle.event_text.specs.declared.event.Event.{Event}
-use Rattle.event_text.specs.declared.turn.Turn.{Turn}
+use Rattle.events.specs.declared.event.Event.{Event}
+use Rattle.events.specs.declared.turn.Turn.{Turn}
 use Rattle.ha_base.specs.declared.outside.Moment.{Moment}
 use Rattle.keeper_book.specs.Book.{Book}
 use Rattle.replay_world.specs.Owning.{OwnedTold}

@@ -6,12 +6,12 @@ use Rattle.std.specs.List.{AllByRecursion}
 use Rattle.std.proofs.Math.Seq.{take-length}
 use Rattle.std.specs.Io.KnownBytes.{Appends}
 use Rattle.ha_base.specs.Faults.{AppendsFront}
-use Rattle.event_text.specs.Events.{PlainEvent}
+use Rattle.events.specs.Events.{PlainEvent}
 use Rattle.event_text.specs.Input.{Contents, with_event}
 use Rattle.report_text.specs.Report.{given, given_in, turn_text, turns_text}
 use Rattle.event_text.specs.declared.place.InputFault.{InputFault}
-use Rattle.event_text.specs.declared.turn.Datagram.{Datagram}
-use Rattle.event_text.specs.declared.turn.Turn.{Turn}
+use Rattle.events.specs.declared.turn.Datagram.{Datagram}
+use Rattle.events.specs.declared.turn.Turn.{Turn}
 use Rattle.ha_base.specs.declared.outside.Moment.{Moment}
 use Rattle.replay_world.specs.Played.{prefixed, title, titles}
 use Rattle.run_ends.specs.Runs.{CausedSince}

@@ -1,6 +1,6 @@
 -- Whose the numbers of a keeper's book are.
 use Rattle.std.specs.Prelude.{Option, Some, None, List}
-use Rattle.event_text.specs.declared.turn.Turn.{Turn}
+use Rattle.events.specs.declared.turn.Turn.{Turn}
 use Rattle.keeper_book.specs.Book.{Book}
 use Rattle.turn_laws.specs.Turns.{AreOwned}
 

@@ -1,11 +1,11 @@
 -- What the turns of a run say of the input that was played.
 use Rattle.std.specs.Prelude.{ℕ, ◌≡◌, ◌+◌, ◌<◌, ◌≤◌, ◌⊎◌, List, [], ◌∷◌, ◌++◌, length, Option}
 use Rattle.std.specs.Io.KnownBytes.{Appends, Consumes, IsAtEnd}
-use Rattle.event_text.specs.Events.{PlainEvent, plain}
+use Rattle.events.specs.Events.{PlainEvent, plain}
 use Rattle.event_text.specs.Input.{Contents, contents_of}
 use Rattle.report_text.specs.Report.{report}
 use Rattle.event_text.specs.declared.place.InputFault.{InputFault}
-use Rattle.event_text.specs.declared.turn.Turn.{Turn}
+use Rattle.events.specs.declared.turn.Turn.{Turn}
 use Rattle.ha_base.specs.declared.outside.Moment.{Moment}
 use Rattle.keeper_book.specs.Book.{Book}
 use Rattle.keeper_book.specs.declared.calls.Call.{Call}

@@ -3,7 +3,7 @@
 ghost use Rattle.std.specs.Prelude.{◌≡◌, map, Some, IfOk};
 ghost use Rattle.replay_world.specs.Crashes.{ended_in, services_after};
 
-use event_text::{Event, Turn, Verdict};
+use events::{Event, Turn, Verdict};
 use ha_base::{Memory, Service};
 use std::alloc::Global;
 

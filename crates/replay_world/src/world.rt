@@ -1,7 +1,7 @@
 ghost use Rattle.std.specs.Prelude.{◌≡◌, ◌⊎◌, ℕ, [], IfOk, OnOk, OnErr, Some, false, length, map, slice_get, vec_len};
 ghost use Rattle.std.specs.Option.{option_copied};
-ghost use Rattle.event_text.specs.Events.{plain};
-ghost use Rattle.event_text.specs.Grammar.{Fits};
+ghost use Rattle.events.specs.Events.{plain};
+ghost use Rattle.events.specs.Ranges.{Fits};
 ghost use Rattle.run_ends.specs.Asked.{AsksAsSeen, newest_calls};
 ghost use Rattle.run_ends.specs.Runs.{CausedSince, Grows, LackMemory, StandsTold};
 ghost use Rattle.turn_rules.specs.Datagrams.{datagrams_of};
@@ -12,7 +12,7 @@ ghost use Rattle.replay_world.specs.Owning.{OwnedTold};
 ghost use Rattle.replay_world.specs.Worlds.{peer_service_of, run_of, services_of};
 
 use crate::services::{all_kept, drop_service, ended_in};
-use event_text::{Event, Turn};
+use events::{Event, Turn};
 use ha_base::{Memory, Moment, Service};
 use keeper_book::{Gate, Keeper};
 use run_ends::Ends;

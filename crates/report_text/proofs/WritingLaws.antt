@@ -8,8 +8,8 @@ use Rattle.std.proofs.lemmas.List.Concat.{flat_map-cons}
 use Rattle.std.proofs.lemmas.Option.{get_or_from_slice_get, slice_get-get_or, slice_get_within}
 use Rattle.line_fields.specs.Writing.{line_text}
 use Rattle.std.specs.Fmt.{decimal}
-use Rattle.event_text.specs.declared.turn.Turn.{Turn}
-use Rattle.event_text.specs.Events.{plain}
+use Rattle.events.specs.declared.turn.Turn.{Turn}
+use Rattle.events.specs.Events.{plain}
 use Rattle.event_text.specs.Grammar.{EventLine}
 use Rattle.report_text.specs.Report.{title_words}
 

@@ -2,12 +2,12 @@
 
 ghost use Rattle.std.specs.Prelude.{◌≡◌, ◌∷◌, ◌++◌, OnOk};
 ghost use Rattle.line_fields.specs.Identities.{identity_text, prefix_of};
-ghost use Rattle.event_text.specs.Events.{association, plain};
+ghost use Rattle.events.specs.Events.{association, plain};
 ghost use Rattle.line_fields.specs.Fields.{size_text};
 ghost use Rattle.event_text.specs.Grammar.{association_words, child_key_words, event_words, five_words, medium_word, party_text, sa_key_words, which_text};
 ghost use Rattle.line_fields.specs.Writing.{with_words};
 
-use event_text::{Event, Medium, Party, Which};
+use events::{Event, Medium, Party, Which};
 use ha_base::{ChildKeys, Identity, KeySize, Memory, Octets, SaKeys};
 use keeper_book::{Five, Record};
 use std::alloc::Global;

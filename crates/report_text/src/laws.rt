@@ -1,11 +1,11 @@
 //! A law of reports.
 
 ghost use Rattle.std.specs.Prelude.{◌≡◌, ℕ, List, ◌++◌, [], ◌∷◌, codes};
-ghost use Rattle.event_text.specs.Events.{plain};
+ghost use Rattle.events.specs.Events.{plain};
 ghost use Rattle.event_text.specs.Grammar.{EventLine};
 ghost use Rattle.line_fields.specs.Writing.{line_text};
 ghost use Rattle.report_text.specs.Report.{title_words};
-ghost use Rattle.event_text.specs.declared.turn.Turn.{Turn};
+ghost use Rattle.events.specs.declared.turn.Turn.{Turn};
 ghost use Rattle.std.specs.Fmt.{decimal};
 
 /// The event's line stands in the first line of its turn as it stands in the file.

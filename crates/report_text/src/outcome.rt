@@ -7,7 +7,7 @@ ghost use Rattle.report_text.specs.Report.{derivation_text, drop_word, gives_tex
 ghost use Rattle.line_fields.specs.Writing.{with_words};
 
 use crate::event::{medium_word, put_five};
-use event_text::{Datagram, Refusal, Seal, Seals, Served, Verdict};
+use events::{Datagram, Refusal, Seal, Seals, Served, Verdict};
 use ha_base::{Derivation, End, EspDrop, Kind, Memory, Octets, Origin};
 use std::alloc::Global;
 use word_text::{put_bare_number, put_bare_octets, put_bare_spi, put_number, put_octets, put_word};

@@ -8,7 +8,7 @@ ghost use Rattle.line_fields.specs.Writing.{with_words};
 use crate::calls::put_calls;
 use crate::event::put_event;
 use crate::outcome::{put_gives, put_out, put_seals, put_served};
-use event_text::Turn;
+use events::Turn;
 use ha_base::{Memory, Octets};
 use std::alloc::Global;
 use word_text::put_number;

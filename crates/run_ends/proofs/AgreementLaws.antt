@@ -4,7 +4,7 @@ use Rattle.std.specs.Prelude.{◌||◌, is_none, option_to_list, cond, unwrap_or
 use Rattle.std.specs.List.{AllByRecursion}
 use Rattle.std.specs.Option.{option_map}
 use Rattle.cluster_member.specs.Members.{Holder}
-use Rattle.event_text.specs.declared.turn.Turn.{Turn}
+use Rattle.events.specs.declared.turn.Turn.{Turn}
 use Rattle.turn_rules.proofs.SlotTies.{other_slots-cons, own_slots-cons}
 use Rattle.turn_rules.proofs.Ties.{held_by-cons}
 use Rattle.turn_rules.specs.Datagrams.{PlainDatagram, datagrams_of, plain_datagram}

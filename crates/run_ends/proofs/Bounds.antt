@@ -10,17 +10,17 @@ use Rattle.aes_gcm.proofs.Seals.{sealing}
 use Rattle.esp_packets.proofs.Packets.{packet_length}
 use Rattle.esp_packets.proofs.Plaintexts.{length-range_with_len}
 use Rattle.esp_packets.specs.Packet.{pad_length, plain_of}
-use Rattle.event_text.specs.Events.{plain}
-use Rattle.event_text.specs.Grammar.{Fits}
-use Rattle.event_text.specs.declared.event.Event.{Event}
-use Rattle.event_text.specs.declared.event.Event.TheVariants as event
-use Rattle.event_text.specs.declared.event.Party.{Party}
-use Rattle.event_text.specs.declared.event.Which.{Which}
-use Rattle.event_text.specs.declared.event.Which.TheVariants as which
-use Rattle.event_text.specs.declared.turn.Medium.{Medium}
-use Rattle.event_text.specs.declared.turn.Step.{Step}
-use Rattle.event_text.specs.declared.verdict.Refusal.{Refusal}
-use Rattle.event_text.specs.declared.verdict.Refusal.TheVariants as refusal
+use Rattle.events.specs.Events.{plain}
+use Rattle.events.specs.Ranges.{Fits}
+use Rattle.events.specs.declared.event.Event.{Event}
+use Rattle.events.specs.declared.event.Event.TheVariants as event
+use Rattle.events.specs.declared.event.Party.{Party}
+use Rattle.events.specs.declared.event.Which.{Which}
+use Rattle.events.specs.declared.event.Which.TheVariants as which
+use Rattle.events.specs.declared.turn.Medium.{Medium}
+use Rattle.events.specs.declared.turn.Step.{Step}
+use Rattle.events.specs.declared.verdict.Refusal.{Refusal}
+use Rattle.events.specs.declared.verdict.Refusal.TheVariants as refusal
 use Rattle.ha_base.specs.Octets.{WithRoom}
 use Rattle.ha_base.specs.declared.identities.Identity.{Identity}
 use Rattle.replay_set.specs.Window.{IsWindowSize}

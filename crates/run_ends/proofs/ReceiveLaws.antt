@@ -6,15 +6,15 @@ use Rattle.cluster_member.specs.Members.{IsReceivedAt, ReceivesFrom}
 use Rattle.cluster_member.proofs.StepLaws.{held_at-spir, ready_as}
 use Rattle.cluster_member.proofs.VerdictLaws.{IsOfMember}
 use Rattle.esp_packets.specs.Packet.{spi_of}
-use Rattle.event_text.specs.declared.event.Event.{Event}
-use Rattle.event_text.specs.declared.event.Event.TheVariants as event
-use Rattle.event_text.specs.declared.event.Party.TheVariants as parties
-use Rattle.event_text.specs.declared.event.Which.TheVariants as which
-use Rattle.event_text.specs.declared.verdict.EspVerdict.{EspVerdict}
-use Rattle.event_text.specs.declared.verdict.EspVerdict.TheVariants as esp
-use Rattle.event_text.specs.declared.verdict.Refusal.{Refusal}
-use Rattle.event_text.specs.declared.verdict.Verdict.{Verdict}
-use Rattle.event_text.specs.declared.verdict.Verdict.TheVariants as out
+use Rattle.events.specs.declared.event.Event.{Event}
+use Rattle.events.specs.declared.event.Event.TheVariants as event
+use Rattle.events.specs.declared.event.Party.TheVariants as parties
+use Rattle.events.specs.declared.event.Which.TheVariants as which
+use Rattle.events.specs.declared.verdict.EspVerdict.{EspVerdict}
+use Rattle.events.specs.declared.verdict.EspVerdict.TheVariants as esp
+use Rattle.events.specs.declared.verdict.Refusal.{Refusal}
+use Rattle.events.specs.declared.verdict.Verdict.{Verdict}
+use Rattle.events.specs.declared.verdict.Verdict.TheVariants as out
 use Rattle.ha_base.specs.declared.counter_names.Kind.TheVariants as kind
 use Rattle.ha_base.specs.declared.esp_outcomes.EspDrop.{EspDrop}
 use Rattle.ha_base.specs.declared.esp_outcomes.EspDrop.TheVariants as drop

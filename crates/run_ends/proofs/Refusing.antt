@@ -4,11 +4,11 @@ use Rattle.std.proofs.Math.ListN.{set}
 use Rattle.std.proofs.lemmas.List.{get_or_default, set-get_or}
 use Rattle.std.specs.Prelude.{is_none}
 use Rattle.cluster_member.specs.Members.{Holder}
-use Rattle.event_text.specs.declared.turn.Medium.{Medium}
-use Rattle.event_text.specs.declared.turn.Step.{Step}
-use Rattle.event_text.specs.declared.verdict.Refusal.{Refusal}
-use Rattle.event_text.specs.declared.verdict.Refusal.TheVariants as refusal
-use Rattle.event_text.specs.declared.verdict.Verdict.TheVariants as out
+use Rattle.events.specs.declared.turn.Medium.{Medium}
+use Rattle.events.specs.declared.turn.Step.{Step}
+use Rattle.events.specs.declared.verdict.Refusal.{Refusal}
+use Rattle.events.specs.declared.verdict.Refusal.TheVariants as refusal
+use Rattle.events.specs.declared.verdict.Verdict.TheVariants as out
 use Rattle.keeper_book.specs.declared.records.Record.{Record}
 use Rattle.turn_rules.specs.Datagrams.{PlainDatagram}
 use Rattle.turn_rules.specs.Fits.{is_importable}

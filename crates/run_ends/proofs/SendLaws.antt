@@ -7,13 +7,13 @@ use Rattle.std.specs.Prelude.{MatchOption, option_to_list}
 use Rattle.cluster_member.specs.Members.{Becomes, DrawsFrom, SendsFrom}
 use Rattle.cluster_member.proofs.StepLaws.{draws-from-fit, draws-held, ready_as}
 use Rattle.cluster_member.proofs.VerdictLaws.{IsDrawn, IsOfMember, option_drawn}
-use Rattle.event_text.specs.declared.event.Event.TheVariants as event
-use Rattle.event_text.specs.declared.event.Party.TheVariants as parties
-use Rattle.event_text.specs.declared.turn.Step.{Step}
-use Rattle.event_text.specs.declared.verdict.Refusal.{Refusal}
-use Rattle.event_text.specs.declared.verdict.Refusal.TheVariants as refusal
-use Rattle.event_text.specs.declared.verdict.Verdict.{Verdict}
-use Rattle.event_text.specs.declared.verdict.Verdict.TheVariants as out
+use Rattle.events.specs.declared.event.Event.TheVariants as event
+use Rattle.events.specs.declared.event.Party.TheVariants as parties
+use Rattle.events.specs.declared.turn.Step.{Step}
+use Rattle.events.specs.declared.verdict.Refusal.{Refusal}
+use Rattle.events.specs.declared.verdict.Refusal.TheVariants as refusal
+use Rattle.events.specs.declared.verdict.Verdict.{Verdict}
+use Rattle.events.specs.declared.verdict.Verdict.TheVariants as out
 use Rattle.ha_base.specs.Octets.{WithRoom}
 use Rattle.horizons.specs.Reaches.{cover_of}
 use Rattle.horizons.specs.Ready.{Answered, Covers}

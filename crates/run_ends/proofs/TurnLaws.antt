@@ -1,6 +1,6 @@
 -- What the calls of one more turn are, and what they do to the keeper.
 use Rattle.std.proofs.Common.{◌≡◌, ℕ, ◌≤◌, Bool, true, false, Option, Some, None, List, [], ◌∷◌, ◌++◌, length, ⊎_elim, ◌⊎◌, inl, inr, arith, subst}
-use Rattle.event_text.specs.declared.turn.Turn.{Turn}
+use Rattle.events.specs.declared.turn.Turn.{Turn}
 use Rattle.keeper_book.specs.Book.{Book, EntersAll, EntersAllTold}
 use Rattle.keeper_book.specs.Gates.{told_calls}
 use Rattle.keeper_book.specs.Spoken.{EachGives, Spoken}

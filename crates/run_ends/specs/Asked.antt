@@ -1,6 +1,6 @@
 -- What was asked of a keeper behind a gate, as those saw it who asked the gate.
 use Rattle.std.specs.Prelude.{List, [], ◌∷◌}
-use Rattle.event_text.specs.declared.turn.Turn.{Turn}
+use Rattle.events.specs.declared.turn.Turn.{Turn}
 use Rattle.keeper_book.specs.Asks.{Asks}
 use Rattle.keeper_book.specs.Told.{IsCallOf, seen}
 use Rattle.keeper_book.specs.declared.calls.Call.{Call}

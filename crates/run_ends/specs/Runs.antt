@@ -1,7 +1,7 @@
 -- What a run is seen as: how many services were handed in for members, and its turns, the newest first.
 use Rattle.std.specs.Prelude.{ℕ, ◌≡◌, Option, Some, None, List, [], ◌∷◌}
-use Rattle.event_text.specs.declared.event.Event.{Event}
-use Rattle.event_text.specs.declared.turn.Turn.{Turn}
+use Rattle.events.specs.declared.event.Event.{Event}
+use Rattle.events.specs.declared.turn.Turn.{Turn}
 use Rattle.ha_base.specs.declared.outside.Moment.{Moment}
 use Rattle.keeper_book.specs.Book.{Book}
 use Rattle.keeper_book.specs.Told.{HaveCause, seen}

@@ -1,11 +1,11 @@
 //! What is delivered to an end.
 
 ghost use Rattle.std.specs.Prelude.{◌≡◌, ◌+◌, ◌≤◌, length, IfOk, MatchOption, Err, Ok};
-ghost use Rattle.event_text.specs.declared.verdict.Refusal.TheVariants as refusal;
+ghost use Rattle.events.specs.declared.verdict.Refusal.TheVariants as refusal;
 ghost use Rattle.turn_rules.specs.Datagrams.{altered, arrives, changed, cut, datagram_at, datagrams_of, plain_datagram};
 ghost use Rattle.turn_rules.specs.Packets.{IsVerdictOf, LiesWithin};
 
-use event_text::{Datagram, EspVerdict, Event, Medium, Refusal, Verdict, Which};
+use events::{Datagram, EspVerdict, Event, Medium, Refusal, Verdict, Which};
 use ha_base::{Memory, Octets};
 use std::alloc::Global;
 use std::marker::Model;

@@ -11,7 +11,7 @@ use crate::parties::{Parties, refused};
 use crate::sends::is_full;
 use cluster_member::Member;
 use cluster_peer::Peer;
-use event_text::{Event, Medium, Party, Refusal, Step};
+use events::{Event, Medium, Party, Refusal, Step};
 use ha_base::Memory;
 use keeper_book::Keeper;
 use turn_trace::Trace;

@@ -1,14 +1,14 @@
 ghost use Rattle.std.specs.Prelude.{◌≡◌, ◌⊎◌, ℕ, [], OnOk, OnErr, false, length, slice_get};
 ghost use Rattle.std.specs.Option.{option_copied};
 ghost use Rattle.turn_rules.specs.Local.{Local};
-ghost use Rattle.event_text.specs.Events.{plain};
-ghost use Rattle.event_text.specs.Grammar.{Fits};
+ghost use Rattle.events.specs.Events.{plain};
+ghost use Rattle.events.specs.Ranges.{Fits};
 ghost use Rattle.turn_rules.specs.Datagrams.{datagrams_of};
 ghost use Rattle.run_ends.specs.Asked.{AsksAsSeen, newest_calls};
 ghost use Rattle.run_ends.specs.Runs.{CausedSince, Grows, LackMemory, StandsTold};
 
 use crate::parties::Parties;
-use event_text::{Event, Turn};
+use events::{Event, Turn};
 use ha_base::{Memory, Moment};
 use keeper_book::{Gate, Keeper};
 use std::alloc::Global;

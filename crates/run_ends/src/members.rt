@@ -8,7 +8,7 @@ ghost use Rattle.run_ends.specs.Parties.{ActsUp, Crashes, DrawsAs, IsPlaceOf, Jo
 
 use crate::parties::{Parties, refused};
 use cluster_member::Member;
-use event_text::{Refusal, Step, Verdict};
+use events::{Refusal, Step, Verdict};
 use ha_base::Memory;
 use keeper_book::Keeper;
 

@@ -2,8 +2,8 @@
 
 ghost use Rattle.std.specs.Prelude.{◌≡◌, ◌<◌, ◌≤◌, [], List, MatchOption, IfOk, OnErr, length, Ok};
 ghost use Rattle.std.specs.List.{AllByRecursion};
-ghost use Rattle.event_text.specs.Events.{plain};
-ghost use Rattle.event_text.specs.Grammar.{Fits};
+ghost use Rattle.events.specs.Events.{plain};
+ghost use Rattle.events.specs.Ranges.{Fits};
 ghost use Rattle.cluster_member.specs.Members.{AsksInVain};
 ghost use Rattle.keeper_book.specs.Asks.{Asks};
 ghost use Rattle.keeper_book.specs.declared.calls.Call.{Call};
@@ -16,7 +16,7 @@ ghost use Rattle.run_ends.specs.Parties.{ConfiguresFirst, Imports, IsShort, Play
 use crate::settings::Settings;
 use cluster_member::{Member, of_fault};
 use cluster_peer::Peer;
-use event_text::{Event, Refusal, Step, Verdict};
+use events::{Event, Refusal, Step, Verdict};
 use ha_base::Memory;
 use keeper_book::{Keeper, Record};
 use std::alloc::Global;

@@ -8,7 +8,7 @@ ghost use Rattle.turn_rules.specs.Slots.{PeerSends};
 ghost use Rattle.run_ends.specs.Parties.{ActsUp, PeerActs, SendsAs, SendsBy, WhereRoomAs};
 
 use crate::parties::{Parties, refused};
-use event_text::{Party, Refusal, Step};
+use events::{Party, Refusal, Step};
 use ha_base::Memory;
 use keeper_book::Keeper;
 use turn_trace::Trace;

@@ -1,8 +1,8 @@
-ghost use Rattle.event_text.specs.Events.{plain};
-ghost use Rattle.event_text.specs.Grammar.{Fits};
+ghost use Rattle.events.specs.Events.{plain};
+ghost use Rattle.events.specs.Ranges.{Fits};
 
 use crate::Ends;
-use event_text::{Event, Refusal, Verdict, read_line};
+use events::{Event, Refusal, Verdict, read_line};
 use ha_base::{Memory, Moment};
 use keeper_book::{Gate, MemoryKeeper};
 use std::alloc::Global;

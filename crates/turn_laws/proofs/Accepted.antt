@@ -2,11 +2,11 @@
 use Rattle.std.proofs.Common.{◌≡◌, ◌≢◌, ℕ, true, Option, Some, None, List, [], ◌∷◌, refl, ap, sym, ◌∙◌, subst, if◌then◌else◌}
 use Rattle.std.proofs.lemmas.Option.{same_Some}
 use Rattle.std.specs.List.{AllByRecursion, cons_option, filter_map}
-use Rattle.event_text.specs.declared.event.Event.{Event}
-use Rattle.event_text.specs.declared.turn.Step.{Step}
-use Rattle.event_text.specs.declared.turn.Turn.{Turn}
-use Rattle.event_text.specs.declared.verdict.Verdict.{Verdict}
-use Rattle.event_text.specs.declared.verdict.Verdict.TheVariants as out
+use Rattle.events.specs.declared.event.Event.{Event}
+use Rattle.events.specs.declared.turn.Step.{Step}
+use Rattle.events.specs.declared.turn.Turn.{Turn}
+use Rattle.events.specs.declared.verdict.Verdict.{Verdict}
+use Rattle.events.specs.declared.verdict.Verdict.TheVariants as out
 use Rattle.keeper_book.specs.Book.{Book}
 use Rattle.keeper_book.specs.declared.calls.Call.{Call}
 use Rattle.turn_laws.proofs.All.{numbers-once}

@@ -2,13 +2,13 @@
 use Rattle.std.proofs.Common.{◌≡◌, ℕ, ◌==◌, Bool, true, false, Option, Some, None, MatchOption, List, [], ◌∷◌, refl, ap, sym, ◌∙◌, subst, if◌then◌else◌}
 use Rattle.std.proofs.lemmas.Option.{same_Some}
 use Rattle.std.proofs.lemmas.Bool.{eqb-true}
-use Rattle.event_text.specs.declared.event.Event.{Event}
-use Rattle.event_text.specs.declared.event.Event.TheVariants as event
-use Rattle.event_text.specs.declared.turn.Step.{Step}
-use Rattle.event_text.specs.declared.turn.Turn.{Turn}
-use Rattle.event_text.specs.declared.verdict.Refusal.{Refusal}
-use Rattle.event_text.specs.declared.verdict.Verdict.{Verdict}
-use Rattle.event_text.specs.declared.verdict.Verdict.TheVariants as out
+use Rattle.events.specs.declared.event.Event.{Event}
+use Rattle.events.specs.declared.event.Event.TheVariants as event
+use Rattle.events.specs.declared.turn.Step.{Step}
+use Rattle.events.specs.declared.turn.Turn.{Turn}
+use Rattle.events.specs.declared.verdict.Refusal.{Refusal}
+use Rattle.events.specs.declared.verdict.Verdict.{Verdict}
+use Rattle.events.specs.declared.verdict.Verdict.TheVariants as out
 use Rattle.keeper_book.specs.Told.{seen}
 use Rattle.keeper_book.specs.declared.calls.Call.{Call}
 use Rattle.keeper_book.specs.declared.calls.KeeperAnswer.{KeeperAnswer}

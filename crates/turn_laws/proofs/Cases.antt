@@ -2,11 +2,11 @@
 use Rattle.std.proofs.Common.{◌≡◌, ℕ, ◌+◌, ◌-◌, ◌<◌, Bool, true, false, not, List, arith, refl}
 use Rattle.std.specs.Prelude.{nat_le, nat_lt, length}
 use Rattle.std.proofs.lemmas.Bool.{and_parts, ltb-true, not-false}
-use Rattle.event_text.specs.declared.event.Party.{Party}
-use Rattle.event_text.specs.declared.event.Party.TheVariants as parties
-use Rattle.event_text.specs.declared.turn.Step.{Step}
-use Rattle.event_text.specs.declared.verdict.Refusal.{Refusal}
-use Rattle.event_text.specs.declared.verdict.Refusal.TheVariants as refusal
+use Rattle.events.specs.declared.event.Party.{Party}
+use Rattle.events.specs.declared.event.Party.TheVariants as parties
+use Rattle.events.specs.declared.turn.Step.{Step}
+use Rattle.events.specs.declared.verdict.Refusal.{Refusal}
+use Rattle.events.specs.declared.verdict.Refusal.TheVariants as refusal
 use Rattle.keeper_book.specs.declared.calls.Call.{Call}
 use Rattle.turn_rules.specs.Datagrams.{MAX_DATAGRAMS}
 use Rattle.turn_rules.specs.Fits.{Refuses, Refusing, WherePresent, WhereRoom, WhereUp, has_joined}

@@ -3,7 +3,7 @@ use Rattle.std.proofs.Common.{◌≡◌, ℕ, ◌<◌, ◌≤◌, ◌==◌, min,
 use Rattle.std.proofs.lemmas.Option.{same_Some}
 use Rattle.std.specs.List.{AllByRecursion, filter_map}
 use Rattle.std.specs.Option.{option_map}
-use Rattle.event_text.specs.declared.turn.Turn.{Turn}
+use Rattle.events.specs.declared.turn.Turn.{Turn}
 use Rattle.keeper_book.specs.Book.{Book, EntersAll, Enters, Entry, empty, entry_of, fresh, raised, raised_at, taken_over}
 use Rattle.keeper_book.specs.Counters.{counter_named, end_of, five_at}
 use Rattle.keeper_book.specs.declared.calls.Call.{Call}

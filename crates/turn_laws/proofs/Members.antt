@@ -1,8 +1,8 @@
 -- Whose turns are a member's, and what a member holds.
 use Rattle.std.proofs.Common.{◌≡◌, ℕ, ◌+◌, ◌-◌, Bool, true, false, Some, List, refl, subst}
-use Rattle.event_text.specs.declared.event.Event.{Event}
-use Rattle.event_text.specs.declared.turn.Turn.{Turn}
-use Rattle.event_text.specs.declared.verdict.Verdict.{Verdict}
+use Rattle.events.specs.declared.event.Event.{Event}
+use Rattle.events.specs.declared.turn.Turn.{Turn}
+use Rattle.events.specs.declared.verdict.Verdict.{Verdict}
 use Rattle.horizons.specs.declared.stop.Stop.{Stop}
 use Rattle.horizons.specs.declared.stop.Stop.TheVariants as stop
 use Rattle.turn_laws.proofs.Deeds.{performer_at}

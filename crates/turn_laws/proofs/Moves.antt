@@ -1,10 +1,10 @@
 -- The moves of an event beside its calls and seals are uses of numbers, or the end of a member.
 use Rattle.std.proofs.Common.{ℕ, Option, Some, None}
 use Rattle.std.specs.List.{AllByRecursion}
-use Rattle.event_text.specs.declared.event.Event.{Event}
-use Rattle.event_text.specs.declared.event.Event.TheVariants as event
-use Rattle.event_text.specs.declared.verdict.Verdict.{Verdict}
-use Rattle.event_text.specs.declared.verdict.Verdict.TheVariants as out
+use Rattle.events.specs.declared.event.Event.{Event}
+use Rattle.events.specs.declared.event.Event.TheVariants as event
+use Rattle.events.specs.declared.verdict.Verdict.{Verdict}
+use Rattle.events.specs.declared.verdict.Verdict.TheVariants as out
 use Rattle.turn_laws.specs.Acts.{Calls, Ends, Move, Seals, Uses}
 use Rattle.turn_laws.specs.Places.{Place, place_of}
 use Rattle.turn_laws.specs.Turns.{drawn_by, received_at, uses_of}

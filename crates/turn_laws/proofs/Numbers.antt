@@ -1,10 +1,10 @@
 -- The numbers of a counter that the turns of a run used.
 use Rattle.std.proofs.Common.{◌≡◌, ℕ, Bool, true, false, Option, Some, None, List, [], ◌∷◌, map, refl, ap, sym, ◌∙◌, subst, if◌then◌else◌}
 use Rattle.std.specs.List.{cons_option, filter_map}
-use Rattle.event_text.specs.declared.event.Event.{Event}
-use Rattle.event_text.specs.declared.turn.Step.{Step}
-use Rattle.event_text.specs.declared.turn.Turn.{Turn}
-use Rattle.event_text.specs.declared.verdict.Verdict.{Verdict}
+use Rattle.events.specs.declared.event.Event.{Event}
+use Rattle.events.specs.declared.turn.Step.{Step}
+use Rattle.events.specs.declared.turn.Turn.{Turn}
+use Rattle.events.specs.declared.verdict.Verdict.{Verdict}
 use Rattle.keeper_book.specs.Told.{seen}
 use Rattle.keeper_book.specs.declared.calls.Call.{Call}
 use Rattle.keeper_book.specs.declared.counters.Counter.{Counter}

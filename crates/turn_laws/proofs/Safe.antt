@@ -2,8 +2,8 @@
 use Rattle.std.proofs.Common.{◌≡◌, ◌≢◌, ℕ, Bool, true, false, None, List, [], ◌∷◌, refl, subst}
 use Rattle.std.specs.Prelude.{is_some}
 use Rattle.std.specs.List.{AllByRecursion, filter_map}
-use Rattle.event_text.specs.declared.turn.Served.{Served}
-use Rattle.event_text.specs.declared.turn.Turn.{Turn}
+use Rattle.events.specs.declared.turn.Served.{Served}
+use Rattle.events.specs.declared.turn.Turn.{Turn}
 use Rattle.keeper_book.specs.Book.{Book}
 use Rattle.turn_laws.proofs.Accepted.{packets-once}
 use Rattle.turn_laws.proofs.Holdings.{is_actor-true}

@@ -1,8 +1,8 @@
 -- No key and IV seals twice: an IV is a number of the key's counter.
 use Rattle.std.proofs.Common.{◌≡◌, ◌≢◌, ℕ, true, Option, Some, None, MatchOption, List, [], ◌∷◌, ◌++◌, map, refl, ap, sym, ◌∙◌, subst, append_assoc, append-nil, if◌then◌else◌}
 use Rattle.std.specs.List.{AllByRecursion}
-use Rattle.event_text.specs.declared.seals.Seal.{Seal}
-use Rattle.event_text.specs.declared.turn.Turn.{Turn}
+use Rattle.events.specs.declared.seals.Seal.{Seal}
+use Rattle.events.specs.declared.turn.Turn.{Turn}
 use Rattle.keeper_book.specs.Book.{Book}
 use Rattle.keeper_book.specs.declared.calls.Call.{Call}
 use Rattle.turn_laws.proofs.All.{lawful-run}

@@ -1,9 +1,9 @@
 -- The moves of every turn that is explained may be made.
 use Rattle.std.proofs.Common.{◌≡◌, ℕ, ◌<◌, ◌≤◌, ◌==◌, true, Bool, Option, Some, None, MatchOption, List, [], ◌∷◌, ◌++◌, map, ⊎_elim, refl, ap, sym, ◌∙◌, subst, arith}
 use Rattle.std.proofs.lemmas.Bool.{cases_lt, eq-eqb}
-use Rattle.event_text.specs.declared.event.Event.{Event}
-use Rattle.event_text.specs.declared.turn.Step.{Step}
-use Rattle.event_text.specs.declared.turn.Turn.{Turn}
+use Rattle.events.specs.declared.event.Event.{Event}
+use Rattle.events.specs.declared.turn.Step.{Step}
+use Rattle.events.specs.declared.turn.Turn.{Turn}
 use Rattle.horizons.specs.Reaches.{Reach, cover_of, lead_of}
 use Rattle.horizons.specs.Ready.{Answered, Covers, Ready}
 use Rattle.horizons.specs.Stops.{stop_of}

@@ -2,7 +2,7 @@
 
 ghost use Rattle.std.specs.Prelude.{◌≡◌, ◌≢◌, ◌<◌, ◌≤◌, ◌⊎◌, ℕ, Option, Some, None, List, [], ◌∷◌};
 ghost use Rattle.std.specs.List.{AllByRecursion, filter_map};
-ghost use Rattle.event_text.specs.declared.turn.Turn.{Turn};
+ghost use Rattle.events.specs.declared.turn.Turn.{Turn};
 ghost use Rattle.keeper_book.specs.Book.{Book, Enters, after};
 ghost use Rattle.keeper_book.specs.Counters.{end_of, five_at};
 ghost use Rattle.keeper_book.specs.declared.calls.Call.{Call};

@@ -1,7 +1,7 @@
 -- What an end does with a packet that comes to it, as a turn says it.
 use Rattle.std.specs.Prelude.{ℕ, ◌≡◌, Option, List, []}
-use Rattle.event_text.specs.declared.turn.Step.{Step}
-use Rattle.event_text.specs.declared.verdict.EspVerdict.{EspVerdict}
+use Rattle.events.specs.declared.turn.Step.{Step}
+use Rattle.events.specs.declared.verdict.EspVerdict.{EspVerdict}
 use Rattle.keeper_book.specs.declared.calls.Call.{Call}
 use Rattle.turn_rules.specs.Held.{Held}
 use Rattle.turn_rules.specs.MemberPackets.{MemberReceives}

@@ -1,15 +1,15 @@
 -- Whose turn it is. A trace has its newest turn first: it is the past of the turn that comes next.
 use Rattle.std.specs.Prelude.{ℕ, ◌==◌, Bool, true, false, Option, Some, None, List, if◌then◌else◌}
 use Rattle.std.specs.List.{filter}
-use Rattle.event_text.specs.declared.event.Event.{Event}
-use Rattle.event_text.specs.declared.event.Event.TheVariants as event
-use Rattle.event_text.specs.declared.event.Party.{Party}
-use Rattle.event_text.specs.declared.event.Party.TheVariants as parties
-use Rattle.event_text.specs.declared.turn.Turn.{Turn}
-use Rattle.event_text.specs.declared.verdict.Refusal.{Refusal}
-use Rattle.event_text.specs.declared.verdict.Refusal.TheVariants as refusal
-use Rattle.event_text.specs.declared.verdict.Verdict.{Verdict}
-use Rattle.event_text.specs.declared.verdict.Verdict.TheVariants as out
+use Rattle.events.specs.declared.event.Event.{Event}
+use Rattle.events.specs.declared.event.Event.TheVariants as event
+use Rattle.events.specs.declared.event.Party.{Party}
+use Rattle.events.specs.declared.event.Party.TheVariants as parties
+use Rattle.events.specs.declared.turn.Turn.{Turn}
+use Rattle.events.specs.declared.verdict.Refusal.{Refusal}
+use Rattle.events.specs.declared.verdict.Refusal.TheVariants as refusal
+use Rattle.events.specs.declared.verdict.Verdict.{Verdict}
+use Rattle.events.specs.declared.verdict.Verdict.TheVariants as out
 
 -- an end of a run
 pub data Performer : Type 0 where

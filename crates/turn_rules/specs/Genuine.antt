@@ -3,12 +3,12 @@ use Rattle.std.specs.Prelude.{ℕ, ◌^◌, ◌≡◌, ◌<◌, ◌⊎◌, Some,
 use Rattle.std.specs.List.{AllByRecursion}
 use Rattle.esp_packets.specs.Laws.{Covers}
 use Rattle.esp_packets.specs.Packet.{IsDatagram, payload_in, spi_of}
-use Rattle.event_text.specs.declared.turn.Medium.TheVariants as medium
-use Rattle.event_text.specs.declared.turn.Turn.{Turn}
-use Rattle.event_text.specs.declared.verdict.EspVerdict.{EspVerdict}
-use Rattle.event_text.specs.declared.verdict.EspVerdict.TheVariants as esp
-use Rattle.event_text.specs.declared.verdict.Verdict.{Verdict}
-use Rattle.event_text.specs.declared.verdict.Verdict.TheVariants as out
+use Rattle.events.specs.declared.turn.Medium.TheVariants as medium
+use Rattle.events.specs.declared.turn.Turn.{Turn}
+use Rattle.events.specs.declared.verdict.EspVerdict.{EspVerdict}
+use Rattle.events.specs.declared.verdict.EspVerdict.TheVariants as esp
+use Rattle.events.specs.declared.verdict.Verdict.{Verdict}
+use Rattle.events.specs.declared.verdict.Verdict.TheVariants as out
 use Rattle.ha_base.specs.Octets.{WithRoom}
 use Rattle.ha_base.specs.declared.counter_names.CounterName.{CounterName}
 use Rattle.ha_base.specs.declared.esp_outcomes.EspOpened.{EspOpened}

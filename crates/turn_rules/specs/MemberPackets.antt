@@ -1,10 +1,10 @@
 -- What a member does with ESP packets.
 use Rattle.std.specs.Prelude.{ℕ, ◌+◌, ◌≡◌, ◌≢◌, ◌<◌, ◌≤◌, ◌⊎◌, Option, Some, List, [], length, Result, Ok, Err}
 use Rattle.esp_packets.specs.Packet.{spi_of}
-use Rattle.event_text.specs.declared.turn.Step.{Step}
-use Rattle.event_text.specs.declared.verdict.EspVerdict.{EspVerdict}
-use Rattle.event_text.specs.declared.verdict.EspVerdict.TheVariants as esp
-use Rattle.event_text.specs.declared.verdict.Verdict.TheVariants as out
+use Rattle.events.specs.declared.turn.Step.{Step}
+use Rattle.events.specs.declared.verdict.EspVerdict.{EspVerdict}
+use Rattle.events.specs.declared.verdict.EspVerdict.TheVariants as esp
+use Rattle.events.specs.declared.verdict.Verdict.TheVariants as out
 use Rattle.ha_base.specs.declared.esp_outcomes.EspDrop.{EspDrop}
 use Rattle.ha_base.specs.declared.esp_outcomes.EspDrop.TheVariants as drop
 use Rattle.ha_base.specs.declared.esp_outcomes.EspOpened.{EspOpened}

@@ -2,14 +2,14 @@
 use Rattle.std.specs.Prelude.{ℕ, ◌+◌, ◌≡◌, ◌≤◌, Some, None, List, [], ◌∷◌, Result}
 use Rattle.aes_gcm.specs.NamedKey.{NamedKey}
 use Rattle.esp_packets.specs.Packet.{IsAnswer, IsDatagram, payload_in, plain_of}
-use Rattle.event_text.specs.declared.seals.Seal.{Seal}
-use Rattle.event_text.specs.declared.turn.Datagram.{Datagram}
-use Rattle.event_text.specs.declared.turn.Medium.TheVariants.{Esp}
-use Rattle.event_text.specs.declared.turn.Step.{Step}
-use Rattle.event_text.specs.declared.verdict.EspVerdict.{EspVerdict}
-use Rattle.event_text.specs.declared.verdict.EspVerdict.TheVariants as esp
-use Rattle.event_text.specs.declared.verdict.Verdict.{Verdict}
-use Rattle.event_text.specs.declared.verdict.Verdict.TheVariants as out
+use Rattle.events.specs.declared.seals.Seal.{Seal}
+use Rattle.events.specs.declared.turn.Datagram.{Datagram}
+use Rattle.events.specs.declared.turn.Medium.TheVariants.{Esp}
+use Rattle.events.specs.declared.turn.Step.{Step}
+use Rattle.events.specs.declared.verdict.EspVerdict.{EspVerdict}
+use Rattle.events.specs.declared.verdict.EspVerdict.TheVariants as esp
+use Rattle.events.specs.declared.verdict.Verdict.{Verdict}
+use Rattle.events.specs.declared.verdict.Verdict.TheVariants as out
 use Rattle.ha_base.specs.Octets.{WithRoom}
 use Rattle.ha_base.specs.declared.counter_names.CounterName.{CounterName}
 use Rattle.ha_base.specs.declared.esp_outcomes.EspDrop.{EspDrop}

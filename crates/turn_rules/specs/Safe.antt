@@ -1,9 +1,9 @@
 -- What holds across the ends of a run.
 use Rattle.std.specs.Prelude.{ℕ, ◌≢◌, Option, Some, None, IsSome, List, [], ◌∷◌, map}
 use Rattle.std.specs.List.{AllByRecursion, filter_map, flat_map}
-use Rattle.event_text.specs.declared.turn.Turn.{Turn}
-use Rattle.event_text.specs.declared.verdict.Verdict.{Verdict}
-use Rattle.event_text.specs.declared.verdict.Verdict.TheVariants as out
+use Rattle.events.specs.declared.turn.Turn.{Turn}
+use Rattle.events.specs.declared.verdict.Verdict.{Verdict}
+use Rattle.events.specs.declared.verdict.Verdict.TheVariants as out
 use Rattle.ha_base.specs.declared.counter_names.CounterName.{CounterName}
 use Rattle.ha_base.specs.declared.counter_names.End.{End}
 use Rattle.ha_base.specs.declared.counter_names.Origin.{Origin}

@@ -1,7 +1,7 @@
 -- What the services give that execute requests for the ends.
 use Rattle.std.specs.Prelude.{ℕ, suc, zero, ◌+◌, Option, Some, None, is_some, slice_get, IfSome, IsSomeAnd, List, [], ◌∷◌, length}
 use Rattle.std.specs.List.{filter}
-use Rattle.event_text.specs.declared.turn.Turn.{Turn}
+use Rattle.events.specs.declared.turn.Turn.{Turn}
 use Rattle.ha_base.specs.Services.{ReplyRelation}
 use Rattle.turn_rules.specs.Ends.{Performer, Peer, Member, own, performer}
 

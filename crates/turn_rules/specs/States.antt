@@ -1,11 +1,11 @@
 -- What the ends of a run hold before an event, as it decides what the event does.
 use Rattle.std.specs.Prelude.{ℕ, ◌+◌, ◌==◌, Bool, true, false, Option, None, List, [], ◌∷◌, length}
 use Rattle.std.specs.List.{filter, list_any}
-use Rattle.event_text.specs.declared.event.Event.{Event}
-use Rattle.event_text.specs.declared.event.Event.TheVariants as event
-use Rattle.event_text.specs.declared.turn.Turn.{Turn}
-use Rattle.event_text.specs.declared.verdict.Verdict.{Verdict}
-use Rattle.event_text.specs.declared.verdict.Verdict.TheVariants as out
+use Rattle.events.specs.declared.event.Event.{Event}
+use Rattle.events.specs.declared.event.Event.TheVariants as event
+use Rattle.events.specs.declared.turn.Turn.{Turn}
+use Rattle.events.specs.declared.verdict.Verdict.{Verdict}
+use Rattle.events.specs.declared.verdict.Verdict.TheVariants as out
 use Rattle.turn_rules.specs.Datagrams.{PlainDatagram, datagrams_of}
 use Rattle.turn_rules.specs.Ends.{Member, Peer, own}
 use Rattle.turn_rules.specs.Held.{Held, held_by, window_by}

@@ -1,7 +1,7 @@
 -- What a step says.
 use Rattle.std.specs.Prelude.{◌≡◌, [], None}
-use Rattle.event_text.specs.declared.turn.Step.{Step}
-use Rattle.event_text.specs.declared.verdict.Verdict.{Verdict}
+use Rattle.events.specs.declared.turn.Step.{Step}
+use Rattle.events.specs.declared.verdict.Verdict.{Verdict}
 
 -- nothing was executed, sealed or sent
 pub record IsQuiet (step : Step) : Type 0 where

@@ -4,10 +4,10 @@ use Rattle.std.specs.Prelude.{MatchOption, slice_get, map, option_to_list, nat_l
 use Rattle.std.specs.Option.{option_and_then, option_map}
 use Rattle.std.proofs.lemmas.List.{length-map, length-reverse, map-append, reverse-append}
 use Rattle.std.proofs.lemmas.Option.{slice_get-map}
-use Rattle.event_text.specs.declared.event.Which.{Which}
-use Rattle.event_text.specs.declared.event.Which.TheVariants as which
-use Rattle.event_text.specs.declared.turn.Datagram.{Datagram}
-use Rattle.event_text.specs.declared.turn.Turn.{Turn}
+use Rattle.events.specs.declared.event.Which.{Which}
+use Rattle.events.specs.declared.event.Which.TheVariants as which
+use Rattle.events.specs.declared.turn.Datagram.{Datagram}
+use Rattle.events.specs.declared.turn.Turn.{Turn}
 use Rattle.turn_rules.specs.Datagrams.{PlainDatagram, datagram_at, datagrams_of, plain_datagram}
 use Rattle.turn_trace.specs.Traces.{giving_places, place_meant}
 

@@ -1,10 +1,10 @@
 -- The turns of a run, and where those stand that gave a datagram.
 use Rattle.std.specs.Prelude.{ℕ, ◌-◌, Bool, List, [], ◌∷◌, ◌++◌, length, reverse, ◌≡◌, nat_lt, if◌then◌else◌, IfNone, slice_get, Option, Some, None, option_to_list}
 use Rattle.std.specs.Option.{option_map}
-use Rattle.event_text.specs.declared.event.Which.{Which}
-use Rattle.event_text.specs.declared.event.Which.TheVariants as which
-use Rattle.event_text.specs.declared.seals.Seal.{Seal}
-use Rattle.event_text.specs.declared.turn.Turn.{Turn}
+use Rattle.events.specs.declared.event.Which.{Which}
+use Rattle.events.specs.declared.event.Which.TheVariants as which
+use Rattle.events.specs.declared.seals.Seal.{Seal}
+use Rattle.events.specs.declared.turn.Turn.{Turn}
 use Rattle.keeper_book.specs.declared.calls.Call.{Call}
 
 pub record Traced : Type 0 where

@@ -3,7 +3,7 @@
 ghost use Rattle.std.specs.Prelude.{◌≡◌, ◌+◌, ◌≤◌, ◌++◌, [], length, vec_capacity, vec_len};
 ghost use Rattle.std.specs.Option.{option_copied};
 
-use event_text::{Datagram, Event, Seal, Served, Step, Turn, Verdict};
+use events::{Datagram, Event, Seal, Served, Step, Turn, Verdict};
 use ha_base::Moment;
 use keeper_book::{Call, Calls};
 use std::marker::Model;
@@ -21,7 +21,7 @@ pub(crate) struct KeptTurn {
 }
 
 impl Model for KeptTurn {
-    ghost use Rattle.event_text.specs.declared.turn.Turn.{Turn};
+    ghost use Rattle.events.specs.declared.turn.Turn.{Turn};
 
     ghost Value = { Turn };
 

@@ -1,5 +1,5 @@
 use super::*;
-use event_text::{Datagram, Event, Medium, Party, Seal, Step, Turn, Verdict, Which};
+use events::{Datagram, Event, Medium, Party, Seal, Step, Turn, Verdict, Which};
 use ha_base::{CounterName, End, Kind, Memory, Moment, Octets, Origin};
 use keeper_book::{Call, Calls, KeeperAnswer, KeeperAsk};
 use std::alloc::Global;

@@ -6,7 +6,7 @@ ghost use Rattle.turn_rules.specs.Datagrams.{datagram_at, datagrams_of, plain_da
 ghost use Rattle.turn_trace.specs.Traces.{place_meant};
 
 use crate::kept_turn::KeptTurn;
-use event_text::{Datagram, Seal, Turn, Which};
+use events::{Datagram, Seal, Turn, Which};
 use ha_base::Memory;
 use keeper_book::Call;
 use std::alloc::Global;

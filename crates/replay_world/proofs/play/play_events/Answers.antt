@@ -1,7 +1,7 @@
 -- One more turn: the event that was read, and its text.
 use Rattle.std.proofs.Common.{◌≡◌, Some, rules, ap, sym, ◌∙◌}
 use Rattle.std.specs.Prelude.{slice_get}
-use Rattle.event_text.specs.Events.{plain}
+use Rattle.events.specs.Events.{plain}
 use Rattle.event_text.specs.Input.{left_contents, with_event}
 use Rattle.replay_world.specs.Played.{prefixed, titles}
 use Rattle.replay_world.proofs.AskedLaws.{asks-more}

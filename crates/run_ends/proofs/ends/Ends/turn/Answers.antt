@@ -1,6 +1,6 @@
 -- One turn more.
 use Rattle.std.proofs.Common.{◌≡◌, List, ◌∷◌, refl, ap, sym, ◌∙◌, subst}
-use Rattle.event_text.specs.declared.turn.Turn.{Turn}
+use Rattle.events.specs.declared.turn.Turn.{Turn}
 use Rattle.keeper_book.specs.Book.{EntersAllTold}
 use Rattle.keeper_book.specs.Told.{HaveCause}
 use Rattle.keeper_book.specs.declared.calls.Call.{Call}

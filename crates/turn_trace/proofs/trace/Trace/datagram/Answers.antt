@@ -2,8 +2,8 @@
 use Rattle.std.proofs.Common.{ap, reverse, sym, ◌∙◌}
 use Rattle.std.specs.Prelude.{slice_get}
 use Rattle.std.specs.Option.{option_and_then, option_copied, option_map}
-use Rattle.event_text.specs.declared.turn.Datagram.{Datagram}
-use Rattle.event_text.specs.declared.turn.Turn.{Turn}
+use Rattle.events.specs.declared.turn.Datagram.{Datagram}
+use Rattle.events.specs.declared.turn.Turn.{Turn}
 use Rattle.turn_rules.specs.Datagrams.{datagram_at, datagrams_of, plain_datagram}
 use Rattle.turn_trace.specs.Traces.{Traced, past_of, place_meant}
 use Rattle.turn_trace.proofs.Given.{meant_none, meant_some}

@@ -23,7 +23,7 @@ pub struct Seals {
 
 impl Model for Seals {
     ghost use Rattle.std.specs.Prelude.{List, ◌++◌, IsSome, option_to_list};
-    ghost use Rattle.event_text.specs.declared.seals.Seal.{Seal};
+    ghost use Rattle.events.specs.declared.seals.Seal.{Seal};
 
     ghost Value = { List Seal };
 

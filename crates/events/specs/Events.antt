@@ -1,16 +1,16 @@
 -- What a line says of an event.
 use Rattle.std.specs.Prelude.{ℕ, List}
 use Rattle.ha_base.specs.declared.identities.Identity.{Identity}
-use Rattle.event_text.specs.declared.event.Party.{Party}
-use Rattle.event_text.specs.declared.event.Which.{Which}
-use Rattle.event_text.specs.declared.turn.Medium.{Medium}
+use Rattle.events.specs.declared.event.Party.{Party}
+use Rattle.events.specs.declared.event.Which.{Which}
+use Rattle.events.specs.declared.turn.Medium.{Medium}
 use Rattle.ha_base.specs.declared.key_material.KeySize.{KeySize}
 use Rattle.ha_base.specs.declared.key_material.SaKeys.{SaKeys}
 use Rattle.ha_base.specs.declared.key_material.ChildKeys.{ChildKeys}
 use Rattle.keeper_book.specs.declared.counters.Five.{Five}
 use Rattle.keeper_book.specs.declared.records.Record.{Record}
-use Rattle.event_text.specs.declared.event.Event.{Event}
-use Rattle.event_text.specs.declared.event.Event.TheVariants as events
+use Rattle.events.specs.declared.event.Event.{Event}
+use Rattle.events.specs.declared.event.Event.TheVariants as events
 
 -- an association, by the fields of its record alone
 pub record Association : Type 0 where
