@@ -4,6 +4,7 @@ use Rattle.std.proofs.lemmas.Bool.{ltb-false, le-ltb}
 use Rattle.std.proofs.lemmas.Slice.Eq.{bytes_eq-Decides}
 use Rattle.std.specs.Fmt.{decimal}
 use Rattle.std.specs.Str.{bytes_eq}
+use Rattle.ha_base.specs.declared.counter_names.Origin.TheVariants.{Imported}
 use Rattle.ha_base.specs.declared.key_material.KeySize.{KeySize}
 use Rattle.ha_base.specs.declared.key_material.SaKeys.{SaKeys}
 use Rattle.ha_base.specs.declared.key_material.ChildKeys.{ChildKeys}
@@ -16,7 +17,7 @@ use Rattle.line_fields.specs.Words.{Cursor, line_of, words_of}
 use Rattle.line_fields.specs.Numbers.{number_of}
 use Rattle.events.specs.Events.{PlainEvent, Cluster, Import, Join, Own, Draw, Crash, Send, Deliver, Alter, Cut, Inject}
 use Rattle.line_fields.specs.Fields.{◌>>=◌, behind, ended_at, end_in, fault_at, word_at, word_in}
-use Rattle.event_text.specs.Reading.{alter_at, child_keys_at, cluster_at, crash_at, cut_at, datagram_fields_at, deliver_at, draw_at, event_at, fields_at, import_at, inject_at, join_at, line_at, moment_at, own_at, sa_keys_at, send_at, starts_at, told_at}
+use Rattle.event_text.specs.Reading.{alter_at, child_keys_at, cluster_at, crash_at, cut_at, deliver_at, draw_at, event_at, event_readers, import_at, inject_at, join_at, line_at, moment_at, named_by, own_at, sa_keys_at, send_at, starts_at, told_at}
 use Rattle.event_text.specs.Grammar.{EventLine, child_key_words, event_words, five_words, line_words, sa_key_words}
 use Rattle.events.specs.Ranges.{AreChildKeys, AreSaKeys, AreStarts, Fits}
 use Rattle.line_fields.proofs.WordLaws.{line-words, words-line}
@@ -113,10 +114,10 @@ import_takes s y e =
     walk (child_keys_reader size) s7 _ y e7 (λ child s8 w8 f8 e8.
     walk starts_reader s8 _ y e8 (λ starts s9 w9 f9 e9.
     subst (IsSpelled (codes "import") s)
-    (ok_is (Import (record { spii = spii; spir = spir; size = size; identity = identity; keys = keys; spi_in = spi_in; spi_out = spi_out; child = child; starts = starts }), s9) y e9)
+    (ok_is (Import (record { origin = Imported spir; spii = spii; spir = spir; size = size; identity = identity; keys = keys; spi_in = spi_in; spi_out = spi_out; child = child; starts = starts }), s9) y e9)
     (record {
       words = behind_word (codes "import") (then_word _ w1 (then_word _ w2 (then_word _ w3 (then_word _ w4 (then_words (sa_key_words keys) w5 (then_word _ w6 (then_word _ w7 (then_words (child_key_words child) w8 w9))))))));
-      fits = record { spii = f1; spir = f2; identity = f4; keys = f5; spi_in = f6; spi_out = f7; child = f8; starts = f9 };
+      fits = record { origin = refl; spii = f1; spir = f2; identity = f4; keys = f5; spi_in = f6; spi_out = f7; child = f8; starts = f9 };
     }))))))))))
 
 join_takes : (s : Cursor) (y : PlainEvent × Cursor) → join_at s ≡ Ok y → IsSpelled (codes "join") s y
@@ -205,24 +206,20 @@ inject_takes s y e =
 is_word_of : (name w : List ℕ) (s : Cursor) (y : PlainEvent × Cursor) → bytes_eq w name ≡ true → IsSpelled name s y → IsSpelled w s y
 is_word_of name w s y t h = subst (λ (v : List ℕ). IsSpelled v s y) (sym ((bytes_eq-Decides w name).0 t)) h
 
-datagram_fields_take : (c : ℕ) (w : List ℕ) (s : Cursor) (y : PlainEvent × Cursor) → datagram_fields_at c w s ≡ Ok y → IsSpelled w s y
-unfolding datagram_fields_at
-datagram_fields_take c w s y e =
-    pick (bytes_eq w (codes "send")) _ _ _ e (λ t h. is_word_of (codes "send") w s y t (send_takes s y h)) (λ _ e1.
-    pick (bytes_eq w (codes "deliver")) _ _ _ e1 (λ t h. is_word_of (codes "deliver") w s y t (deliver_takes s y h)) (λ _ e2.
-    pick (bytes_eq w (codes "alter")) _ _ _ e2 (λ t h. is_word_of (codes "alter") w s y t (alter_takes s y h)) (λ _ e3.
-    pick (bytes_eq w (codes "cut")) _ _ _ e3 (λ t h. is_word_of (codes "cut") w s y t (cut_takes s y h)) (λ _ e4.
-    pick (bytes_eq w (codes "inject")) _ _ _ e4 (λ t h. is_word_of (codes "inject") w s y t (inject_takes s y h)) (λ _ e5. absurd cc)))))
+-- what each row of a table reads is spelled behind the row's word
+Takes : List (List ℕ × (Cursor → Result (PlainEvent × Cursor) LineFault)) → Type 0
+Takes [] = Unit {0}
+Takes (row ∷ rows) = ((s : Cursor) (y : PlainEvent × Cursor) → row.1 s ≡ Ok y → IsSpelled row.0 s y) × Takes rows
 
-fields_take : (c : ℕ) (w : List ℕ) (s : Cursor) (y : PlainEvent × Cursor) → fields_at c w s ≡ Ok y → IsSpelled w s y
-unfolding fields_at
-fields_take c w s y e =
-    pick (bytes_eq w (codes "cluster")) _ _ _ e (λ t h. is_word_of (codes "cluster") w s y t (cluster_takes s y h)) (λ _ e1.
-    pick (bytes_eq w (codes "import")) _ _ _ e1 (λ t h. is_word_of (codes "import") w s y t (import_takes s y h)) (λ _ e2.
-    pick (bytes_eq w (codes "join")) _ _ _ e2 (λ t h. is_word_of (codes "join") w s y t (join_takes s y h)) (λ _ e3.
-    pick (bytes_eq w (codes "own")) _ _ _ e3 (λ t h. is_word_of (codes "own") w s y t (own_takes s y h)) (λ _ e4.
-    pick (bytes_eq w (codes "draw")) _ _ _ e4 (λ t h. is_word_of (codes "draw") w s y t (draw_takes s y h)) (λ _ e5.
-    pick (bytes_eq w (codes "crash")) _ _ _ e5 (λ t h. is_word_of (codes "crash") w s y t (crash_takes s y h)) (λ _ e6. datagram_fields_take c w s y e6))))))
+rows_take : (rows : List (List ℕ × (Cursor → Result (PlainEvent × Cursor) LineFault))) → Takes rows → (c : ℕ) (w : List ℕ) (s : Cursor) (y : PlainEvent × Cursor) → named_by rows c w s ≡ Ok y → IsSpelled w s y
+unfolding Takes
+rows_take [] h c w s y e = absurd cc
+rows_take (row ∷ rows) h c w s y e =
+    pick (bytes_eq w row.0) _ _ _ e (λ t read. is_word_of row.0 w s y t (h.0 s y read)) (λ _ others. rows_take rows h.1 c w s y others)
+
+events_take : Takes event_readers
+unfolding Takes
+events_take = (send_takes, (inject_takes, (cluster_takes, (import_takes, (join_takes, (own_takes, (draw_takes, (crash_takes, (deliver_takes, (alter_takes, (cut_takes, tt)))))))))))
 
 -- a step was run, and then the rest
 after : {A B P : Type 0} (r : Result A LineFault) (k : A → Result B LineFault) (y : B) → (r >>= k) ≡ Ok y → ((x : A) → r ≡ Ok x → k x ≡ Ok y → P) → P
@@ -236,14 +233,14 @@ word_is c (v ∷ vs) p e = ap (λ (q : List ℕ × Cursor). q.0 ∷ q.1.words) (
 event_takes : (s : Cursor) (y : PlainEvent × Cursor) → event_at s ≡ Ok y → (s.words ≡ event_words y.0 ++ y.1.words) × Fits y.0
 unfolding event_at
 event_takes s y e =
-    after (word_at s) (λ w. fields_at s.column w.0 w.1) y e (λ w found rest.
-    let spelled = fields_take s.column w.0 w.1 y rest in
+    after (word_at s) (λ w. named_by event_readers s.column w.0 w.1) y e (λ w found rest.
+    let spelled = rows_take event_readers events_take s.column w.0 w.1 y rest in
     (word_is s.column s.words w found ∙ spelled.words, spelled.fits))
 
 event_again : (e : PlainEvent) → Fits e → (c : ℕ) → event_at (record { column = c; words = event_words e }) ≡ Ok (e, record { column = column_behind c (event_words e); words = [] })
-unfolding event_at fields_at datagram_fields_at import_at join_at own_at draw_at crash_at cluster_at send_at deliver_at alter_at cut_at inject_at
+unfolding event_at import_at join_at own_at draw_at crash_at cluster_at send_at deliver_at alter_at cut_at inject_at
 event_again (Import a) h c =
-    rw (field_again spi_field a.spii h.spii, field_again spi_field a.spir h.spir, field_again key_size_field a.size tt, field_again identity_field a.identity h.identity, sa_keys_again a.size a.keys h.keys, field_again esp_spi_field a.spi_in h.spi_in, field_again esp_spi_field a.spi_out h.spi_out, child_keys_again a.size a.child h.child, (starts_reader.again a.starts h.starts)) refl
+    rw (field_again spi_field a.spii h.spii, field_again spi_field a.spir h.spir, field_again key_size_field a.size tt, field_again identity_field a.identity h.identity, sa_keys_again a.size a.keys h.keys, field_again esp_spi_field a.spi_in h.spi_in, field_again esp_spi_field a.spi_out h.spi_out, child_keys_again a.size a.child h.child, starts_reader.again a.starts h.starts, sym h.origin) refl
 event_again (Join fresh) h c = rw (field_again (sized_field 24 24) fresh h) refl
 event_again (Own member spir) h c = rw (field_again member_field member h.0, field_again spi_field spir h.1) refl
 event_again (Draw member spir) h c = rw (field_again member_field member h.0, field_again spi_field spir h.1) refl
@@ -300,7 +297,7 @@ line_takes last line y e =
     (λ hit same. absurd cc)
     (λ miss same.
     let told = told_takes last (record { column = 1; words = words_of line }) y same in
-    record { text = sym (line-words line) ∙ ap line_of told.0; short = ltb-false 16384 (length line) miss; late = told.1; seconds = told.2; fits = told.3 })
+    record { text = sym (line-words line) ∙ ap line_of told.0; short = ltb-false 16384 (length line) miss; in_order = told.1; in_range = told.2; fits = told.3 })
 
 told_again : (last : ℕ) (m : Moment) (e : PlainEvent) → last ≤ m.0 → m.0 < 2 ^ 63 → Fits e → told_at last (record { column = 1; words = line_words m e }) ≡ Ok (m, e)
 unfolding told_at
@@ -310,5 +307,5 @@ told_again last m e late lt fits = rw (moment_again last m.0 lt late 1 (event_wo
 pub line_again : (last : ℕ) (line : List ℕ) (m : Moment) (e : PlainEvent) → EventLine last line m e → line_at last line ≡ Ok (m, e)
 unfolding line_at
 line_again last line m e h =
-    let words : words_of line ≡ line_words m e = ap words_of h.text ∙ words-line (decimal m.0) (event_words e) (line_spaceless m e h.seconds h.fits) in
-    rw (le-ltb 16384 (length line) h.short, words) (told_again last m e h.late h.seconds h.fits)
+    let words : words_of line ≡ line_words m e = ap words_of h.text ∙ words-line (decimal m.0) (event_words e) (line_spaceless m e h.in_range h.fits) in
+    rw (le-ltb 16384 (length line) h.short, words) (told_again last m e h.in_order h.in_range h.fits)

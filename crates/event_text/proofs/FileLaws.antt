@@ -1,6 +1,6 @@
 -- An input without a fault is the text of its events.
 use Rattle.std.proofs.Common.{◌≡◌, ◌≢◌, ℕ, ◌+◌, ◌<◌, ◌≤◌, Bool, true, false, not, cond, eqb, List, [], ◌∷◌, ◌++◌, length, Option, Some, None, Result, Ok, Err, refl, sym, ap, ◌∙◌, subst, append_assoc, append-nil, arith, inl, inr, ◌⊎◌, codes}
-use Rattle.std.proofs.lemmas.Bool.{and_parts, eqb-false, le-ltb, ne_eqb}
+use Rattle.std.proofs.lemmas.Bool.{and_parts, eqb-false, false≢true, le-ltb, ne_eqb}
 use Rattle.std.specs.List.{AllByRecursion, filter, list_all}
 use Rattle.std.proofs.lemmas.Bool.Decides.{eqb_tells}
 use Rattle.std.proofs.lemmas.List.{length-append}
@@ -11,7 +11,7 @@ use Rattle.line_fields.specs.declared.fault.LineFault.{LineFault}
 use Rattle.line_fields.specs.declared.fault.LineReason.TheVariants as reasons
 use Rattle.event_text.specs.declared.place.Place.{Place}
 use Rattle.line_fields.specs.Words.{onto}
-use Rattle.input_lines.specs.Lines.{IsFile, IsLine, with_line_feeds, is_passed, is_said, lines_of, no_feed, without_line_feed}
+use Rattle.input_lines.specs.Lines.{IsFile, IsLine, is_filled, with_line_feeds, is_passed, is_said, lines_of, no_feed, without_line_feed}
 use Rattle.events.specs.Events.{PlainEvent}
 use Rattle.line_fields.specs.Fields.{fault_at}
 use Rattle.event_text.specs.Reading.{line_at}
@@ -47,14 +47,14 @@ lines_joined (c ∷ cs) =
 -- each line has its line feed, but maybe the last
 AreFed : List (List ℕ) → Type 0
 AreFed [] = Unit {0}
-AreFed (line ∷ []) = (line ≡ without_line_feed line ++ 10 ∷ []) ⊎ (line ≡ without_line_feed line)
+AreFed (line ∷ []) = (line ≡ without_line_feed line ++ 10 ∷ []) ⊎ ((line ≡ without_line_feed line) × (is_filled (without_line_feed line) ≡ true))
 AreFed (line ∷ next ∷ lines) = (line ≡ without_line_feed line ++ 10 ∷ []) × AreFed (next ∷ lines)
 
 fed_onto : (c : ℕ) (ls : List (List ℕ)) → eqb c 10 ≡ false → AreFed ls → AreFed (onto c ls)
 unfolding AreFed
-fed_onto c [] other h = inr (rw other refl)
+fed_onto c [] other h = inr (rw other refl, rw other refl)
 fed_onto c (l ∷ []) other (inl h) = inl (rw other (ap (λ (t : List ℕ). c ∷ t) h))
-fed_onto c (l ∷ []) other (inr h) = inr (rw other (ap (λ (t : List ℕ). c ∷ t) h))
+fed_onto c (l ∷ []) other (inr h) = inr (rw other (ap (λ (t : List ℕ). c ∷ t) h.0), rw other refl)
 fed_onto c (l ∷ m ∷ ls) other h = (rw other (ap (λ (t : List ℕ). c ∷ t) h.0), h.1)
 
 fed_before : (line : List ℕ) (ls : List (List ℕ)) → line ≡ without_line_feed line ++ 10 ∷ [] → AreFed ls → AreFed (line ∷ ls)
@@ -80,13 +80,16 @@ file_of : (ls : List (List ℕ)) → AreFed ls → IsFile (bare ls) (joined ls)
 unfolding joined AreFed
 file_of [] h = inl refl
 file_of (l ∷ []) (inl h) = inl (append-nil l ∙ h)
-file_of (l ∷ []) (inr h) = inr (ap (λ (t : List ℕ). t ++ 10 ∷ []) (append-nil l ∙ h))
+file_of (l ∷ []) (inr h) = inr (ap (λ (t : List ℕ). t ++ 10 ∷ []) (append-nil l ∙ h.0), h.1)
 file_of (l ∷ m ∷ ls) h =
     elim (file_of (m ∷ ls) h.1) [
       | inl e ↦ inl (ap (λ (t : List ℕ). t ++ joined (m ∷ ls)) h.0 ∙ append_assoc (without_line_feed l) (10 ∷ []) (joined (m ∷ ls)) ∙ ap (λ (t : List ℕ). without_line_feed l ++ (10 ∷ t)) e)
       | inr e ↦
-          inr (append_assoc l (joined (m ∷ ls)) (10 ∷ []) ∙ ap (λ (t : List ℕ). t ++ (joined (m ∷ ls) ++ 10 ∷ [])) h.0
-          ∙ append_assoc (without_line_feed l) (10 ∷ []) (joined (m ∷ ls) ++ 10 ∷ []) ∙ ap (λ (t : List ℕ). without_line_feed l ++ (10 ∷ t)) e)
+          inr (
+            append_assoc l (joined (m ∷ ls)) (10 ∷ []) ∙ ap (λ (t : List ℕ). t ++ (joined (m ∷ ls) ++ 10 ∷ [])) h.0
+                ∙ append_assoc (without_line_feed l) (10 ∷ []) (joined (m ∷ ls) ++ 10 ∷ []) ∙ ap (λ (t : List ℕ). without_line_feed l ++ (10 ∷ t)) e.0,
+            e.1,
+          )
     ]
 
 -- ---- what was read
@@ -291,44 +294,38 @@ record Parts (l : List ℕ) (ls : List (List ℕ)) (octets : List ℕ) : Type 0 
   file : IsFile ls rest
   size : length octets ≡ length line + length rest
 
--- an input of no octets has no line
-record IsNone (l : List ℕ) (ls : List (List ℕ)) (octets : List ℕ) : Type 0 where
-  none : octets ≡ []
-  line : l ≡ []
-  lines : ls ≡ []
-
-file_parts : (l : List ℕ) (ls : List (List ℕ)) (octets : List ℕ) → list_all no_feed l ≡ true → IsFile (l ∷ ls) octets → Parts l ls octets ⊎ IsNone l ls octets
+file_parts : (l : List ℕ) (ls : List (List ℕ)) (octets : List ℕ) → list_all no_feed l ≡ true → IsFile (l ∷ ls) octets → Parts l ls octets
 file_parts l ls octets h (inl e) =
-    inl (record {
+    record {
       line = l ++ 10 ∷ [];
       rest = with_line_feeds ls;
       parts = ap lines_of e ∙ lines_before l (with_line_feeds ls) h;
       bare_line = unfed_fed l h;
       file = inl refl;
       size = ap length e ∙ ap length (sym (append_assoc l (10 ∷ []) (with_line_feeds ls))) ∙ length-append (l ++ 10 ∷ []) (with_line_feeds ls);
-    })
-file_parts [] [] octets h (inr e) = inr (record { none = cancelled octets [] e; line = refl; lines = refl })
+    }
+file_parts [] [] octets h (inr e) = absurd (false≢true e.1)
 file_parts (c ∷ cs) [] octets h (inr e) =
-    let same = cancelled octets (c ∷ cs) e in
-    inl (record {
+    let same = cancelled octets (c ∷ cs) e.0 in
+    record {
       line = c ∷ cs;
       rest = [];
       parts = ap lines_of same ∙ lines_alone (c ∷ cs) (omega arith) h ∙ ap (λ (t : List (List ℕ)). (c ∷ cs) ∷ t) (sym lines_nil);
       bare_line = unfed_alone (c ∷ cs) h;
       file = inl refl;
       size = ap length same ∙ omega arith;
-    })
+    }
 file_parts l (m ∷ ms) octets h (inr e) =
     let ends = fed_ends m ms in
-    let whole : octets ≡ l ++ (10 ∷ ends.front) = cancelled octets (l ++ (10 ∷ ends.front)) (e ∙ ap (λ (t : List ℕ). l ++ (10 ∷ t)) ends.parts ∙ sym (append_assoc l (10 ∷ ends.front) (10 ∷ []))) in
-    inl (record {
+    let whole : octets ≡ l ++ (10 ∷ ends.front) = cancelled octets (l ++ (10 ∷ ends.front)) (e.0 ∙ ap (λ (t : List ℕ). l ++ (10 ∷ t)) ends.parts ∙ sym (append_assoc l (10 ∷ ends.front) (10 ∷ []))) in
+    record {
       line = l ++ 10 ∷ [];
       rest = ends.front;
       parts = ap lines_of whole ∙ lines_before l ends.front h;
       bare_line = unfed_fed l h;
-      file = inr (sym ends.parts);
+      file = inr (sym ends.parts, e.1);
       size = ap length whole ∙ ap length (sym (append_assoc l (10 ∷ []) ends.front)) ∙ length-append (l ++ 10 ∷ []) ends.front;
-    })
+    }
 
 short_line : (before octets size : ℕ) → size ≤ 16384 → before + octets ≤ 67108864 → overlong before octets size ≡ None
 short_line before octets size short within = rw (le-ltb 16384 size short, le-ltb 67108864 (before + octets) within) refl
@@ -356,29 +353,23 @@ none_again (x ∷ xs) p say = absurd say
 passed_on : (l : List ℕ) (ls : List (List ℕ)) → is_passed l ≡ true → Again ls → Again (l ∷ ls)
 unfolding contents_at Again
 passed_on l ls passed follow events p octets file are say few short =
-    elim (file_parts l ls octets are.0.whole file) [
-      | inl parts ↦
-          let size = parts.size in
-          let read : event_in p (length parts.line) (without_line_feed parts.line) ≡ Ok None = rw parts.bare_line (passed_again p (length parts.line) l (omega arith) are.0 passed) in
-          let rest = follow events (behind_line p (length parts.line) None) parts.rest parts.file are.1 (rw passed at say) few (omega arith) in
-          rw (parts.parts, read, rest) refl
-      | inr none ↦ rw none.none (none_again events p (rw (none.line, none.lines) at say))
-    ]
+    let parts = file_parts l ls octets are.0.whole file in
+    let size = parts.size in
+    let read : event_in p (length parts.line) (without_line_feed parts.line) ≡ Ok None = rw parts.bare_line (passed_again p (length parts.line) l (omega arith) are.0 passed) in
+    let rest = follow events (behind_line p (length parts.line) None) parts.rest parts.file are.1 (rw passed at say) few (omega arith) in
+    rw (parts.parts, read, rest) refl
 
 -- behind an event's line
 event_on : (l : List ℕ) (ls : List (List ℕ)) → is_passed l ≡ false → Again ls → Again (l ∷ ls)
 unfolding contents_at Again
 event_on l ls said follow [] p octets file are say few short = absurd (rw said at say)
 event_on l ls said follow (x ∷ xs) p octets file are say few short =
-    elim (file_parts l ls octets are.0.whole file) [
-      | inl parts ↦
-          let says = rw said at say in
-          let size = parts.size in
-          let read : event_in p (length parts.line) (without_line_feed parts.line) ≡ Ok (Some x) = rw parts.bare_line (event_again p (length parts.line) l x (omega arith) (omega arith) said says.0) in
-          let rest = follow xs (behind_line p (length parts.line) (Some x)) parts.rest parts.file are.1 says.1 (omega arith) (omega arith) in
-          rw (parts.parts, read, rest) refl
-      | inr none ↦ absurd (let empty = rw none.line at said in cc)
-    ]
+    let parts = file_parts l ls octets are.0.whole file in
+    let says = rw said at say in
+    let size = parts.size in
+    let read : event_in p (length parts.line) (without_line_feed parts.line) ≡ Ok (Some x) = rw parts.bare_line (event_again p (length parts.line) l x (omega arith) (omega arith) said says.0) in
+    let rest = follow xs (behind_line p (length parts.line) (Some x)) parts.rest parts.file are.1 says.1 (omega arith) (omega arith) in
+    rw (parts.parts, read, rest) refl
 
 line_on : (l : List ℕ) (ls : List (List ℕ)) (b : Bool) → is_passed l ≡ b → Again ls → Again (l ∷ ls)
 line_on l ls true passed follow = passed_on l ls passed follow
@@ -387,8 +378,7 @@ line_on l ls false said follow = event_on l ls said follow
 again_at : (lines : List (List ℕ)) → Again lines
 unfolding Again
 again_at [] events p octets (inl e) are say few short = rw e (none_again events p say)
-again_at [] events p [] (inr e) are say few short = absurd cc
-again_at [] events p (c ∷ cs) (inr e) are say few short = absurd cc
+again_at [] events p octets (inr e) are say few short = absurd (false≢true e.1)
 again_at (l ∷ ls) events p octets file are say few short = line_on l ls (is_passed l) refl (again_at ls) events p octets file are say few short
 
 version_again : (octets : ℕ) (line : List ℕ) → octets ≤ 67108864 → line ≡ codes "ha 1" → version_in octets line ≡ Ok tt
@@ -399,12 +389,9 @@ version_again octets line within e = rw (e, short_line 0 octets 4 (omega arith) 
 pub text_again : (events : List (Moment × PlainEvent)) (octets : List ℕ) → EventText events octets → contents_of octets ≡ record { events = events; fault = None }
 unfolding Again
 text_again events octets text =
-    elim (file_parts (codes "ha 1") text.lines octets refl text.file) [
-      | inl parts ↦
-          let size = parts.size in
-          let short = text.short in
-          let few = text.few in
-          rw (parts.parts, version_again (length parts.line) (without_line_feed parts.line) (omega arith) parts.bare_line)
-          (again_at text.lines events (second_line (length parts.line)) parts.rest parts.file text.are_lines text.say (omega arith) (omega arith))
-      | inr none ↦ absurd (let empty = none.line in cc)
-    ]
+    let parts = file_parts (codes "ha 1") text.lines octets refl text.file in
+    let size = parts.size in
+    let short = text.short in
+    let few = text.few in
+    rw (parts.parts, version_again (length parts.line) (without_line_feed parts.line) (omega arith) parts.bare_line)
+    (again_at text.lines events (second_line (length parts.line)) parts.rest parts.file text.are_lines text.say (omega arith) (omega arith))

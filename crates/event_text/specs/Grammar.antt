@@ -70,6 +70,6 @@ line_words moment event = decimal moment.0 ∷ event_words event
 pub record EventLine (last : ℕ) (line : List ℕ) (moment : Moment) (event : PlainEvent) : Type 0 where
   pub text : line ≡ line_of (line_words moment event)
   pub short : length line ≤ 16384
-  pub late : last ≤ moment.0
-  pub seconds : moment.0 < 2 ^ 63
+  pub in_order : last ≤ moment.0
+  pub in_range : moment.0 < 2 ^ 63
   pub fits : Fits event

@@ -4,7 +4,7 @@ use Rattle.std.specs.Str.{bytes_eq}
 use Rattle.ha_base.specs.declared.outside.Moment.{Moment}
 use Rattle.line_fields.specs.declared.fault.LineFault.{LineFault}
 use Rattle.line_fields.specs.declared.fault.LineReason.TheVariants as reasons
-use Rattle.event_text.specs.declared.place.InputFault.{InputFault}
+use Rattle.input_lines.specs.declared.fault.InputFault.{InputFault}
 use Rattle.event_text.specs.declared.place.Place.{Place}
 use Rattle.input_lines.specs.Lines.{is_passed, lines_of, without_line_feed}
 use Rattle.input_lines.specs.Limits.{Left, overlong, unless}

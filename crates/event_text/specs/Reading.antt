@@ -1,6 +1,7 @@
 -- Reading a line from left to right, with the first fault that is met.
-use Rattle.std.specs.Prelude.{ℕ, ◌-◌, ◌^◌, nat_lt, List, length, codes, Result, Ok, Err, if◌then◌else◌}
+use Rattle.std.specs.Prelude.{ℕ, ◌-◌, ◌^◌, nat_lt, List, [], ◌∷◌, length, codes, Result, Ok, Err, if◌then◌else◌}
 use Rattle.std.specs.Str.{bytes_eq}
+use Rattle.ha_base.specs.declared.counter_names.Origin.TheVariants.{Imported}
 use Rattle.ha_base.specs.declared.key_material.KeySize.{KeySize}
 use Rattle.ha_base.specs.declared.key_material.SaKeys.{SaKeys}
 use Rattle.ha_base.specs.declared.key_material.ChildKeys.{ChildKeys}
@@ -61,6 +62,7 @@ import_at s = do
   starts ← starts_at child.1
   Ok (
     Import (record {
+      origin = Imported spir.0;
       spii = spii.0;
       spir = spir.0;
       size = size.0;
@@ -139,31 +141,31 @@ inject_at s = do
   octets ← field (sized 0 2048) medium.1
   Ok (Inject to.0 medium.0 octets.0, octets.1)
 
--- an event of datagrams that a word names, the word's column first
-unfoldable pub datagram_fields_at : ℕ → List ℕ → Cursor → Result (PlainEvent × Cursor) LineFault
-datagram_fields_at c w s =
-    if bytes_eq w (codes "send") then send_at s
-    else if bytes_eq w (codes "deliver") then deliver_at s
-    else if bytes_eq w (codes "alter") then alter_at s
-    else if bytes_eq w (codes "cut") then cut_at s
-    else if bytes_eq w (codes "inject") then inject_at s
-    else Err (fault_at c reasons.Word)
+-- the events: the word of each, and how its fields are read
+abbrev pub event_readers : List (List ℕ × (Cursor → Result (PlainEvent × Cursor) LineFault))
+event_readers =
+    (codes "send", send_at)
+    ∷ (codes "inject", inject_at)
+    ∷ (codes "cluster", cluster_at)
+    ∷ (codes "import", import_at)
+    ∷ (codes "join", join_at)
+    ∷ (codes "own", own_at)
+    ∷ (codes "draw", draw_at)
+    ∷ (codes "crash", crash_at)
+    ∷ (codes "deliver", deliver_at)
+    ∷ (codes "alter", alter_at)
+    ∷ (codes "cut", cut_at)
+    ∷ []
 
--- the event that a word names, the word's column first
-unfoldable pub fields_at : ℕ → List ℕ → Cursor → Result (PlainEvent × Cursor) LineFault
-fields_at c w s =
-    if bytes_eq w (codes "cluster") then cluster_at s
-    else if bytes_eq w (codes "import") then import_at s
-    else if bytes_eq w (codes "join") then join_at s
-    else if bytes_eq w (codes "own") then own_at s
-    else if bytes_eq w (codes "draw") then draw_at s
-    else if bytes_eq w (codes "crash") then crash_at s
-    else datagram_fields_at c w s
+-- the event that a word names, by rows of words and readers; the word's column first
+abbrev pub named_by : List (List ℕ × (Cursor → Result (PlainEvent × Cursor) LineFault)) → ℕ → List ℕ → Cursor → Result (PlainEvent × Cursor) LineFault
+named_by [] c w s = Err (fault_at c reasons.Word)
+named_by (row ∷ rows) c w s = if bytes_eq w row.0 then row.1 s else named_by rows c w s
 
 unfoldable pub event_at : Cursor → Result (PlainEvent × Cursor) LineFault
 event_at s = do
   w ← word_at s
-  fields_at s.column w.0 w.1
+  named_by event_readers s.column w.0 w.1
 
 -- ---- a line
 

@@ -2,13 +2,17 @@
 
 ghost use Rattle.std.specs.Prelude.{◌≡◌, ◌≤◌};
 ghost use Rattle.line_fields.specs.Octets.{sized};
-ghost use Rattle.line_fields.specs.Fields.{Gives, field};
+ghost use Rattle.line_fields.specs.Fields.{Reads, field};
+ghost use Rattle.event_text.specs.InMemory.{Gives};
 ghost use Rattle.event_text.specs.EventFields.{is_ticket_key_size, is_window_size, medium_of, party_of, ticket_key_of, which_of, window_of};
 
-use events::{Medium, Party, Which};
+use crate::failure::Failure;
 use crate::reading::NUMBERS;
+use events::{Medium, Party, Which};
 use ha_base::{OctetList, Octets};
-use line_fields::{Failure, LineReason, Words, at, list_word, number_word, octet_list, short_word};
+use line_fields::{
+    LineFault, LineReason, Words, at, list_word, number_word, octet_list, short_word,
+};
 use std::alloc::Global;
 
 /// How many octets a field of octets may have at most.
@@ -26,8 +30,8 @@ fn party_word(word: &[u8]) -> Result<Party, LineReason>
 
 /// An end.
 #[tactic(auto, unfolding(line_fields::specs::Fields::field))]
-pub(crate) fn party(words: &mut Words<'_>) -> Result<Party, Failure>
-    ensures { Gives (λ x. x) result words.new (field party_of words.old) }
+pub(crate) fn party(words: &mut Words<'_>) -> Result<Party, LineFault>
+    ensures { Reads (λ x. x) result words.new (field party_of words.old) }
 {
     let column = words.column();
     let word = words.word()?;
@@ -46,8 +50,8 @@ fn which_word(word: &[u8]) -> Result<Which, LineReason>
 
 /// A datagram.
 #[tactic(auto, unfolding(line_fields::specs::Fields::field))]
-pub(crate) fn which(words: &mut Words<'_>) -> Result<Which, Failure>
-    ensures { Gives (λ x. x) result words.new (field which_of words.old) }
+pub(crate) fn which(words: &mut Words<'_>) -> Result<Which, LineFault>
+    ensures { Reads (λ x. x) result words.new (field which_of words.old) }
 {
     let column = words.column();
     let word = words.word()?;
@@ -68,8 +72,8 @@ fn medium_word(word: &[u8]) -> Result<Medium, LineReason>
 
 /// What a datagram carries.
 #[tactic(auto, unfolding(line_fields::specs::Fields::field))]
-pub(crate) fn medium(words: &mut Words<'_>) -> Result<Medium, Failure>
-    ensures { Gives (λ x. x) result words.new (field medium_of words.old) }
+pub(crate) fn medium(words: &mut Words<'_>) -> Result<Medium, LineFault>
+    ensures { Reads (λ x. x) result words.new (field medium_of words.old) }
 {
     let column = words.column();
     let word = words.word()?;
@@ -94,8 +98,8 @@ fn window_word(word: &[u8]) -> Result<u32, LineReason>
 
 /// The size of a receive window.
 #[tactic(auto, unfolding(line_fields::specs::Fields::field))]
-pub(crate) fn window(words: &mut Words<'_>) -> Result<u32, Failure>
-    ensures { Gives (λ x. x) result words.new (field window_of words.old) }
+pub(crate) fn window(words: &mut Words<'_>) -> Result<u32, LineFault>
+    ensures { Reads (λ x. x) result words.new (field window_of words.old) }
 {
     let column = words.column();
     let word = words.word()?;
@@ -120,8 +124,8 @@ fn ticket_key_word(word: &[u8]) -> Result<OctetList<36>, LineReason>
 
 /// A ticket key with its salt, or none.
 #[tactic(auto, unfolding(line_fields::specs::Fields::field))]
-pub(crate) fn ticket_key(words: &mut Words<'_>) -> Result<OctetList<36>, Failure>
-    ensures { Gives (λ x. x) result words.new (field ticket_key_of words.old) }
+pub(crate) fn ticket_key(words: &mut Words<'_>) -> Result<OctetList<36>, LineFault>
+    ensures { Reads (λ x. x) result words.new (field ticket_key_of words.old) }
 {
     let column = words.column();
     let word = words.word()?;

@@ -6,11 +6,11 @@ ghost use Rattle.events.specs.Ranges.{Fits};
 ghost use Rattle.event_text.specs.Input.{contents_of, event_in, faulty, left_contents, said, version_in, with_event};
 ghost use Rattle.line_fields.specs.Fields.{fault_at};
 
-use events::Event;
-use crate::place::{InputFault, Place};
+use crate::place::Place;
 use crate::reading::read_line;
+use events::Event;
 use ha_base::Moment;
-use input_lines::{front_of, is_passed, overlong};
+use input_lines::{InputFault, front_of, is_passed, overlong};
 use line_fields::{LineFault, LineReason};
 use std::alloc::Global;
 use std::marker::Model;

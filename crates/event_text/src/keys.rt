@@ -3,10 +3,10 @@
 ghost use Rattle.std.specs.Prelude.{◌≡◌, ◌≤◌, length, IfOk};
 ghost use Rattle.keeper_book.specs.Records.{sealing_key_octets};
 ghost use Rattle.line_fields.specs.Octets.{sized};
-ghost use Rattle.line_fields.specs.Fields.{Gives, field};
+ghost use Rattle.line_fields.specs.Fields.{Reads, field};
 
 use ha_base::{KeySize, OctetList};
-use line_fields::{Failure, Words, octet_list};
+use line_fields::{LineFault, Words, octet_list};
 
 /// The octets of a sealing key: an AES key and four of salt (RFC 5282, section 7.1).
 fn key_octets(size: KeySize) -> usize
@@ -20,8 +20,8 @@ fn key_octets(size: KeySize) -> usize
 }
 
 /// A sealing key.
-pub(crate) fn sealing_key(words: &mut Words<'_>, size: KeySize) -> Result<OctetList<36>, Failure>
-    ensures value { Gives (λ x. x) result words.new (field (sized (sealing_key_octets size) (sealing_key_octets size)) words.old) }
+pub(crate) fn sealing_key(words: &mut Words<'_>, size: KeySize) -> Result<OctetList<36>, LineFault>
+    ensures value { Reads (λ x. x) result words.new (field (sized (sealing_key_octets size) (sealing_key_octets size)) words.old) }
     ensures long { IfOk result (λ key. length key ≡ sealing_key_octets size) }
 {
     let octets = key_octets(size);

@@ -2,19 +2,21 @@
 #![tactic(auto)]
 
 mod event_fields;
+mod failure;
 mod input;
 mod keys;
 mod laws;
 mod place;
 mod reading;
 
-pub use events::{Datagram, EspVerdict, Event, Medium, Party, Refusal, Seal, Seals, Served, Step};
-pub use events::{Turn, Verdict, Which};
+pub use events::{
+    Datagram, EspVerdict, Event, Medium, Party, Refusal, Seal, Seals, Served, Step, Turn, Verdict,
+    Which,
+};
+pub use ha_base::EspDrop;
 pub use input::EventReader;
+pub use input_lines::InputFault;
 pub use laws::{front_tells_contents, inputs_are_texts};
 pub use line_fields::{LineFault, LineReason};
-pub use place::{InputFault, Place};
+pub use place::Place;
 pub use reading::read_line;
-
-#[cfg(test)]
-mod tests;

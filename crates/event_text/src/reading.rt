@@ -1,24 +1,26 @@
 //! An event from its line.
 
-ghost use Rattle.std.specs.Prelude.{◌≡◌, ◌≢◌, length, IfOk, MatchResult, Ok, Err};
+ghost use Rattle.std.specs.Prelude.{◌≡◌, ◌≢◌, drop, length, IfOk, MatchResult, Ok, Err};
 ghost use Rattle.keeper_book.specs.Counters.{AreWithinEnds};
 ghost use Rattle.keeper_book.specs.Records.{sealing_key_octets};
 ghost use Rattle.events.specs.Events.{PlainEvent, plain};
 ghost use Rattle.event_text.specs.Grammar.{EventLine};
 ghost use Rattle.events.specs.Ranges.{Fits};
 ghost use Rattle.ha_base.specs.declared.outside.Moment.{Moment};
-ghost use Rattle.line_fields.specs.Fields.{Gives, Fails};
-ghost use Rattle.event_text.specs.Reading.{sa_keys_at, child_keys_at, starts_at, import_at, join_at, own_at, draw_at, crash_at, cluster_at, send_at, deliver_at, alter_at, cut_at, inject_at, datagram_fields_at, event_at, moment_at, told_at, line_at};
+ghost use Rattle.line_fields.specs.Fields.{Reads};
+ghost use Rattle.event_text.specs.InMemory.{Fails, Gives};
+ghost use Rattle.event_text.specs.Reading.{sa_keys_at, child_keys_at, starts_at, import_at, join_at, own_at, draw_at, crash_at, cluster_at, send_at, deliver_at, alter_at, cut_at, inject_at, event_at, event_readers, moment_at, named_by, told_at, line_at};
 
-use events::Event;
 use crate::event_fields::{medium, octets_in_memory, party, ticket_key, which, window};
+use crate::failure::Failure;
 use crate::keys::sealing_key;
+use events::Event;
 use ha_base::{ChildKeys, KeySize, Moment, Origin, SaKeys};
 use input_lines::LINE_OCTETS;
 use keeper_book::{Five, Record};
 use line_fields::{
-    Failure, LineFault, LineReason, Words, domain_name, esp_spi, identity, key_size, number, octet,
-    octets, short_number, spi,
+    LineFault, LineReason, Words, domain_name, esp_spi, identity, key_size, number, octet, octets,
+    short_number, spi,
 };
 use std::alloc::Global;
 
@@ -35,8 +37,8 @@ const PAYLOAD_OCTETS: usize = 1_400;
 const INJECTED_OCTETS: usize = 2_048;
 
 #[tactic(auto, unfolding(crate::specs::Reading::sa_keys_at))]
-fn sa_keys(words: &mut Words<'_>, size: KeySize) -> Result<SaKeys, Failure>
-    ensures value { Gives (λ x. x) result words.new (sa_keys_at size words.old) }
+fn sa_keys(words: &mut Words<'_>, size: KeySize) -> Result<SaKeys, LineFault>
+    ensures value { Reads (λ x. x) result words.new (sa_keys_at size words.old) }
     ensures initiator { IfOk result (λ keys. length keys.sk_ei ≡ sealing_key_octets size) }
     ensures responder { IfOk result (λ keys. length keys.sk_er ≡ sealing_key_octets size) }
 {
@@ -55,8 +57,8 @@ fn sa_keys(words: &mut Words<'_>, size: KeySize) -> Result<SaKeys, Failure>
 }
 
 #[tactic(auto, unfolding(crate::specs::Reading::child_keys_at))]
-fn child_keys(words: &mut Words<'_>, size: KeySize) -> Result<ChildKeys, Failure>
-    ensures value { Gives (λ x. x) result words.new (child_keys_at size words.old) }
+fn child_keys(words: &mut Words<'_>, size: KeySize) -> Result<ChildKeys, LineFault>
+    ensures value { Reads (λ x. x) result words.new (child_keys_at size words.old) }
     ensures cluster { IfOk result (λ keys. length keys.to_cluster ≡ sealing_key_octets size) }
     ensures peer { IfOk result (λ keys. length keys.to_peer ≡ sealing_key_octets size) }
 {
@@ -69,8 +71,8 @@ fn child_keys(words: &mut Words<'_>, size: KeySize) -> Result<ChildKeys, Failure
 }
 
 #[tactic(auto, unfolding(crate::specs::Reading::starts_at))]
-fn starts(words: &mut Words<'_>) -> Result<Five, Failure>
-    ensures value { Gives (λ x. x) result words.new (starts_at words.old) }
+fn starts(words: &mut Words<'_>) -> Result<Five, LineFault>
+    ensures value { Reads (λ x. x) result words.new (starts_at words.old) }
     ensures within { IfOk result AreWithinEnds }
 {
     let esp_out = number(words, NUMBERS)?;
@@ -88,8 +90,8 @@ fn starts(words: &mut Words<'_>) -> Result<Five, Failure>
 }
 
 #[tactic(auto, unfolding(crate::specs::Reading::import_at))]
-fn import(words: &mut Words<'_>) -> Result<Event, Failure>
-    ensures { Gives plain result words.new (import_at words.old) }
+fn import(words: &mut Words<'_>) -> Result<Event, LineFault>
+    ensures { Reads plain result words.new (import_at words.old) }
 {
     let spii = spi(words)?;
     let spir = spi(words)?;
@@ -117,16 +119,16 @@ fn import(words: &mut Words<'_>) -> Result<Event, Failure>
 }
 
 #[tactic(auto, unfolding(crate::specs::Reading::join_at))]
-fn join(words: &mut Words<'_>) -> Result<Event, Failure>
-    ensures { Gives plain result words.new (join_at words.old) }
+fn join(words: &mut Words<'_>) -> Result<Event, LineFault>
+    ensures { Reads plain result words.new (join_at words.old) }
 {
     let fresh = octets(words)?;
     Ok(Event::Join { fresh })
 }
 
 #[tactic(auto, unfolding(crate::specs::Reading::own_at))]
-fn own(words: &mut Words<'_>) -> Result<Event, Failure>
-    ensures { Gives plain result words.new (own_at words.old) }
+fn own(words: &mut Words<'_>) -> Result<Event, LineFault>
+    ensures { Reads plain result words.new (own_at words.old) }
 {
     let member = number(words, NUMBERS)?;
     let spir = spi(words)?;
@@ -134,8 +136,8 @@ fn own(words: &mut Words<'_>) -> Result<Event, Failure>
 }
 
 #[tactic(auto, unfolding(crate::specs::Reading::draw_at))]
-fn draw(words: &mut Words<'_>) -> Result<Event, Failure>
-    ensures { Gives plain result words.new (draw_at words.old) }
+fn draw(words: &mut Words<'_>) -> Result<Event, LineFault>
+    ensures { Reads plain result words.new (draw_at words.old) }
 {
     let member = number(words, NUMBERS)?;
     let spir = spi(words)?;
@@ -143,16 +145,16 @@ fn draw(words: &mut Words<'_>) -> Result<Event, Failure>
 }
 
 #[tactic(auto, unfolding(crate::specs::Reading::crash_at))]
-fn crash(words: &mut Words<'_>) -> Result<Event, Failure>
-    ensures { Gives plain result words.new (crash_at words.old) }
+fn crash(words: &mut Words<'_>) -> Result<Event, LineFault>
+    ensures { Reads plain result words.new (crash_at words.old) }
 {
     let member = number(words, NUMBERS)?;
     Ok(Event::Crash { member })
 }
 
 #[tactic(auto, unfolding(crate::specs::Reading::cluster_at))]
-fn cluster(words: &mut Words<'_>) -> Result<Event, Failure>
-    ensures { Gives plain result words.new (cluster_at words.old) }
+fn cluster(words: &mut Words<'_>) -> Result<Event, LineFault>
+    ensures { Reads plain result words.new (cluster_at words.old) }
 {
     let identity = domain_name(words)?;
     let lifetime = short_number(words, 1)?;
@@ -181,8 +183,8 @@ fn send(alloc: Global, words: &mut Words<'_>) -> Result<Event, Failure>
 }
 
 #[tactic(auto, unfolding(crate::specs::Reading::deliver_at))]
-fn deliver(words: &mut Words<'_>) -> Result<Event, Failure>
-    ensures { Gives plain result words.new (deliver_at words.old) }
+fn deliver(words: &mut Words<'_>) -> Result<Event, LineFault>
+    ensures { Reads plain result words.new (deliver_at words.old) }
 {
     let which = which(words)?;
     let to = party(words)?;
@@ -190,8 +192,8 @@ fn deliver(words: &mut Words<'_>) -> Result<Event, Failure>
 }
 
 #[tactic(auto, unfolding(crate::specs::Reading::alter_at))]
-fn alter(words: &mut Words<'_>) -> Result<Event, Failure>
-    ensures { Gives plain result words.new (alter_at words.old) }
+fn alter(words: &mut Words<'_>) -> Result<Event, LineFault>
+    ensures { Reads plain result words.new (alter_at words.old) }
 {
     let which = which(words)?;
     let to = party(words)?;
@@ -206,8 +208,8 @@ fn alter(words: &mut Words<'_>) -> Result<Event, Failure>
 }
 
 #[tactic(auto, unfolding(crate::specs::Reading::cut_at))]
-fn cut(words: &mut Words<'_>) -> Result<Event, Failure>
-    ensures { Gives plain result words.new (cut_at words.old) }
+fn cut(words: &mut Words<'_>) -> Result<Event, LineFault>
+    ensures { Reads plain result words.new (cut_at words.old) }
 {
     let which = which(words)?;
     let to = party(words)?;
@@ -225,43 +227,10 @@ fn inject(alloc: Global, words: &mut Words<'_>) -> Result<Event, Failure>
     Ok(Event::Inject { to, medium, octets })
 }
 
-/// An event of datagrams, by its word.
-#[tactic(auto, unfolding(crate::specs::Reading::datagram_fields_at))]
-fn datagram_event(
-    alloc: Global,
-    column: u32,
-    word: &[u8],
-    words: &mut Words<'_>,
-) -> Result<Event, Failure>
-    ensures { Gives plain result words.new (datagram_fields_at column word.now words.old) }
+/// An event whose fields take no memory, by its word.
+fn short_event(column: u32, word: &[u8], words: &mut Words<'_>) -> Result<Event, LineFault>
+    ensures { Reads plain result words.new (named_by (drop 2 event_readers) column word.now words.old) }
 {
-    if word == b"send".as_slice() {
-        return send(alloc, words);
-    }
-    if word == b"deliver".as_slice() {
-        return deliver(words);
-    }
-    if word == b"alter".as_slice() {
-        return alter(words);
-    }
-    if word == b"cut".as_slice() {
-        return cut(words);
-    }
-    if word == b"inject".as_slice() {
-        return inject(alloc, words);
-    }
-    Err(Failure::At(LineFault {
-        column,
-        reason: LineReason::Word,
-    }))
-}
-
-#[tactic(auto, unfolding(crate::specs::Reading::event_at, crate::specs::Reading::fields_at))]
-fn event(alloc: Global, words: &mut Words<'_>) -> Result<Event, Failure>
-    ensures { Gives plain result words.new (event_at words.old) }
-{
-    let column = words.column();
-    let word = words.word()?;
     if word == b"cluster".as_slice() {
         return cluster(words);
     }
@@ -280,20 +249,47 @@ fn event(alloc: Global, words: &mut Words<'_>) -> Result<Event, Failure>
     if word == b"crash".as_slice() {
         return crash(words);
     }
-    datagram_event(alloc, column, word, words)
+    if word == b"deliver".as_slice() {
+        return deliver(words);
+    }
+    if word == b"alter".as_slice() {
+        return alter(words);
+    }
+    if word == b"cut".as_slice() {
+        return cut(words);
+    }
+    Err(LineFault {
+        column,
+        reason: LineReason::Word,
+    })
+}
+
+#[tactic(auto, unfolding(crate::specs::Reading::event_at))]
+fn event(alloc: Global, words: &mut Words<'_>) -> Result<Event, Failure>
+    ensures { Gives plain result words.new (event_at words.old) }
+{
+    let column = words.column();
+    let word = words.word()?;
+    if word == b"send".as_slice() {
+        return send(alloc, words);
+    }
+    if word == b"inject".as_slice() {
+        return inject(alloc, words);
+    }
+    Ok(short_event(column, word, words)?)
 }
 
 #[tactic(auto, unfolding(crate::specs::Reading::moment_at))]
-fn moment(words: &mut Words<'_>, last: Moment) -> Result<u64, Failure>
-    ensures { Gives (λ x. x) result words.new (moment_at last.0 words.old) }
+fn moment(words: &mut Words<'_>, last: Moment) -> Result<u64, LineFault>
+    ensures { Reads (λ x. x) result words.new (moment_at last.0 words.old) }
 {
     let column = words.column();
     let seconds = number(words, NUMBERS)?;
     if seconds < last.0 {
-        return Err(Failure::At(LineFault {
+        return Err(LineFault {
             column,
             reason: LineReason::ClockBack,
-        }));
+        });
     }
     Ok(seconds)
 }

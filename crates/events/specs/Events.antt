@@ -1,5 +1,6 @@
 -- What a line says of an event.
 use Rattle.std.specs.Prelude.{ℕ, List}
+use Rattle.ha_base.specs.declared.counter_names.Origin.{Origin}
 use Rattle.ha_base.specs.declared.identities.Identity.{Identity}
 use Rattle.events.specs.declared.event.Party.{Party}
 use Rattle.events.specs.declared.event.Which.{Which}
@@ -14,6 +15,7 @@ use Rattle.events.specs.declared.event.Event.TheVariants as events
 
 -- an association, by the fields of its record alone
 pub record Association : Type 0 where
+  pub origin : Origin
   pub spii : ℕ
   pub spir : ℕ
   pub size : KeySize
@@ -27,6 +29,7 @@ pub record Association : Type 0 where
 abbrev pub association : Record → Association
 association sa =
     record {
+      origin = sa.origin;
       spii = sa.spii;
       spir = sa.spir;
       size = sa.size;

@@ -1,5 +1,6 @@
 -- What the fields of an event's line may be.
-use Rattle.std.specs.Prelude.{ℕ, ◌-◌, ◌^◌, ◌<◌, ◌≤◌, List, ◌⊎◌}
+use Rattle.std.specs.Prelude.{◌≡◌, ℕ, ◌-◌, ◌^◌, ◌<◌, ◌≤◌, List, ◌⊎◌}
+use Rattle.ha_base.specs.declared.counter_names.Origin.TheVariants.{Imported}
 use Rattle.ha_base.specs.declared.identities.Identity.{Identity}
 use Rattle.ha_base.specs.declared.key_material.KeySize.{KeySize}
 use Rattle.ha_base.specs.declared.key_material.SaKeys.{SaKeys}
@@ -33,7 +34,9 @@ pub record AreStarts (five : Five) : Type 0 where
   pub ask : five.ask < 2 ^ 32 - 1
   pub answer : five.answer < 2 ^ 32 - 1
 
+-- an association that a line says: imported, with its own SPIr
 pub record IsAssociation (a : Association) : Type 0 where
+  pub origin : a.origin ≡ Imported a.spir
   pub spii : a.spii < 2 ^ 64
   pub spir : a.spir < 2 ^ 64
   pub identity : IsIdentity a.identity

@@ -5,14 +5,14 @@ use ha_base::{Identity, OctetList, Octets};
 use keeper_book::Record;
 
 /// An end of a run. Members are counted from 1, in the order in which they joined.
-#[derive(Clone, Copy, Debug, PartialEq, Eq)]
+#[derive(Clone, Copy)]
 pub enum Party {
     Peer,
     Member(u64),
 }
 
 /// Which datagram is meant: they are counted from 1, in the order in which they were given.
-#[derive(Clone, Copy, Debug, PartialEq, Eq)]
+#[derive(Clone, Copy)]
 pub enum Which {
     Number(u32),
     /// The newest.
@@ -20,7 +20,7 @@ pub enum Which {
 }
 
 /// An event, with the fields of its line.
-#[derive(Debug, Drop)]
+#[derive(Drop)]
 pub enum Event {
     /// How the ends are configured: the cluster's identity, the lifetime of tickets in seconds, the receive window of ESP,
     /// and the ticket key with its salt, of no octets where there is none.
@@ -30,7 +30,7 @@ pub enum Event {
         window: u32,
         ticket_key: OctetList<36>,
     },
-    /// An association that both ends have from the beginning. Its origin is `Imported` of its SPIr.
+    /// An association that both ends have from the beginning: imported, with its own SPIr.
     Import {
         sa: Record,
     },

@@ -5,7 +5,7 @@ use ha_base::{CounterName, Octets};
 use std::marker::Model;
 
 /// A sealing: under which key and IV, what was sealed, and the octets that came of it.
-#[derive(Debug, Drop)]
+#[derive(Drop)]
 pub struct Seal {
     /// The counter of the IV, which also names the key.
     pub name: CounterName,
@@ -15,7 +15,7 @@ pub struct Seal {
 }
 
 /// At most two seals, in order. It takes no memory.
-#[derive(Debug, Drop)]
+#[derive(Drop)]
 pub struct Seals {
     first: Option<Seal>,
     second: Option<Seal>,

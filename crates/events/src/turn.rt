@@ -9,14 +9,14 @@ use ha_base::{Moment, Octets};
 use keeper_book::Calls;
 
 /// A request that a service executed, and its reply.
-#[derive(Debug, Drop)]
+#[derive(Drop)]
 pub struct Served {
     pub request: Octets,
     pub reply: Octets,
 }
 
 /// What a datagram carries.
-#[derive(Clone, Copy, Debug, PartialEq, Eq)]
+#[derive(Clone, Copy)]
 pub enum Medium {
     /// An IKE message (RFC 7296, section 3.1).
     Ike,
@@ -25,7 +25,7 @@ pub enum Medium {
 }
 
 /// A datagram between the cluster and the peer.
-#[derive(Debug, Drop)]
+#[derive(Drop)]
 pub struct Datagram {
     pub medium: Medium,
     pub octets: Octets,

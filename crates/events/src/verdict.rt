@@ -4,7 +4,7 @@ use ha_base::{CounterName, EspDrop, EspOpened, Octets};
 use keeper_book::Five;
 
 /// How an event came out.
-#[derive(Debug, Drop)]
+#[derive(Drop)]
 pub enum Verdict {
     /// The ends are configured.
     Configured,
@@ -78,11 +78,11 @@ pub enum Refusal {
     NoOctet,
     /// There are as many datagrams as a run has room for.
     DatagramsFull,
-    /// Something happened before that has to come later.
-    Late,
     /// As many members joined as a run has room for: their number.
     NoRoom(u32),
-    /// The SPIr is none that may be imported.
+    /// The configuration does not come first.
+    Late,
+    /// An SPI of the IKE header is below 2^48, one of ESP is below 65,536, or ESP numbers or IVs would start at 0.
     SpiRange,
     /// The event is one that is not handled yet.
     NotBuilt,

@@ -1,5 +1,5 @@
 -- The lines of a text.
-use Rattle.std.specs.Prelude.{◌≡◌, ℕ, ◌≤◌, ◌==◌, not, Bool, true, List, [], ◌∷◌, ◌++◌, length, ◌⊎◌, if◌then◌else◌}
+use Rattle.std.specs.Prelude.{◌≡◌, ℕ, ◌≤◌, ◌==◌, not, Bool, true, false, List, [], ◌∷◌, ◌++◌, length, ◌⊎◌, if◌then◌else◌}
 use Rattle.std.specs.List.{list_all}
 use Rattle.line_fields.specs.Words.{onto}
 
@@ -8,9 +8,20 @@ abbrev pub with_line_feeds : List (List ℕ) → List ℕ
 with_line_feeds [] = []
 with_line_feeds (line ∷ lines) = line ++ (10 ∷ with_line_feeds lines)
 
--- The octets are these lines. The last may lack its line feed.
+abbrev pub is_filled : List ℕ → Bool
+is_filled [] = false
+is_filled (c ∷ cs) = true
+
+-- there is a last line, and it is not empty
+abbrev pub has_filled_last : List (List ℕ) → Bool
+has_filled_last [] = false
+has_filled_last (line ∷ []) = is_filled line
+has_filled_last (line ∷ next ∷ lines) = has_filled_last (next ∷ lines)
+
+-- The octets are these lines. The last may lack its line feed where it is not empty.
 abbrev pub IsFile : List (List ℕ) → List ℕ → Type 0
-IsFile lines octets = (octets ≡ with_line_feeds lines) ⊎ (octets ++ 10 ∷ [] ≡ with_line_feeds lines)
+IsFile lines octets =
+    (octets ≡ with_line_feeds lines) ⊎ ((octets ++ 10 ∷ [] ≡ with_line_feeds lines) × (has_filled_last lines ≡ true))
 
 abbrev pub no_feed : ℕ → Bool
 no_feed c = not (c == 10)

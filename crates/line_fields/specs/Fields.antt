@@ -6,8 +6,6 @@ use Rattle.ha_base.specs.declared.key_material.KeySize.TheVariants.{Bits128, Bit
 use Rattle.line_fields.specs.declared.fault.LineReason.{LineReason}
 use Rattle.line_fields.specs.declared.fault.LineReason.TheVariants as reasons
 use Rattle.line_fields.specs.declared.fault.LineFault.{LineFault}
-use Rattle.line_fields.specs.declared.fault.Failure.{Failure}
-use Rattle.line_fields.specs.declared.fault.Failure.TheVariants.{OutOfMemory, At}
 use Rattle.line_fields.specs.Words.{Cursor}
 
 infixl 10 ◌>>=◌
@@ -18,15 +16,10 @@ abbrev pub ◌>>=◌ : {A B : Type 0} → Result A LineFault → (A → Result B
 abbrev pub fault_at : ℕ → LineReason → LineFault
 fault_at c r = record { column = c; reason = r }
 
--- Why a reader gave nothing is why reading gives nothing, unless memory ran out.
-abbrev pub Fails : {Y : Type 0} → Failure → Result Y LineFault → Type 0
-Fails OutOfMemory read = Unit {0}
-Fails (At f) read = read ≡ Err f
-
--- What a reader gave, seen by view, and what it left are what reading gives, unless memory ran out.
-abbrev pub Gives : {X Y : Type 0} → (X → Y) → Result X Failure → Cursor → Result (Y × Cursor) LineFault → Type 0
-Gives view (Ok x) new read = read ≡ Ok (view x, new)
-Gives view (Err e) new read = Fails e read
+-- What a reader gave, seen by view, and what it left are what reading gives, or its fault is.
+abbrev pub Reads : {X Y : Type 0} → (X → Y) → Result X LineFault → Cursor → Result (Y × Cursor) LineFault → Type 0
+Reads view (Ok x) new read = read ≡ Ok (view x, new)
+Reads view (Err f) new read = read ≡ Err f
 
 -- what is left behind a word
 abbrev pub behind : ℕ → List ℕ → List (List ℕ) → Cursor

@@ -3,13 +3,10 @@
 ghost use Rattle.std.specs.Prelude.{◌≡◌, MatchResult};
 ghost use Rattle.line_fields.specs.Faults.{reason_name};
 ghost use Rattle.line_fields.specs.Fields.{fault_at};
-ghost use Rattle.line_fields.specs.declared.fault.Failure.TheVariants.{OutOfMemory};
 
-use ha_base::Memory;
-use std::alloc::{AllocError, AllocFailed};
 use thiserror::Error;
 
-/// Why a line of an event file is refused. `Memory` is no fault of the line.
+/// Why a line is refused. `Memory` is no fault of the line.
 #[derive(Clone, Copy, Debug, PartialEq, Eq)]
 pub enum LineReason {
     /// None of the words that may stand there.
@@ -26,7 +23,7 @@ pub enum LineReason {
     LineTooLong = 6,
     /// A moment before the one of the event before.
     ClockBack = 7,
-    /// The 100,001st event.
+    /// The 100,001st event or message.
     TooMany = 8,
     /// The file's 67,108,865th octet.
     FileTooLong = 9,
@@ -66,45 +63,12 @@ pub struct LineFault {
     pub reason: LineReason,
 }
 
-/// Why a reader of a line gave nothing.
-#[derive(Debug, Drop)]
-pub enum Failure {
-    /// Memory ran out.
-    OutOfMemory,
-    /// The line is faulty there.
-    At(LineFault),
-}
-
-impl From<AllocError> for Failure {
-    ghost from_gives = { λ _ e. e ≡ OutOfMemory };
-
-    fn from(_e: AllocError) -> Failure {
-        Failure::OutOfMemory
-    }
-}
-
-impl<T: Drop> From<AllocFailed<T>> for Failure {
-    ghost from_gives = { λ _ e. e ≡ OutOfMemory };
-
-    fn from(_e: AllocFailed<T>) -> Failure {
-        Failure::OutOfMemory
-    }
-}
-
-impl From<Memory> for Failure {
-    ghost from_gives = { λ _ e. e ≡ OutOfMemory };
-
-    fn from(_e: Memory) -> Failure {
-        Failure::OutOfMemory
-    }
-}
-
 /// What a word's reader answered, or the fault at the word's column.
-pub fn at<T>(column: u32, read: Result<T, LineReason>) -> Result<T, Failure>
-    ensures { MatchResult read (λ x. result ≡ Ok x) (λ r. result ≡ Err (Failure.At (fault_at column r))) }
+pub fn at<T>(column: u32, read: Result<T, LineReason>) -> Result<T, LineFault>
+    ensures { MatchResult read (λ x. result ≡ Ok x) (λ r. result ≡ Err (fault_at column r)) }
 {
     match read {
         Ok(value) => Ok(value),
-        Err(reason) => Err(Failure::At(LineFault { column, reason })),
+        Err(reason) => Err(LineFault { column, reason }),
     }
 }

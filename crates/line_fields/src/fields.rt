@@ -5,9 +5,9 @@ ghost use Rattle.std.specs.Prelude.{◌≡◌, ◌≤◌, ◌<◌, ◌^◌, leng
 ghost use Rattle.line_fields.specs.Numbers.{number_of};
 ghost use Rattle.line_fields.specs.Octets.{esp_spi_of, octet_of, sized, spi_of};
 ghost use Rattle.line_fields.specs.Identities.{domain_name_of, identity_of};
-ghost use Rattle.line_fields.specs.Fields.{Gives, field, key_size_of};
+ghost use Rattle.line_fields.specs.Fields.{Reads, field, key_size_of};
 
-use crate::fault::{Failure, LineReason, at};
+use crate::fault::{LineFault, LineReason, at};
 use crate::identities::{domain_name_word, identity_word};
 use crate::numbers::{number_word, short_word};
 use crate::octet_words::{array_word, esp_spi_word, list_word, octet_word, spi_word};
@@ -16,8 +16,8 @@ use ha_base::{Identity, KeySize, OctetList};
 
 /// A decimal number below a limit.
 #[tactic(auto, unfolding(crate::specs::Fields::field))]
-pub fn number(words: &mut Words<'_>, limit: u64) -> Result<u64, Failure>
-    ensures value { Gives (λ x. x) result words.new (field (number_of 0 limit) words.old) }
+pub fn number(words: &mut Words<'_>, limit: u64) -> Result<u64, LineFault>
+    ensures value { Reads (λ x. x) result words.new (field (number_of 0 limit) words.old) }
     ensures below { IfOk result (λ number. number < limit) }
 {
     let column = words.column();
@@ -27,8 +27,8 @@ pub fn number(words: &mut Words<'_>, limit: u64) -> Result<u64, Failure>
 
 /// A decimal number below 2^32, from `least` on.
 #[tactic(auto, unfolding(crate::specs::Fields::field))]
-pub fn short_number(words: &mut Words<'_>, least: u64) -> Result<u32, Failure>
-    ensures { Gives (λ x. x) result words.new (field (number_of least (2 ^ 32)) words.old) }
+pub fn short_number(words: &mut Words<'_>, least: u64) -> Result<u32, LineFault>
+    ensures { Reads (λ x. x) result words.new (field (number_of least (2 ^ 32)) words.old) }
 {
     let column = words.column();
     let word = words.word()?;
@@ -37,8 +37,8 @@ pub fn short_number(words: &mut Words<'_>, least: u64) -> Result<u32, Failure>
 
 /// An SPI of the IKE header (RFC 7296, section 3.1), in 16 digits.
 #[tactic(auto, unfolding(crate::specs::Fields::field))]
-pub fn spi(words: &mut Words<'_>) -> Result<u64, Failure>
-    ensures { Gives (λ x. x) result words.new (field spi_of words.old) }
+pub fn spi(words: &mut Words<'_>) -> Result<u64, LineFault>
+    ensures { Reads (λ x. x) result words.new (field spi_of words.old) }
 {
     let column = words.column();
     let word = words.word()?;
@@ -47,8 +47,8 @@ pub fn spi(words: &mut Words<'_>) -> Result<u64, Failure>
 
 /// An SPI of ESP (RFC 4303, section 2.1), in 8 digits.
 #[tactic(auto, unfolding(crate::specs::Fields::field))]
-pub fn esp_spi(words: &mut Words<'_>) -> Result<u32, Failure>
-    ensures { Gives (λ x. x) result words.new (field esp_spi_of words.old) }
+pub fn esp_spi(words: &mut Words<'_>) -> Result<u32, LineFault>
+    ensures { Reads (λ x. x) result words.new (field esp_spi_of words.old) }
 {
     let column = words.column();
     let word = words.word()?;
@@ -57,8 +57,8 @@ pub fn esp_spi(words: &mut Words<'_>) -> Result<u32, Failure>
 
 /// Octets of one number.
 #[tactic(auto, unfolding(crate::specs::Fields::field))]
-pub fn octets<const N: usize>(words: &mut Words<'_>) -> Result<[u8; N], Failure>
-    ensures { Gives (λ x. x) result words.new (field (sized N N) words.old) }
+pub fn octets<const N: usize>(words: &mut Words<'_>) -> Result<[u8; N], LineFault>
+    ensures { Reads (λ x. x) result words.new (field (sized N N) words.old) }
 {
     let column = words.column();
     let word = words.word()?;
@@ -67,8 +67,8 @@ pub fn octets<const N: usize>(words: &mut Words<'_>) -> Result<[u8; N], Failure>
 
 /// One octet.
 #[tactic(auto, unfolding(crate::specs::Fields::field))]
-pub fn octet(words: &mut Words<'_>) -> Result<u8, Failure>
-    ensures { Gives (λ x. x) result words.new (field octet_of words.old) }
+pub fn octet(words: &mut Words<'_>) -> Result<u8, LineFault>
+    ensures { Reads (λ x. x) result words.new (field octet_of words.old) }
 {
     let column = words.column();
     let word = words.word()?;
@@ -89,8 +89,8 @@ fn size_word(word: &[u8]) -> Result<KeySize, LineReason>
 
 /// The size of an AES key, in bits.
 #[tactic(auto, unfolding(crate::specs::Fields::field))]
-pub fn key_size(words: &mut Words<'_>) -> Result<KeySize, Failure>
-    ensures { Gives (λ x. x) result words.new (field key_size_of words.old) }
+pub fn key_size(words: &mut Words<'_>) -> Result<KeySize, LineFault>
+    ensures { Reads (λ x. x) result words.new (field key_size_of words.old) }
 {
     let column = words.column();
     let word = words.word()?;
@@ -103,9 +103,9 @@ pub fn octet_list<const N: usize>(
     words: &mut Words<'_>,
     least: usize,
     most: usize,
-) -> Result<OctetList<N>, Failure>
+) -> Result<OctetList<N>, LineFault>
     requires { most ≤ N }
-    ensures value { Gives (λ x. x) result words.new (field (sized least most) words.old) }
+    ensures value { Reads (λ x. x) result words.new (field (sized least most) words.old) }
     ensures within { IfOk result (λ list. (least ≤ length list) × (length list ≤ most)) }
 {
     let column = words.column();
@@ -115,8 +115,8 @@ pub fn octet_list<const N: usize>(
 
 /// An identity: the prefix of its type (RFC 7296, section 3.5), and octets.
 #[tactic(auto, unfolding(crate::specs::Fields::field))]
-pub fn identity(words: &mut Words<'_>) -> Result<Identity, Failure>
-    ensures { Gives (λ x. x) result words.new (field identity_of words.old) }
+pub fn identity(words: &mut Words<'_>) -> Result<Identity, LineFault>
+    ensures { Reads (λ x. x) result words.new (field identity_of words.old) }
 {
     let column = words.column();
     let word = words.word()?;
@@ -125,8 +125,8 @@ pub fn identity(words: &mut Words<'_>) -> Result<Identity, Failure>
 
 /// An identity that is a fully-qualified domain name.
 #[tactic(auto, unfolding(crate::specs::Fields::field))]
-pub fn domain_name(words: &mut Words<'_>) -> Result<Identity, Failure>
-    ensures { Gives (λ x. x) result words.new (field domain_name_of words.old) }
+pub fn domain_name(words: &mut Words<'_>) -> Result<Identity, LineFault>
+    ensures { Reads (λ x. x) result words.new (field domain_name_of words.old) }
 {
     let column = words.column();
     let word = words.word()?;

@@ -9,7 +9,7 @@ mod octet_words;
 mod split;
 mod words;
 
-pub use fault::{Failure, LineFault, LineReason, at};
+pub use fault::{LineFault, LineReason, at};
 pub use fields::{
     domain_name, esp_spi, identity, key_size, number, octet, octet_list, octets, short_number, spi,
 };

@@ -2,9 +2,9 @@
 
 ghost use Rattle.std.specs.Prelude.{◌≡◌, ◌≤◌, ◌<◌, ◌+◌, ◌∷◌, length, MatchResult};
 ghost use Rattle.line_fields.specs.Words.{Cursor, words_of, words_from, octets_left};
-ghost use Rattle.line_fields.specs.Fields.{Gives, Fails, word_at, ended_at};
+ghost use Rattle.line_fields.specs.Fields.{Reads, word_at, ended_at};
 
-use crate::fault::{Failure, LineFault, LineReason};
+use crate::fault::{LineFault, LineReason};
 use crate::split::octets_before;
 use std::marker::Model;
 
@@ -57,15 +57,15 @@ impl<'a> Words<'a> {
     }
 
     /// Takes the next word.
-    pub fn word(&mut self) -> Result<&'a [u8], Failure>
-        ensures { Gives (λ w. w.now) result self.new (word_at self.old) }
+    pub fn word(&mut self) -> Result<&'a [u8], LineFault>
+        ensures { Reads (λ w. w.now) result self.new (word_at self.old) }
     {
         let column = self.column;
         let Some(rest) = self.rest else {
-            return Err(Failure::At(LineFault {
+            return Err(LineFault {
                 column,
                 reason: LineReason::Missing,
-            }));
+            });
         };
         let (word, rest) = first_word(rest);
         self.rest = rest;
@@ -74,15 +74,15 @@ impl<'a> Words<'a> {
     }
 
     /// Fails where a word is left.
-    pub fn end(&self) -> Result<(), Failure>
-        ensures { MatchResult result (λ _. ended_at self.now ≡ Ok tt) (λ e. Fails e (ended_at self.now)) }
+    pub fn end(&self) -> Result<(), LineFault>
+        ensures { MatchResult result (λ _. ended_at self.now ≡ Ok tt) (λ f. ended_at self.now ≡ Err f) }
     {
         match self.rest {
             None => Ok(()),
-            Some(_) => Err(Failure::At(LineFault {
+            Some(_) => Err(LineFault {
                 column: self.column,
                 reason: LineReason::Extra,
-            })),
+            }),
         }
     }
 }

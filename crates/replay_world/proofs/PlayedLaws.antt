@@ -9,7 +9,7 @@ use Rattle.ha_base.specs.Faults.{AppendsFront}
 use Rattle.events.specs.Events.{PlainEvent}
 use Rattle.event_text.specs.Input.{Contents, with_event}
 use Rattle.report_text.specs.Report.{given, given_in, turn_text, turns_text}
-use Rattle.event_text.specs.declared.place.InputFault.{InputFault}
+use Rattle.input_lines.specs.declared.fault.InputFault.{InputFault}
 use Rattle.events.specs.declared.turn.Datagram.{Datagram}
 use Rattle.events.specs.declared.turn.Turn.{Turn}
 use Rattle.ha_base.specs.declared.outside.Moment.{Moment}

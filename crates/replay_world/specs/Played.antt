@@ -4,7 +4,7 @@ use Rattle.std.specs.Io.KnownBytes.{Appends, Consumes, IsAtEnd}
 use Rattle.events.specs.Events.{PlainEvent, plain}
 use Rattle.event_text.specs.Input.{Contents, contents_of}
 use Rattle.report_text.specs.Report.{report}
-use Rattle.event_text.specs.declared.place.InputFault.{InputFault}
+use Rattle.input_lines.specs.declared.fault.InputFault.{InputFault}
 use Rattle.events.specs.declared.turn.Turn.{Turn}
 use Rattle.ha_base.specs.declared.outside.Moment.{Moment}
 use Rattle.keeper_book.specs.Book.{Book}

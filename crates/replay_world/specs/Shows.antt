@@ -1,7 +1,7 @@
 -- What the call for messages did.
 use Rattle.std.specs.Prelude.{ℕ, ◌≡◌, ◌+◌, ◌<◌, ◌≤◌, ◌⊎◌, List, length, Option}
 use Rattle.std.specs.Io.KnownBytes.{Appends, Consumes, IsAtEnd}
-use Rattle.event_text.specs.declared.place.InputFault.{InputFault}
+use Rattle.input_lines.specs.declared.fault.InputFault.{InputFault}
 use Rattle.ha_base.specs.Faults.{AppendsFront}
 use Rattle.show_messages.specs.Messages.{messages_of}
 use Rattle.show_messages.specs.Shows.{shown_all}

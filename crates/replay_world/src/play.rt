@@ -11,9 +11,10 @@ use crate::world::World;
 use event_text::{EventReader, InputFault, LineReason};
 use ha_base::{Memory, Octets, Service};
 use keeper_book::{Gate, Keeper};
-use report_text::{write_end, write_head, write_turn};
+use report_text::{write_head, write_turn};
 use std::alloc::Global;
 use turn_laws::{nothing_is_executed, runs_are_safe};
+use word_text::write_end;
 
 /// A report, and the fault of the input at which it ends, if there is one.
 #[derive(Drop)]

@@ -8,18 +8,17 @@ ghost use Rattle.replay_world.specs.Played.{BreaksOff, Completes};
 ghost use Rattle.replay_world.specs.Shows.{ShowsAll, ShowsFront};
 ghost use Rattle.replay_world.specs.Commands.{command_of, named_by};
 ghost use Rattle.replay_world.specs.declared.top.Command.TheVariants.{Run, Show};
-ghost use Rattle.report_text.specs.Faults.{fault_line};
-ghost use Rattle.event_text.specs.declared.place.InputFault.{InputFault};
+ghost use Rattle.input_lines.specs.Faults.{fault_line};
+ghost use Rattle.input_lines.specs.declared.fault.InputFault.{InputFault};
 ghost use Rattle.replay_world.specs.Statuses.{AtEnd, exit_code};
 ghost use Rattle.run_ends.specs.Asked.{AsksAsSeen};
 ghost use Rattle.turn_rules.specs.Services.{AreGiven, service_of};
 
 use crate::input::{Unread, read_input};
 use crate::play::play_file;
-use event_text::InputFault;
 use ha_base::{Failed, Octets, Service, Sink, Source, write_all};
+use input_lines::{InputFault, write_fault};
 use keeper_book::Keeper;
-use report_text::write_fault;
 use show_messages::show;
 use std::alloc::Global;
 

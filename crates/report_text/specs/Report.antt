@@ -26,6 +26,7 @@ use Rattle.events.specs.declared.verdict.Refusal.{Refusal}
 use Rattle.events.specs.declared.verdict.Refusal.TheVariants as refusals
 use Rattle.events.specs.declared.verdict.Verdict.{Verdict}
 use Rattle.events.specs.declared.verdict.Verdict.TheVariants as verdicts
+use Rattle.word_text.specs.Ends.{end_line}
 use Rattle.line_fields.specs.Writing.{line_text}
 use Rattle.line_fields.specs.Octets.{octets_text, spi_text}
 use Rattle.events.specs.Events.{plain}
@@ -195,10 +196,6 @@ turns_text (turn ∷ past) = turns_text past ++ turn_text (length past + 1) (giv
 abbrev pub report_head : List ℕ
 report_head = line_text (codes "ha-report" ∷ codes "1" ∷ [])
 
--- the last line, after a number of turns
-abbrev pub report_end : ℕ → List ℕ
-report_end turns = line_text (codes "end" ∷ decimal turns ∷ [])
-
 -- the report of turns, the newest first
 abbrev pub report : List Turn → List ℕ
-report turns = report_head ++ turns_text turns ++ report_end (length turns)
+report turns = report_head ++ turns_text turns ++ end_line (length turns)

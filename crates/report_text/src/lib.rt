@@ -3,14 +3,9 @@
 
 mod calls;
 mod event;
-mod fault;
 mod laws;
 mod outcome;
 mod turn;
 
-pub use fault::write_fault;
 pub use laws::turns_repeat_their_lines;
-pub use turn::{write_end, write_head, write_turn};
-
-#[cfg(test)]
-mod tests;
+pub use turn::{write_head, write_turn};

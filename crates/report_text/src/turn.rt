@@ -2,7 +2,7 @@
 
 ghost use Rattle.std.specs.Prelude.{◌≡◌, ◌∷◌, ◌++◌, OnOk, OnErr, IfOk, codes};
 ghost use Rattle.line_fields.specs.Writing.{line_text};
-ghost use Rattle.report_text.specs.Report.{report_end, report_head, title_words, turn_text};
+ghost use Rattle.report_text.specs.Report.{report_head, title_words, turn_text};
 ghost use Rattle.line_fields.specs.Writing.{with_words};
 
 use crate::calls::put_calls;
@@ -67,24 +67,4 @@ pub fn write_head(out: &mut Octets) -> Result<(), Memory>
     ensures err { OnErr result (out.new.octets ≡ out.old.octets) }
 {
     out.extend(b"ha-report 1\n")
-}
-
-#[tactic(auto, using(line_fields::proofs::WritingLaws::line_put))]
-fn end_of(alloc: Global, turns: u64) -> Result<Octets, Memory>
-    ensures { IfOk result (λ text. text.octets ≡ report_end turns) }
-{
-    let mut text = Octets::new(alloc);
-    text.extend(b"end")?;
-    put_number(alloc, &mut text, turns)?;
-    text.push(b'\n')?;
-    Ok(text)
-}
-
-/// Appends a report's last line, after a number of turns. An error is want of memory.
-pub fn write_end(alloc: Global, turns: u64, out: &mut Octets) -> Result<(), Memory>
-    ensures ok { OnOk result (out.new.octets ≡ out.old.octets ++ report_end turns) }
-    ensures err { OnErr result (out.new.octets ≡ out.old.octets) }
-{
-    let text = end_of(alloc, turns)?;
-    out.extend(text.as_slice())
 }

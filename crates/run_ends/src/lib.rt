@@ -10,6 +10,3 @@ mod sends;
 mod settings;
 
 pub use ends::Ends;
-
-#[cfg(test)]
-mod tests;

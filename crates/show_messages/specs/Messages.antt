@@ -6,7 +6,7 @@ use Rattle.line_fields.specs.Octets.{decoded, is_hex}
 use Rattle.line_fields.specs.Fields.{fault_at}
 use Rattle.line_fields.specs.declared.fault.LineFault.{LineFault}
 use Rattle.line_fields.specs.declared.fault.LineReason.TheVariants as reasons
-use Rattle.event_text.specs.declared.place.InputFault.{InputFault}
+use Rattle.input_lines.specs.declared.fault.InputFault.{InputFault}
 use Rattle.show_messages.specs.declared.reader.Place.{Place}
 
 -- what an input holds: the octets of its messages in their order up to its first fault, and the fault

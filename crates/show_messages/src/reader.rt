@@ -4,8 +4,7 @@ ghost use Rattle.std.specs.Prelude.{◌≡◌, ◌≢◌, ◌≤◌, ◌<◌, �
 ghost use Rattle.line_fields.specs.Octets.{decoded, is_hex};
 ghost use Rattle.show_messages.specs.Messages.{left_messages, line_in, messages_of, with_message};
 
-use event_text::InputFault;
-use input_lines::{front_of, is_passed, overlong};
+use input_lines::{InputFault, front_of, is_passed, overlong};
 use line_fields::{LineFault, LineReason, is_hex};
 use std::marker::Model;
 

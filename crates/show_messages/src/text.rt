@@ -8,12 +8,12 @@ ghost use Rattle.show_messages.specs.Messages.{left_messages, messages_of};
 ghost use Rattle.show_messages.specs.Shows.{shown_all};
 
 use crate::reader::MessageReader;
-use event_text::InputFault;
 use ha_base::{Memory, Octets};
+use input_lines::InputFault;
 use line_fields::fill_hex;
 use message_text::write_message;
-use report_text::write_end;
 use std::alloc::Global;
+use word_text::write_end;
 
 /// How many octets a message may have, whose digits are one line.
 const MESSAGE_OCTETS: usize = 8_192;
