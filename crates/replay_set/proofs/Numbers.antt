@@ -1,15 +1,13 @@
 -- The window of a list of numbers.
-use Rattle.std.proofs.Common.{◌≡◌, ◌≢◌, ℕ, zero, suc, ◌+◌, ◌-◌, ◌<◌, ◌≤◌, ◌⊎◌, inl, inr, List, [], ◌∷◌, ◌++◌, Bool, true, false, ◌||◌, ◌==◌, nat_lt, max, map, length, take, set, get_or, replicate, refl, sym, subst, ◌∙◌, arith}
-use Rattle.std.specs.List.{range_with_len, list_any, All, Contains}
-use Rattle.std.proofs.lemmas.List.{length-replicate, length-append, length-set, length-take-le, get_or-take, get_or-set_other, get_or-append_right, get_or_append_left, get_or-replicate, get_or_default, same_lists}
-use Rattle.std.proofs.lemmas.List.FromFn.{get_or-map-range_with_len, length-map-range_with_len}
+use Rattle.std.proofs.Common.{◌≡◌, ℕ, zero, suc, ◌+◌, ◌<◌, ◌≤◌, ◌⊎◌, inl, inr, List, [], ◌∷◌, Bool, true, false, ◌&&◌, ◌||◌, if◌then◌else◌, ◌==◌, nat_lt, max, length, get_or, refl, ap, sym, ◌∙◌, arith}
+use Rattle.std.specs.List.{filter, All, Contains}
+use Rattle.std.proofs.lemmas.List.{get_or_default}
 use Rattle.std.proofs.lemmas.List.Elements.{All-nil, All-cons, All-weaker, All-contains}
 use Rattle.std.proofs.lemmas.List.Folds.{list_any_none, list_any_at}
 use Rattle.std.proofs.lemmas.Bool.Decides.{nat_tests}
 use Rattle.std.proofs.lemmas.Bool.{cases_lt}
-use Rattle.std.proofs.lemmas.Grind.{get_or-set_at}
 use Rattle.replay_set.specs.declared.judgement.Judgement.TheVariants.{Stale, Seen, Fresh}
-use Rattle.replay_set.specs.Window.{Window, is_among, is_stale, is_noted, judged, next_of, window_of}
+use Rattle.replay_set.specs.Window.{Window, in_window, is_among, is_stale, is_noted, judged, next_of, numbers_below, window_of}
 use Rattle.replay_set.specs.Laws.{NotingAddsTheNumber, JudgingByNumbers, TopIsTheGreatest}
 
 -- each number is below the next one
@@ -45,129 +43,98 @@ top_is_greatest base numbers = record {
   least = next_of_least base numbers;
 }
 
--- no number is among those below it
-is_among_none : (numbers : List ℕ) (bound next below : ℕ) → All (λ n. n < bound) numbers → bound + below < next → is_among numbers next below ≡ false
-is_among_none numbers bound next below all h =
-    list_any_none (λ n. n + below + 1 == next) numbers
-    (All-weaker (λ n. n < bound) (λ n. (n + below + 1 == next) ≡ false) (λ n low. unequal n low) numbers all)
+-- two tests that agree in a window pass the same numbers of it
+pub same_passed : (p q : ℕ → Bool) (next size : ℕ) → ((m : ℕ) → m < next → next ≤ m + size → p m ≡ q m) → filter p (numbers_below next size) ≡ filter q (numbers_below next size)
+same_passed p q next zero same = refl
+same_passed p q zero (suc size) same = refl
+same_passed p q (suc n) (suc size) same =
+    let first : p n ≡ q n = same n (omega arith) (omega arith) in
+    let rest : filter p (numbers_below n size) ≡ filter q (numbers_below n size) = same_passed p q n size (λ m low high. same m (omega arith) (omega arith)) in
+    λ i. if first i then n ∷ rest i else rest i
+
+-- another number before some, or not
+skipped : (b : Bool) (n m : ℕ) (numbers : List ℕ) → (n == m) ≡ false → is_among (if b then n ∷ numbers else numbers) m ≡ is_among numbers m
+skipped true n m numbers other = ap (λ d. d || is_among numbers m) other
+skipped false n m numbers other = refl
+
+-- this number before others, or not
+met : (b : Bool) (n m : ℕ) (numbers : List ℕ) → (n == m) ≡ true → is_among numbers m ≡ false → is_among (if b then n ∷ numbers else numbers) m ≡ b
+met true n m numbers this none = ap (λ d. d || is_among numbers m) this
+met false n m numbers this none = none
+
+-- a number that is not below `next` is not among those that pass
+pub passed_above : (p : ℕ → Bool) (next size m : ℕ) → next ≤ m → is_among (filter p (numbers_below next size)) m ≡ false
+passed_above p next zero m h = refl
+passed_above p zero (suc size) m h = refl
+passed_above p (suc n) (suc size) m h =
+    let other : (n == m) ≡ false = grind (arith, nat_tests) in
+    skipped (p n) n m (filter p (numbers_below n size)) other ∙ passed_above p n size m (omega arith)
+
+-- a number in the window is among those that pass exactly where it passes
+pub passed_within : (p : ℕ → Bool) (next size m : ℕ) → m < next → next ≤ m + size → is_among (filter p (numbers_below next size)) m ≡ p m
+passed_within p next zero m low high = absurd (omega arith)
+passed_within p zero (suc size) m low high = absurd (omega arith)
+passed_within p (suc n) (suc size) m low high = go (cases_lt m n) (λ less. passed_within p n size m less (omega arith))
   where
-    unequal : (n : ℕ) → n < bound → (n + below + 1 == next) ≡ false
+    go : (m < n) ⊎ (n ≤ m) → (m < n → is_among (filter p (numbers_below n size)) m ≡ p m) → is_among (filter p (numbers_below (suc n) (suc size))) m ≡ p m
+    go (inl less) rest =
+        let other : (n == m) ≡ false = grind (arith, nat_tests) in
+        skipped (p n) n m (filter p (numbers_below n size)) other ∙ rest less
+    go (inr last) rest =
+        let this : (n == m) ≡ true = grind (arith, nat_tests) in
+        let same : n ≡ m = omega arith in
+        met (p n) n m (filter p (numbers_below n size)) this (passed_above p n size m last) ∙ ap p same
+
+-- no number is among those below it
+among_lower : (numbers : List ℕ) (bound m : ℕ) → All (λ n. n < bound) numbers → bound ≤ m → is_among numbers m ≡ false
+among_lower numbers bound m all h =
+    list_any_none (λ n. n == m) numbers (All-weaker (λ n. n < bound) (λ n. (n == m) ≡ false) (λ n low. unequal n low) numbers all)
+  where
+    unequal : (n : ℕ) → n < bound → (n == m) ≡ false
     unequal n low = grind (arith, nat_tests)
 
--- the same numbers are as far below a next one that is greater by so much
-is_among_moved : (numbers : List ℕ) (next by below : ℕ) → by ≤ below → is_among numbers next (below - by) ≡ is_among numbers (next + by) below
-is_among_moved numbers next by below h =
-    let same : (n : ℕ) → (n + (below - by) + 1 == next) ≡ (n + below + 1 == next + by) = λ n. equal n in
-    λ i. list_any (λ n. same n i) numbers
-  where
-    equal : (n : ℕ) → (n + (below - by) + 1 == next) ≡ (n + below + 1 == next + by)
-    equal n = grind (arith, nat_tests)
-
--- the marks of some numbers, moved up by so much and read
-moved_mark : (numbers : List ℕ) (next by size k : ℕ) (d : Bool) → All (λ n. n < next) numbers → k < size →
-    get_or (replicate by false ++ map (is_among numbers next) (range_with_len 0 size)) k d ≡ is_among numbers (next + by) k
-moved_mark numbers next by size k d all h = go (cases_lt k by)
-  where
-    marks : List Bool
-    marks = map (is_among numbers next) (range_with_len 0 size)
-
-    go : (k < by) ⊎ (by ≤ k) → get_or (replicate by false ++ map (is_among numbers next) (range_with_len 0 size)) k d ≡ is_among numbers (next + by) k
-    go (inl low) =
-        let within : k < length (replicate by false) = omega (arith, length-replicate by false) in
-        get_or_append_left (replicate by false) (map (is_among numbers next) (range_with_len 0 size)) d k within
-        ∙ get_or-replicate by k false d low
-        ∙ sym (is_among_none numbers next (next + by) k all (omega arith))
-    go (inr high) =
-        get_or-append_right (replicate by false) (map (is_among numbers next) (range_with_len 0 size)) by k d (length-replicate by false) high
-        ∙ get_or-map-range_with_len (is_among numbers next) 0 size (k - by) (k - by) d (omega arith) (omega arith)
-        ∙ is_among_moved numbers next by k high
-
-or_false : (b c : Bool) → b ≡ false → (b || c) ≡ c
-or_false b c e = rw e
-
-or_true : (b c : Bool) → b ≡ true → (b || c) ≡ true
-or_true b c e = rw e
-
--- one mark of the window after one number more; `next` is what the numbers give, and `by` how far it moves up
-mark_more : (numbers : List ℕ) (next by n size k : ℕ) (d : Bool) → All (λ m. m < next) numbers → n < next + by → k < size →
-    get_or (take size (set (replicate by false ++ map (is_among numbers next) (range_with_len 0 size)) (next + by - (n + 1)) true)) k d
-    ≡ is_among (n ∷ numbers) (next + by) k
-mark_more numbers next by n size k d all below h =
-    get_or-take size (set (replicate by false ++ map (is_among numbers next) (range_with_len 0 size)) (next + by - (n + 1)) true) k d h
-    ∙ go (cases_lt k (next + by - (n + 1))) (cases_lt (next + by - (n + 1)) k)
-  where
-    other : k ≢ (next + by - (n + 1)) → (n + k + 1 == next + by) ≡ false
-        → get_or (set (replicate by false ++ map (is_among numbers next) (range_with_len 0 size)) (next + by - (n + 1)) true) k d
-        ≡ is_among (n ∷ numbers) (next + by) k
-    other apart unequal =
-        get_or-set_other (replicate by false ++ map (is_among numbers next) (range_with_len 0 size)) (next + by - (n + 1)) k true d apart
-        ∙ moved_mark numbers next by size k d all h
-        ∙ sym (or_false (n + k + 1 == next + by) (is_among numbers (next + by) k) unequal)
-
-    go : (k < next + by - (n + 1)) ⊎ (next + by - (n + 1) ≤ k) → (next + by - (n + 1) < k) ⊎ (k ≤ next + by - (n + 1))
-        → get_or (set (replicate by false ++ map (is_among numbers next) (range_with_len 0 size)) (next + by - (n + 1)) true) k d
-        ≡ is_among (n ∷ numbers) (next + by) k
-    go (inl low) q = other (omega arith) (grind (arith, nat_tests))
-    go p (inl high) = other (omega arith) (grind (arith, nat_tests))
-    go (inr p) (inr q) =
-        let len : length (replicate by false ++ map (is_among numbers next) (range_with_len 0 size)) ≡ by + size =
-        omega (arith, length-append (replicate by false) (map (is_among numbers next) (range_with_len 0 size)), length-replicate by false, length-map-range_with_len (is_among numbers next) 0 size) in
-        get_or-set_at (replicate by false ++ map (is_among numbers next) (range_with_len 0 size)) (next + by - (n + 1)) k true d (omega arith) (omega arith)
-        ∙ sym (or_true (n + k + 1 == next + by) (is_among numbers (next + by) k) (grind (arith, nat_tests)))
-
--- the marks of the window after one number more
-marks_more : (numbers : List ℕ) (next by n size : ℕ) → All (λ m. m < next) numbers → n < next + by →
-    take size (set (replicate by false ++ map (is_among numbers next) (range_with_len 0 size)) (next + by - (n + 1)) true)
-    ≡ map (is_among (n ∷ numbers) (next + by)) (range_with_len 0 size)
-marks_more numbers next by n size all below =
-    same_lists (take size (set (replicate by false ++ map (is_among numbers next) (range_with_len 0 size)) (next + by - (n + 1)) true)) (map (is_among (n ∷ numbers) (next + by)) (range_with_len 0 size))
-    (left ∙ sym (length-map-range_with_len (is_among (n ∷ numbers) (next + by)) 0 size))
-    (λ k d h. let in' : k < size = omega (arith, left) in
-    mark_more numbers next by n size k d all below in'
-    ∙ sym (get_or-map-range_with_len (is_among (n ∷ numbers) (next + by)) 0 size k k d in' (omega arith)))
-  where
-    left : length (take size (set (replicate by false ++ map (is_among numbers next) (range_with_len 0 size)) (next + by - (n + 1)) true)) ≡ size
-    left = length-take-le size (set (replicate by false ++ map (is_among numbers next) (range_with_len 0 size)) (next + by - (n + 1)) true)
-        (omega (arith, length-set (replicate by false ++ map (is_among numbers next) (range_with_len 0 size)) (next + by - (n + 1)) true, length-append (replicate by false) (map (is_among numbers next) (range_with_len 0 size)), length-replicate by false, length-map-range_with_len (is_among numbers next) 0 size))
-
-pub noting_adds : NotingAddsTheNumber
-noting_adds size base numbers n =
-    let moved : next_of base numbers + (max (next_of base numbers) (n + 1) - next_of base numbers) ≡ max (next_of base numbers) (n + 1) = omega arith in
-    let P : ℕ → Type 0 = λ next.
-    take size (set (replicate (max (next_of base numbers) (n + 1) - next_of base numbers) false ++ map (is_among numbers (next_of base numbers)) (range_with_len 0 size)) (next - (n + 1)) true)
-    ≡ map (is_among (n ∷ numbers) next) (range_with_len 0 size) in
-    let same : P (max (next_of base numbers) (n + 1)) =
-    subst P moved (marks_more numbers (next_of base numbers) (max (next_of base numbers) (n + 1) - next_of base numbers) n size (All-next_of base numbers) (omega arith)) in
-    λ i. record { size = size; base = base; next = max (next_of base numbers) (n + 1); marks = same i }
-
 -- a number is among some exactly where they contain it
-Contains-is_among : (numbers : List ℕ) (next n : ℕ) → n < next → Contains numbers n → is_among numbers next (next - 1 - n) ≡ true
-Contains-is_among numbers next n low (k, within, e) =
-    list_any_at (λ m. m + (next - 1 - n) + 1 == next) numbers k n within (rw e (grind (arith, nat_tests)))
+Contains-is_among : (numbers : List ℕ) (n : ℕ) → Contains numbers n → is_among numbers n ≡ true
+Contains-is_among numbers n (k, within, e) = list_any_at (λ m. m == n) numbers k n within (rw e (grind (arith, nat_tests)))
 
-is_among-not_Contains : (numbers : List ℕ) (next n : ℕ) → n < next → ¬ Contains numbers n → is_among numbers next (next - 1 - n) ≡ false
-is_among-not_Contains numbers next n low absent =
-    list_any_none (λ m. m + (next - 1 - n) + 1 == next) numbers (λ k d within. unequal k d within (cases_lt (get_or numbers k d) n) (cases_lt n (get_or numbers k d)))
+is_among-not_Contains : (numbers : List ℕ) (n : ℕ) → ¬ Contains numbers n → is_among numbers n ≡ false
+is_among-not_Contains numbers n absent = list_any_none (λ m. m == n) numbers (λ k d within. unequal k d within (cases_lt (get_or numbers k d) n) (cases_lt n (get_or numbers k d)))
   where
-    unequal : (k : ℕ) (d : ℕ) → k < length numbers → (get_or numbers k d < n) ⊎ (n ≤ get_or numbers k d) → (n < get_or numbers k d) ⊎ (get_or numbers k d ≤ n)
-        → (get_or numbers k d + (next - 1 - n) + 1 == next) ≡ false
+    unequal : (k : ℕ) (d : ℕ) → k < length numbers → (get_or numbers k d < n) ⊎ (n ≤ get_or numbers k d) → (n < get_or numbers k d) ⊎ (get_or numbers k d ≤ n) → (get_or numbers k d == n) ≡ false
     unequal k d within (inl p) q = grind (arith, nat_tests)
     unequal k d within p (inl q) = grind (arith, nat_tests)
     unequal k d within (inr p) (inr q) = absurd (absent (k, within, get_or_default numbers k n d within ∙ omega arith))
 
--- what is noted in the window of some numbers
-is_noted-window_of : (size base : ℕ) (numbers : List ℕ) (n : ℕ) → n < next_of base numbers → next_of base numbers ≤ n + size →
-    is_noted (window_of size base numbers) n ≡ is_among numbers (next_of base numbers) (next_of base numbers - 1 - n)
-is_noted-window_of size base numbers n low high =
-    let mark : get_or (map (is_among numbers (next_of base numbers)) (range_with_len 0 size)) (next_of base numbers - 1 - n) false ≡ is_among numbers (next_of base numbers) (next_of base numbers - 1 - n) =
-    get_or-map-range_with_len (is_among numbers (next_of base numbers)) 0 size (next_of base numbers - 1 - n) (next_of base numbers - 1 - n) false (omega arith) (omega arith) in
-    let below : nat_lt n (next_of base numbers) ≡ true = grind (arith, nat_tests) in
-    rw (below, mark)
+-- a number more, and those that a test passed in the window before: a number of the window moved up is among these
+-- exactly where it is this one, or was in the window before and passed
+pub with_one_more : (p : ℕ → Bool) (next size n m : ℕ) → next ≤ m + size → (m < next) ⊎ (next ≤ m) →
+    is_among (n ∷ filter p (numbers_below next size)) m ≡ ((n == m) || (nat_lt m next && p m))
+with_one_more p next size n m high (inl low) =
+    let below : nat_lt m next ≡ true = grind (arith, nat_tests) in
+    rw below (ap (λ b. (n == m) || b) (passed_within p next size m low high))
+with_one_more p next size n m high (inr above) =
+    let beyond : nat_lt m next ≡ false = grind (arith, nat_tests) in
+    rw beyond (ap (λ b. (n == m) || b) (passed_above p next size m above))
 
-is_noted-above : (window : Window) (n : ℕ) → window.next ≤ n → is_noted window n ≡ false
-is_noted-above window n h =
-    let above : nat_lt n window.next ≡ false = grind (arith, nat_tests) in
-    rw above
+pub noting_adds : NotingAddsTheNumber
+noting_adds size base numbers n =
+    let same : in_window size (max (next_of base numbers) (n + 1)) (n ∷ in_window size (next_of base numbers) numbers) ≡ in_window size (max (next_of base numbers) (n + 1)) (n ∷ numbers) =
+    same_passed (is_among (n ∷ in_window size (next_of base numbers) numbers)) (is_among (n ∷ numbers)) (max (next_of base numbers) (n + 1)) size
+    (λ m low high. ap (λ b. (n == m) || b) (either m (omega arith) (cases_lt m (next_of base numbers)))) in
+    λ i. record { size = size; base = base; next = max (next_of base numbers) (n + 1); noted = same i }
+  where
+    either : (m : ℕ) → next_of base numbers ≤ m + size → (m < next_of base numbers) ⊎ (next_of base numbers ≤ m) → is_among (in_window size (next_of base numbers) numbers) m ≡ is_among numbers m
+    either m high (inl low) = passed_within (is_among numbers) (next_of base numbers) size m low high
+    either m high (inr above) =
+        passed_above (is_among numbers) (next_of base numbers) size m above ∙ sym (among_lower numbers (next_of base numbers) m (All-next_of base numbers) above)
+
+-- a number that a window finds fresh is not below the window, and not below the base
+pub fresh_reached : (window : Window) (n : ℕ) → judged window n ≡ Fresh → (window.base ≤ n) × (window.next ≤ n + window.size)
+fresh_reached window n fresh = go (is_stale window n) refl
+  where
+    go : (b : Bool) → is_stale window n ≡ b → (window.base ≤ n) × (window.next ≤ n + window.size)
+    go false t = grind (arith, nat_tests)
+    go true t = let stale : judged window n ≡ Stale = rw t in absurd (cc)
 
 pub judged-below_base : (window : Window) (n : ℕ) → n < window.base → judged window n ≡ Stale
 judged-below_base window n h =
@@ -196,11 +163,11 @@ judging_by size base numbers n = record {
   noted = λ from within has.
       let low : n < next_of base numbers = All-contains (λ m. m < next_of base numbers) numbers n (All-next_of base numbers) has in
       judged-noted (window_of size base numbers) n from within
-      (is_noted-window_of size base numbers n low within ∙ Contains-is_among numbers (next_of base numbers) n low has);
+      (passed_within (is_among numbers) (next_of base numbers) size n low within ∙ Contains-is_among numbers n has);
   not_noted = λ from within absent.
       judged-not_noted (window_of size base numbers) n from within (unnoted within absent (cases_lt n (next_of base numbers)));
 }
   where
     unnoted : next_of base numbers ≤ n + size → ¬ Contains numbers n → (n < next_of base numbers) ⊎ (next_of base numbers ≤ n) → is_noted (window_of size base numbers) n ≡ false
-    unnoted within absent (inl low) = is_noted-window_of size base numbers n low within ∙ is_among-not_Contains numbers (next_of base numbers) n low absent
-    unnoted within absent (inr high) = is_noted-above (window_of size base numbers) n high
+    unnoted within absent (inl low) = passed_within (is_among numbers) (next_of base numbers) size n low within ∙ is_among-not_Contains numbers n absent
+    unnoted within absent (inr high) = passed_above (is_among numbers) (next_of base numbers) size n high

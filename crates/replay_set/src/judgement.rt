@@ -3,8 +3,8 @@
 pub enum Judgement {
     /// Below the base or below the window, so that nothing is known of it.
     Stale,
-    /// Received before.
+    /// Noted before.
     Seen,
-    /// Not received before.
+    /// Not noted before.
     Fresh,
 }

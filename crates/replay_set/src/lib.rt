@@ -6,13 +6,14 @@
 
 mod judgement;
 mod laws;
+mod ring;
 mod set;
 
 pub use judgement::Judgement;
 pub use laws::{
     judging_by_numbers, meaning_is_unique, noting_adds_the_number, top_is_the_greatest,
 };
-pub use set::ReplaySet;
+pub use set::{ReplaySet, SEQUENCE_END};
 
 #[cfg(test)]
 mod tests;

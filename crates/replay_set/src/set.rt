@@ -1,14 +1,13 @@
-ghost use Rattle.std.specs.Prelude.{◌≡◌, ℕ, ◌^◌, ◌<◌, ◌≤◌, ◌++◌, [], false, take, replicate, IfSome, IfNone, SomeIff};
-ghost use Rattle.replay_set.specs.Window.{IsWindowSize, IsMeant, judged, with_noted, window_of};
+ghost use Rattle.std.specs.Prelude.{◌≡◌, ℕ, ◌+◌, ◌<◌, ◌≤◌, [], IfSome, IfNone, SomeIff};
+ghost use Rattle.replay_set.specs.Window.{IsWindowSize, IsMeant, is_noted, judged, with_noted, window_of};
+ghost use Rattle.replay_set.specs.declared.set.TheConstants.{SEQUENCE_END};
 
 use super::judgement::Judgement;
+use super::ring::Ring;
 use std::marker::Model;
 
-/// How many numbers the largest window has.
-const PLACES: usize = 1024;
-
 /// Sequence numbers are below this one.
-const END: u64 = 1 << 63;
+pub const SEQUENCE_END: u64 = 1 << 63;
 
 /// A receive window: which of the newest sequence numbers were noted.
 ///
@@ -19,17 +18,23 @@ pub struct ReplaySet {
     base: u64,
     // one above the greatest noted number, or the base where none was noted
     next: u64,
-    // whether the numbers below `next` were noted, the greatest first
-    marks: [bool; PLACES],
+    // which of the numbers below `next` were noted
+    ring: Ring,
 }
 
 impl Model for ReplaySet {
-    ghost use Rattle.std.specs.Prelude.{◌≤◌, take};
-    ghost use Rattle.replay_set.specs.Window.{Window};
+    ghost use Rattle.std.specs.Prelude.{◌≤◌, filter};
+    ghost use Rattle.replay_set.specs.Ring.{is_marked};
+    ghost use Rattle.replay_set.specs.Window.{Window, numbers_below};
 
     ghost Value = { Window };
 
-    ghost view = { λ s. record { size = s.window; base = s.base; next = s.next; marks = take s.window s.marks } };
+    ghost view = { λ s. record {
+      size = s.window;
+      base = s.base;
+      next = s.next;
+      noted = filter (is_marked s.ring.words) (numbers_below s.next s.window);
+    } };
 
     ghost invariant = { λ s. s.window ≤ 1024 };
 }
@@ -46,7 +51,7 @@ impl ReplaySet {
                 window,
                 base,
                 next: base,
-                marks: no_marks(),
+                ring: Ring::new(),
             }),
             _ => None,
         }
@@ -56,68 +61,52 @@ impl ReplaySet {
     /// 2^32 numbers from the least of the window on. None exactly where it is below zero or at or above 2^63.
     pub fn meant(&self, low32: u32) -> Option<u64>
         ensures found { IfSome result (λ n. IsMeant self.now low32 n) }
-        ensures none { IfNone result ((n : ℕ) → IsMeant self.now low32 n → 2 ^ 63 ≤ n) }
-        ensures below { IfSome result (λ n. n < 2 ^ 63) }
+        ensures none { IfNone result ((n : ℕ) → IsMeant self.now low32 n → SEQUENCE_END ≤ n) }
+        ensures below { IfSome result (λ n. n < SEQUENCE_END) }
     {
         let ahead = low32
             .wrapping_add(self.window)
             .wrapping_sub((self.next % (1 << 32)) as u32);
         let above = self.next.checked_add(u64::from(ahead))?;
         let number = above.checked_sub(u64::from(self.window))?;
-        if number < END { Some(number) } else { None }
+        if number < SEQUENCE_END {
+            Some(number)
+        } else {
+            None
+        }
     }
 
     /// What the window says of a number.
     pub fn judge(&self, n: u64) -> Judgement
         ensures { result ≡ judged self.now n }
     {
-        if n < self.base {
-            return Judgement::Stale;
-        }
-        if n >= self.next {
-            return Judgement::Fresh;
-        }
-        let place = self.next - 1 - n;
-        if place >= u64::from(self.window) {
+        if n < self.base || self.next.saturating_sub(n) > u64::from(self.window) {
             Judgement::Stale
-        } else if self.marks[place as usize] {
+        } else if self.has(n) {
             Judgement::Seen
         } else {
             Judgement::Fresh
         }
     }
 
-    /// Notes a number as received. The window moves up to it where it is above all the others.
+    /// Whether a number that is not below the window was noted.
+    fn has(&self, n: u64) -> bool
+        requires { self.now.next ≤ n + self.now.size }
+        ensures { result ≡ is_noted self.now n }
+    {
+        n < self.next && self.ring.has(n)
+    }
+
+    /// Notes a number. The window moves up to it where it is above all the others.
     pub fn note(&mut self, n: u64)
         requires fresh { judged self.old n ≡ Judgement.Fresh }
-        requires below_the_end { n < 2 ^ 63 }
+        requires below_the_end { n < SEQUENCE_END }
         ensures { self.new ≡ with_noted self.old n }
     {
         if n >= self.next {
-            let advance = n + 1 - self.next;
-            move_up(&mut self.marks, advance);
+            self.ring.clear(self.next, n + 1);
             self.next = n + 1;
         }
-        let place = self.next - 1 - n;
-        self.marks[place as usize] = true;
+        self.ring.mark(n);
     }
-}
-
-fn no_marks() -> [bool; PLACES]
-    ensures { result ≡ replicate 1024 false }
-{
-    [false; PLACES]
-}
-
-/// Moves the marks away from the front by so many places, and fills these with false.
-fn move_up(marks: &mut [bool; PLACES], by: u64)
-    ensures { marks.new ≡ take 1024 (replicate by false ++ marks.old) }
-{
-    if by >= PLACES as u64 {
-        marks.fill(false);
-        return;
-    }
-    let by = by as usize;
-    marks.rotate_right(by);
-    marks[..by].fill(false);
 }
