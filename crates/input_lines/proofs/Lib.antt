@@ -1,3 +1,4 @@
 pub mod FrontLaws
 pub mod LimitLaws
 pub mod FirstLines
+mod PieceLaws
