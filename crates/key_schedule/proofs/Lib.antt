@@ -1,4 +1,4 @@
 pub mod Prefixes
 pub mod Parts
 pub mod Differences
-pub mod Vectors
+pub mod KeySizes

@@ -4,8 +4,9 @@ use Rattle.std.specs.List.{zip}
 use Rattle.std.specs.Int.{w64, to_be_bytes}
 use Rattle.key_schedule.specs.Hmac.{hmac}
 
--- the content of an AUTH payload (RFC 5723, section 5.1): prf (SK_p, message | nonce | prf (SK_p, ID body)),
--- where message and nonce are RealMessage1 and NonceRData of RFC 7296, section 2.15, or the other two
+-- the content of an AUTH payload of a resumption (RFC 5723, section 4.3.3, with the keys of section
+-- 5.1): prf (SK_p, message | nonce | prf (SK_p, ID body)), where message and nonce are RealMessage1
+-- and NonceRData of RFC 7296, section 2.15, or the other two
 abbrev pub auth_code : List ℕ → List ℕ → List ℕ → List ℕ → List ℕ
 auth_code sk_p message nonce id_body = hmac sk_p (message ++ nonce ++ hmac sk_p id_body)
 

@@ -15,9 +15,10 @@ abbrev pub block_key : List ℕ → List ℕ
 block_key key = padded_block (short_key key)
 
 -- each octet exclusive-or the mask
-unfoldable pub masked : ℕ → List ℕ → List ℕ
-masked mask octets = map (λ octet. bit_xor octet mask) octets
+unfoldable pub masked_octets : ℕ → List ℕ → List ℕ
+masked_octets mask octets = map (λ octet. bit_xor octet mask) octets
 
--- H(K XOR opad, H(K XOR ipad, text))
+-- H(K XOR opad, H(K XOR ipad, text)), where opad is 0x5c and ipad 0x36 at each octet
 unfoldable pub hmac : List ℕ → List ℕ → List ℕ
-hmac key text = sha256 (masked 0x5c (block_key key) ++ sha256 (masked 0x36 (block_key key) ++ text))
+hmac key text =
+    sha256 (masked_octets 0x5c (block_key key) ++ sha256 (masked_octets 0x36 (block_key key) ++ text))

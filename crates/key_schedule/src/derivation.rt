@@ -1,21 +1,11 @@
 ghost use Rattle.std.specs.Prelude.{◌≡◌, ◌+◌, ◌*◌, ◌≤◌, ◌++◌, length};
 ghost use Rattle.std.specs.Int.{w64, to_be_bytes};
-ghost use Rattle.key_schedule.specs.Keys.{sealing_size, skeyseed, nonces_and_spis, sa_stream, sa_keys, keymat, keys_of_child};
+ghost use Rattle.ha_base.specs.KeySizes.{sealing_octets};
+ghost use Rattle.key_schedule.specs.Keys.{skeyseed, nonces_and_spis, sa_stream, sa_keys, keymat, keys_of_child};
 
 use crate::expansion::prf_plus;
 use crate::mac::hmac_of_parts;
 use ha_base::{ChildKeys, KeySize, OctetList, SaKeys};
-
-// The octets of a sealing key, with its salt.
-fn sealing_size(size: KeySize) -> usize
-    ensures value { result ≡ sealing_size size }
-    ensures within { result ≤ 36 }
-{
-    match size {
-        KeySize::Bits128 => 20,
-        KeySize::Bits256 => 36,
-    }
-}
 
 fn key_of(octets: &[u8]) -> [u8; 32]
     requires { length octets.now ≡ 32 }
@@ -63,39 +53,39 @@ fn joined_seed(ni: &[u8; 32], nr: &[u8; 32], spii: u64, spir: u64) -> [u8; 80]
     seed
 }
 
-fn split_sa_keys(stream: &[u8], e: usize) -> SaKeys
-    requires within { e ≤ 36 }
-    requires whole { length stream.now ≡ 96 + 2 * e }
-    ensures keys { result ≡ sa_keys e stream.now }
+fn split_sa_keys(stream: &[u8], key_octets: usize) -> SaKeys
+    requires within { key_octets ≤ 36 }
+    requires whole { length stream.now ≡ 96 + 2 * key_octets }
+    ensures keys { result ≡ sa_keys key_octets stream.now }
     ensures stream { result.sk_d ++ result.sk_ei ++ result.sk_er ++ result.sk_pi ++ result.sk_pr ≡ stream.now }
-    ensures initiator_size { length result.sk_ei ≡ e }
-    ensures responder_size { length result.sk_er ≡ e }
+    ensures initiator_size { length result.sk_ei ≡ key_octets }
+    ensures responder_size { length result.sk_er ≡ key_octets }
 {
     SaKeys {
         sk_d: key_of(&stream[..32]),
-        sk_ei: OctetList::from_slice(&stream[32..32 + e]),
-        sk_er: OctetList::from_slice(&stream[32 + e..32 + 2 * e]),
-        sk_pi: key_of(&stream[32 + 2 * e..64 + 2 * e]),
-        sk_pr: key_of(&stream[64 + 2 * e..96 + 2 * e]),
+        sk_ei: OctetList::from_slice(&stream[32..32 + key_octets]),
+        sk_er: OctetList::from_slice(&stream[32 + key_octets..32 + 2 * key_octets]),
+        sk_pi: key_of(&stream[32 + 2 * key_octets..64 + 2 * key_octets]),
+        sk_pr: key_of(&stream[64 + 2 * key_octets..96 + 2 * key_octets]),
     }
 }
 
-fn split_child_keys(stream: &[u8], e: usize) -> ChildKeys
-    requires within { e ≤ 36 }
-    requires whole { length stream.now ≡ 2 * e }
-    ensures keys { result ≡ keys_of_child e stream.now }
+fn split_child_keys(stream: &[u8], key_octets: usize) -> ChildKeys
+    requires within { key_octets ≤ 36 }
+    requires whole { length stream.now ≡ 2 * key_octets }
+    ensures keys { result ≡ keys_of_child key_octets stream.now }
     ensures stream { result.to_cluster ++ result.to_peer ≡ stream.now }
-    ensures to_cluster_size { length result.to_cluster ≡ e }
-    ensures to_peer_size { length result.to_peer ≡ e }
+    ensures to_cluster_size { length result.to_cluster ≡ key_octets }
+    ensures to_peer_size { length result.to_peer ≡ key_octets }
 {
     ChildKeys {
-        to_cluster: OctetList::from_slice(&stream[..e]),
-        to_peer: OctetList::from_slice(&stream[e..2 * e]),
+        to_cluster: OctetList::from_slice(&stream[..key_octets]),
+        to_peer: OctetList::from_slice(&stream[key_octets..2 * key_octets]),
     }
 }
 
-/// The keys of a resumed association (RFC 5723, section 5.1), from the SK_d of the old one, the new
-/// nonces and the new SPIs.
+/// The keys of a resumed IKE SA (RFC 5723, section 5.1), from the SK_d of the old one, the new nonces
+/// and the new SPIs.
 pub fn resumed_keys(
     old_sk_d: &[u8; 32],
     size: KeySize,
@@ -104,39 +94,39 @@ pub fn resumed_keys(
     spii: u64,
     spir: u64,
 ) -> SaKeys
-    ensures keys { let e = sealing_size size in
-        result ≡ sa_keys e (sa_stream e old_sk_d.now ni.now nr.now spii spir) }
+    ensures keys { let key_octets = sealing_octets size in
+        result ≡ sa_keys key_octets (sa_stream key_octets old_sk_d.now ni.now nr.now spii spir) }
 
     // The keys are the stream, one after the other.
     ensures stream { result.sk_d ++ result.sk_ei ++ result.sk_er ++ result.sk_pi ++ result.sk_pr
-        ≡ sa_stream (sealing_size size) old_sk_d.now ni.now nr.now spii spir }
-    ensures initiator_size { length result.sk_ei ≡ sealing_size size }
-    ensures responder_size { length result.sk_er ≡ sealing_size size }
+        ≡ sa_stream (sealing_octets size) old_sk_d.now ni.now nr.now spii spir }
+    ensures initiator_size { length result.sk_ei ≡ sealing_octets size }
+    ensures responder_size { length result.sk_er ≡ sealing_octets size }
 {
-    let e = sealing_size(size);
+    let key_octets = size.sealing_octets();
     let secret = hmac_of_parts(old_sk_d, b"Resumption", ni, nr);
     let seed = joined_seed(ni, nr, spii, spir);
     let mut space = [0; 168];
-    let stream = &mut space[..96 + 2 * e];
+    let stream = &mut space[..96 + 2 * key_octets];
     prf_plus(&secret, &seed, stream);
-    split_sa_keys(stream, e)
+    split_sa_keys(stream, key_octets)
 }
 
-/// The keys of the child association that is made with an IKE association, without a key exchange
-/// of its own (RFC 7296, section 2.17). The peer is the initiator.
+/// The keys of the Child SA that is made with an IKE SA, without a key exchange of its own (RFC 7296,
+/// section 2.17). The peer is the initiator.
 pub fn child_keys(sk_d: &[u8; 32], size: KeySize, ni: &[u8; 32], nr: &[u8; 32]) -> ChildKeys
-    ensures keys { let e = sealing_size size in
-        result ≡ keys_of_child e (keymat e sk_d.now ni.now nr.now) }
+    ensures keys { let key_octets = sealing_octets size in
+        result ≡ keys_of_child key_octets (keymat key_octets sk_d.now ni.now nr.now) }
 
     // The keys are the key material, one after the other.
-    ensures stream { result.to_cluster ++ result.to_peer ≡ keymat (sealing_size size) sk_d.now ni.now nr.now }
-    ensures to_cluster_size { length result.to_cluster ≡ sealing_size size }
-    ensures to_peer_size { length result.to_peer ≡ sealing_size size }
+    ensures stream { result.to_cluster ++ result.to_peer ≡ keymat (sealing_octets size) sk_d.now ni.now nr.now }
+    ensures to_cluster_size { length result.to_cluster ≡ sealing_octets size }
+    ensures to_peer_size { length result.to_peer ≡ sealing_octets size }
 {
-    let e = sealing_size(size);
+    let key_octets = size.sealing_octets();
     let seed = joined_nonces(ni, nr);
     let mut space = [0; 72];
-    let stream = &mut space[..2 * e];
+    let stream = &mut space[..2 * key_octets];
     prf_plus(sk_d, &seed, stream);
-    split_child_keys(stream, e)
+    split_child_keys(stream, key_octets)
 }

@@ -1,6 +1,6 @@
 //! The key schedule of a resumed association: HMAC with SHA-256 (RFC 2104), prf+ (RFC 7296,
-//! section 2.13), the keys of a resumption (RFC 5723, section 5.1) and of its child association
-//! (RFC 7296, section 2.17), and the codes that are made with them.
+//! section 2.13), the keys of a resumption (RFC 5723, section 5.1) and of its Child SA (RFC 7296,
+//! section 2.17), and the codes that are made with them.
 //!
 //! No call takes memory.
 #![tactic(auto)]
@@ -8,6 +8,7 @@
 mod codes;
 mod derivation;
 mod expansion;
+pub mod known_answers;
 mod mac;
 #[cfg(test)]
 mod tests;

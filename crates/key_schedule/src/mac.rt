@@ -1,5 +1,5 @@
 ghost use Rattle.std.specs.Prelude.{◌≡◌, ◌≤◌, ◌++◌, length};
-ghost use Rattle.key_schedule.specs.Hmac.{padded_block, block_key, masked, hmac};
+ghost use Rattle.key_schedule.specs.Hmac.{padded_block, block_key, masked_octets, hmac};
 
 use sha2::{Digest, Sha256};
 
@@ -32,8 +32,8 @@ fn block_key(key: &[u8]) -> [u8; BLOCK]
     }
 }
 
-fn masked(block: &[u8; BLOCK], mask: u8) -> [u8; BLOCK]
-    ensures { result ≡ masked mask block.now }
+fn masked_octets(block: &[u8; BLOCK], mask: u8) -> [u8; BLOCK]
+    ensures { result ≡ masked_octets mask block.now }
 {
     let mut out = *block;
     for octet in out.iter_mut() {
@@ -47,14 +47,14 @@ pub fn hmac_of_parts(key: &[u8], first: &[u8], second: &[u8], third: &[u8]) -> [
     ensures { result ≡ hmac key.now (first.now ++ second.now ++ third.now) }
 {
     let block = block_key(key);
-    let inner_block = masked(&block, INNER_PAD);
+    let inner_block = masked_octets(&block, INNER_PAD);
     let mut inner = Sha256::new();
     inner.update(&inner_block);
     inner.update(first);
     inner.update(second);
     inner.update(third);
     let inner_digest = inner.finalize();
-    let outer_block = masked(&block, OUTER_PAD);
+    let outer_block = masked_octets(&block, OUTER_PAD);
     let mut outer = Sha256::new();
     outer.update(&outer_block);
     outer.update(&inner_digest);

@@ -10,7 +10,7 @@ key_of-requires c = length-take-le 32 c.args.stream.now (omega arith)
 
 pub returns-clause-stream : goal.returns-clause-stream
 returns-clause-stream c =
-    let e = c.args.e in
+    let key_octets = c.args.key_octets in
     (λ i. c.key_of.ensures i ++ c.from_slice.ensures i ++ c.from_slice-2.ensures i ++ c.key_of-2.ensures i ++ c.key_of-3.ensures i)
-    ∙ five_parts c.args.stream.now 32 (32 + e) (32 + 2 * e) (64 + 2 * e) (96 + 2 * e)
+    ∙ five_parts c.args.stream.now 32 (32 + key_octets) (32 + 2 * key_octets) (64 + 2 * key_octets) (96 + 2 * key_octets)
     (omega arith) (omega arith) (omega arith) (omega arith) (omega arith)

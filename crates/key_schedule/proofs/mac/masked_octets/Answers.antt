@@ -2,8 +2,8 @@ use Rattle.std.proofs.Common.{◌<◌, ◌≤◌, ◌++◌, length, ◌∙◌, t
 use Rattle.std.specs.Prelude.{map, bit_xor}
 use Rattle.std.proofs.lemmas.List.{drop_all, append-nil, get_or_default, length-map}
 use Rattle.std.proofs.lemmas.List.Edits.{map_over_more}
-use Rattle.key_schedule.specs.Hmac.{masked}
-use Rattle.key_schedule.proofs.mac.masked.Goals as goal
+use Rattle.key_schedule.specs.Hmac.{masked_octets}
+use Rattle.key_schedule.proofs.mac.masked_octets.Goals as goal
 
 pub loop-octet-preserved : goal.loop-octet-preserved
 loop-octet-preserved c =
@@ -15,7 +15,7 @@ loop-octet-preserved c =
     c.loop-octet.invariant (get_or_default ys i 0 (get_or ys i 0) within)
 
 pub returns : goal.returns
-unfolding masked
+unfolding masked_octets
 returns c =
     let xs = c.args.block.now in
     let all : length xs ≤ c.loop-octet.octet-index = omega arith in
