@@ -1,5 +1,8 @@
+pub mod Keeping
 pub mod Lows
 pub mod Orders
+pub mod Putting
+pub mod Rings
 pub mod Rising
-pub mod Rows
+pub mod Slots
 pub mod Windows

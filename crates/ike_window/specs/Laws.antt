@@ -1,40 +1,52 @@
 -- What is kept of the responses that were stored, and what that says of a request.
-use Rattle.std.specs.Prelude.{◌≡◌, ℕ, ◌+◌, ◌-◌, ◌^◌, ◌<◌, ◌≤◌, ◌⊎◌, ◌↔◌, max, List, ◌∷◌, Contains}
-use Rattle.ike_window.specs.Answers.{answers_of, judged, low_of, raised, with_response}
-use Rattle.ike_window.specs.Kept.{Kept, ids_of, octets_of}
-use Rattle.ike_window.specs.declared.judged.Judged.{Judged}
-use Rattle.ike_window.specs.declared.judged.Judged.TheVariants.{Ahead, New, Old, Repeat}
+use Rattle.std.specs.Prelude.{◌≡◌, ℕ, ◌+◌, ◌≤◌, ◌↔◌, max, List, [], ◌∷◌, filter, Contains}
+use Rattle.ike_window.specs.declared.TheConstants.{WINDOW}
+use Rattle.ike_window.specs.Kept.{KeptMessage, by_message_id, message_ids_of, octets_of}
+use Rattle.ike_window.specs.Requests.{IsLeastFree}
+use Rattle.ike_window.specs.Windows.{IsAnswered, Jumps, ResponseWindow, Stores, is_repeatable}
 
--- the least number from n on that is not among the identifiers
-pub record IsLeastFree (n : ℕ) (ids : List ℕ) (low : ℕ) : Type 0 where
-  pub from : n ≤ low
-  pub taken : (m : ℕ) → n ≤ m → m < low → Contains ids m
-  pub free : ¬ Contains ids low
+-- what is kept of all responses that were stored, the newest first, where this is the floor
+pub record IsWindowOf (floor : ℕ) (stored : List KeptMessage) (window : ResponseWindow) :
+    Type 0 where
+  pub same_floor : window.floor ≡ floor
+  pub low : IsLeastFree floor (Contains (message_ids_of stored)) window.low
+  pub responses :
+      window.responses ≡ filter (is_repeatable floor window.low) (by_message_id stored)
 
-abbrev pub LowIsTheLeastFree : Type 0
-LowIsTheLeastFree = (n : ℕ) (ids : List ℕ) → IsLeastFree n ids (low_of n ids)
+abbrev pub NothingIsStored : Type 0
+NothingIsStored =
+    (floor : ℕ) → IsWindowOf floor [] (record { floor = floor; low = floor; responses = [] })
 
 abbrev pub StoringAddsTheResponse : Type 0
 StoringAddsTheResponse =
-    (floor : ℕ) (stored : List Kept) (response : Kept) → with_response response (answers_of floor stored) ≡ answers_of floor (response ∷ stored)
+    (floor : ℕ) (stored : List KeptMessage) (response : KeptMessage) (old new : ResponseWindow) →
+    IsWindowOf floor stored old → Stores response old new → IsWindowOf floor (response ∷ stored) new
 
 abbrev pub JumpingRaisesTheFloor : Type 0
 JumpingRaisesTheFloor =
-    (floor to : ℕ) (stored : List Kept) → raised to (answers_of floor stored) ≡ answers_of (max floor to) stored
+    (floor to : ℕ) (stored : List KeptMessage) (old new : ResponseWindow) →
+    IsWindowOf floor stored old → Jumps to old new → IsWindowOf (max floor to) stored new
 
--- a request is judged by the floor, the least identifier without a response from there on, and the identifiers with one
-pub record IsJudgedBy (floor : ℕ) (ids : List ℕ) (id : ℕ) (judgement : Judged) : Type 0 where
-  pub new : (judgement ≡ New) ↔ ((low_of floor ids ≤ id) × (id < low_of floor ids + 8) × (¬ Contains ids id) × (id < 2 ^ 32 - 1))
-  pub repeated : (judgement ≡ Repeat) ↔ (Contains ids id × (floor ≤ id) × (low_of floor ids ≤ id + 8))
-  pub ahead : ¬ Contains ids id → (low_of floor ids + 8 ≤ id) ⊎ (id ≡ 2 ^ 32 - 1) → judgement ≡ Ahead
-  pub below : id < 2 ^ 32 - 1 → (id < floor) ⊎ (id + 8 < low_of floor ids) → judgement ≡ Old
-
-abbrev pub JudgingByIdentifiers : Type 0
-JudgingByIdentifiers =
-    (floor : ℕ) (stored : List Kept) (id : ℕ) → IsJudgedBy floor (ids_of stored) id (judged (answers_of floor stored) id)
+-- from the floor on, the Message IDs that were answered are those to which a response was stored
+abbrev pub AnsweredAreStored : Type 0
+AnsweredAreStored =
+    (floor : ℕ) (stored : List KeptMessage) (window : ResponseWindow) (id : ℕ) →
+    IsWindowOf floor stored window → floor ≤ id →
+    IsAnswered window id ↔ Contains (message_ids_of stored) id
 
 -- what may be repeated is the response that was stored
 abbrev pub RepeatsAreTheResponses : Type 0
 RepeatsAreTheResponses =
-    (floor : ℕ) (stored : List Kept) (id : ℕ) → floor ≤ id → low_of floor (ids_of stored) ≤ id + 8 →
-    octets_of id (answers_of floor stored).kept ≡ octets_of id stored
+    (floor : ℕ) (stored : List KeptMessage) (window : ResponseWindow) (id : ℕ) →
+    IsWindowOf floor stored window → floor ≤ id → window.low ≤ id + WINDOW →
+    octets_of id window.responses ≡ octets_of id stored
+
+abbrev pub ResponsesGiveOneWindow : Type 0
+ResponsesGiveOneWindow =
+    (floor : ℕ) (stored : List KeptMessage) (first second : ResponseWindow) →
+    IsWindowOf floor stored first → IsWindowOf floor stored second → first ≡ second
+
+abbrev pub ResponsesHaveAWindow : Type 0
+ResponsesHaveAWindow =
+    (floor : ℕ) (stored : List KeptMessage) →
+    (window : ResponseWindow) × IsWindowOf floor stored window

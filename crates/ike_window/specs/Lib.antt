@@ -1,5 +1,6 @@
-pub mod Answers
 pub mod Asking
 pub mod Kept
 pub mod Laws
-pub mod Row
+pub mod Requests
+pub mod Slots
+pub mod Windows

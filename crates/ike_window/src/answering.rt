@@ -1,58 +1,70 @@
-ghost use Rattle.std.specs.Prelude.{◌≡◌, ◌↔◌, ◌^◌, ◌-◌, [], Some, None, IsSome, MatchOption, filter};
-ghost use Rattle.ike_window.specs.Answers.{answers_of, is_repeatable, judged, low_of, raised, with_response};
-ghost use Rattle.ike_window.specs.Kept.{AllBelow, RiseFrom, ids_of, octets_of};
+ghost use Rattle.std.specs.Prelude.{◌≡◌, ◌↔◌, ◌≤◌, ◌+◌, ◌-◌, [], Some, None, IsSome, MatchOption, Contains, filter, max};
+ghost use Rattle.ike_window.specs.declared.TheConstants.{LAST_ID, WINDOW};
+ghost use Rattle.ike_window.specs.Kept.{AllBelow, message_ids_of, octets_of};
+ghost use Rattle.ike_window.specs.Requests.{IsRequestJudgedBy, IsLeastFree, IsNewRequest, IsRepeat};
+ghost use Rattle.ike_window.specs.Windows.{IsAnswered, Jumps, Stores, is_repeatable};
 
 use crate::judged::Judged;
-use crate::row::Row;
+use crate::ring::Ring;
+use crate::{ANSWERED, LAST_ID, WINDOW};
 use ha_base::Octets;
 use std::marker::Model;
 
-/// The requests that an end answered, and the responses that may be asked for again (RFC 7296, sections 2.1 to 2.3).
+/// The requests that an end answered, and the responses that may be asked for again (RFC 7296,
+/// sections 2.1 to 2.3).
 #[derive(Drop)]
 pub struct Answering {
     floor: u32,
     low: u32,
-    row: Row<16>,
+    ring: Ring<ANSWERED>,
 }
 
 impl Model for Answering {
-    ghost use Rattle.ike_window.specs.Answers.{Answers, AreNear};
+    ghost use Rattle.ike_window.specs.Windows.{IsWindow, ResponseWindow};
 
-    ghost Value = { Answers };
+    ghost Value = { ResponseWindow };
 
-    ghost view = { λ a. record { floor = a.floor; low = a.low; kept = a.row } };
+    ghost view = { λ a. record { floor = a.floor; low = a.low; responses = a.ring.kept } };
 
-    ghost invariant = { λ a. AreNear a.low a.row };
+    ghost invariant = { λ a. IsWindow a.floor a.low a.ring };
 }
 
 impl Answering {
     /// No response is stored, and no request below the floor is new.
     pub fn new(floor: u32) -> Answering
-        ensures { result ≡ answers_of floor [] }
+        ensures { result ≡ record { floor = floor; low = floor; responses = [] } }
     {
         Answering {
             floor,
             low: floor,
-            row: Row::new(),
+            ring: Ring::of_two_windows(floor),
         }
     }
 
-    /// The least identifier from the floor on to which no response was stored.
+    /// The Message ID below which every request is old.
+    pub fn floor(&self) -> u32
+        ensures { result ≡ self.now.floor }
+    {
+        self.floor
+    }
+
+    /// The least Message ID from the floor on that was not answered.
     pub fn low(&self) -> u32
-        ensures { result ≡ self.now.low }
+        ensures value { result ≡ self.now.low }
+        ensures least { IsLeastFree self.now.floor (IsAnswered self.now) result }
     {
         self.low
     }
 
     /// What the window says of a request.
     pub fn judge(&self, id: u32) -> Judged
-        ensures { result ≡ judged self.now id }
+        ensures { IsRequestJudgedBy self.now.floor self.now.low (IsAnswered self.now) id result }
     {
-        if self.row.has(id) {
+        if self.ring.has(id) {
             Judged::Repeat
         } else if id < self.low {
             Judged::Old
-        } else if id - self.low >= 8 || id == u32::MAX {
+        } else if id - self.low >= WINDOW || id == LAST_ID {
             Judged::Ahead
         } else {
             Judged::New
@@ -61,38 +73,44 @@ impl Answering {
 
     /// Stores the response to a new request.
     pub fn store(&mut self, id: u32, response: Octets)
-        requires { judged self.old id ≡ Judged.New }
-        ensures { self.new ≡ with_response (record { id = id; octets = response.octets }) self.old }
+        requires { IsNewRequest self.old.low (IsAnswered self.old) id }
+        ensures { Stores (record { id = id; octets = response.octets }) self.old self.new }
     {
-        self.row.insert(id, response);
-        self.low = settle(&mut self.row, self.floor, self.low);
+        self.ring.insert(id, response);
+        self.low = settle(&mut self.ring, self.floor, self.low);
     }
 
-    /// The response to a request, to be sent again. None exactly where `judge` does not answer `Repeat`.
+    /// The response to a request, to be sent again. None exactly where `judge` does not answer
+    /// `Repeat`.
     pub fn stored(&self, id: u32) -> Option<&Octets>
-        ensures octets { MatchOption result (octets_of id self.now.kept ≡ None) (λ octets. octets_of id self.now.kept ≡ Some octets.now.octets) }
-        ensures repeat { IsSome result ↔ (judged self.now id ≡ Judged.Repeat) }
+        ensures octets { MatchOption result (octets_of id self.now.responses ≡ None)
+            (λ octets. octets_of id self.now.responses ≡ Some octets.now.octets) }
+        ensures repeat { IsSome result
+            ↔ IsRepeat self.now.floor self.now.low (IsAnswered self.now) id }
     {
-        self.row.get(id)
+        self.ring.get(id)
     }
 
-    /// Raises the floor to an identifier, where it is above it, and drops the responses below.
+    /// Raises the floor to a Message ID, where it is above it, and drops the responses below.
     pub fn jump(&mut self, floor: u32)
-        ensures { self.new ≡ raised floor self.old }
+        ensures { Jumps floor self.old self.new }
     {
         self.floor = self.floor.max(floor);
-        self.low = settle(&mut self.row, self.floor, self.low.max(floor));
+        self.low = settle(&mut self.ring, self.floor, self.low.max(floor));
     }
 }
 
-/// Drops the responses that cannot be asked for again, and gives the first identifier from `from` on without one.
-fn settle(row: &mut Row<16>, floor: u32, from: u32) -> u32
-    requires rising { RiseFrom 0 row.old }
-    requires below_the_end { AllBelow (2 ^ 32 - 1) row.old }
-    ensures low { result ≡ low_of from (ids_of row.old) }
-    ensures kept { row.new ≡ filter (is_repeatable floor result) row.old }
+/// Drops the responses that cannot be asked for again, and gives the first Message ID from `from` on
+/// without one.
+fn settle(ring: &mut Ring<ANSWERED>, floor: u32, from: u32) -> u32
+    requires ordered { floor ≤ from }
+    requires below { AllBelow (from + WINDOW) ring.old.kept }
+    requires below_the_end { AllBelow LAST_ID ring.old.kept }
+    ensures low { IsLeastFree from (Contains (message_ids_of ring.old.kept)) result }
+    ensures first { ring.new.first ≡ max floor (result - WINDOW) }
+    ensures kept { ring.new.kept ≡ filter (is_repeatable floor result) ring.old.kept }
 {
-    let low = row.first_free(from);
-    row.drop_below(floor.max(low.saturating_sub(8)));
+    let low = ring.first_free(from);
+    ring.move_to(floor.max(low.saturating_sub(WINDOW)));
     low
 }

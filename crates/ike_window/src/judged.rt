@@ -5,8 +5,8 @@ pub enum Judged {
     New,
     /// Answered before, and the response is still kept: it is sent again.
     Repeat,
-    /// Above the window, or the last identifier, which no request has.
+    /// Above the window, or the last Message ID, which no request has.
     Ahead,
-    /// Below all that is kept.
+    /// Below the floor, or more than a window below the least that was not answered.
     Old,
 }

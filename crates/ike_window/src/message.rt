@@ -9,9 +9,9 @@ pub(crate) struct Message {
 }
 
 impl Model for Message {
-    ghost use Rattle.ike_window.specs.Kept.{Kept};
+    ghost use Rattle.ike_window.specs.Kept.{KeptMessage};
 
-    ghost Value = { Kept };
+    ghost Value = { KeptMessage };
 
     ghost view = { λ message. record { id = message.id; octets = message.octets.octets } };
 }

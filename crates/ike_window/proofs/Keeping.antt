@@ -1,0 +1,157 @@
+-- What an end keeps of the requests that it answered, as it is kept.
+use Rattle.std.proofs.Common.{◌≡◌, ℕ, ◌+◌, ◌-◌, ◌^◌, ◌<◌, ◌≤◌, ◌⊎◌, inl, inr, ⊎_elim, Bool, true, false, nat_le, max, ◌==◌, ◌&&◌, ◌||◌, List, filter, refl, sym, ap, ◌∙◌, arith}
+use Rattle.std.proofs.lemmas.Bool.{cases_lt, eqb-true}
+use Rattle.std.proofs.lemmas.Bool.Decides.{nat_tests}
+use Rattle.std.specs.List.{Contains}
+use Rattle.ike_window.specs.Kept.{AllBelow, KeptMessage, message_ids_of, has_message_id, with_kept}
+use Rattle.ike_window.specs.Requests.{IsLeastFree, IsNewRequest, IsRepeat}
+use Rattle.ike_window.specs.Slots.{SlidingRing}
+use Rattle.ike_window.specs.Windows.{IsAnswered, IsWindow, Jumps, ResponseWindow, Stores, is_repeatable}
+use Rattle.ike_window.proofs.Lows.{among_from, from_among}
+use Rattle.ike_window.proofs.Orders.{among_inserted}
+use Rattle.ike_window.proofs.Rising.{among_where, below_filtered, below_higher, below_inserted, none_among}
+
+abbrev pub seen : ℕ → ℕ → SlidingRing → ResponseWindow
+seen floor low ring = record { floor = floor; low = low; responses = ring.kept }
+
+pub repeat_of : (floor low : ℕ) (ring : SlidingRing) (id : ℕ) → IsWindow floor low ring → has_message_id (message_ids_of ring.kept) id ≡ true →
+    IsRepeat floor low (IsAnswered (seen floor low ring)) id
+repeat_of floor low ring id is among = record {
+  answered = inr
+      (from_among (message_ids_of ring.kept) id among);
+  from = is.from id among;
+  near = is.near id among;
+}
+
+pub among_repeat : (floor low : ℕ) (ring : SlidingRing) (id : ℕ) → IsWindow floor low ring → IsRepeat floor low (IsAnswered (seen floor low ring)) id →
+    has_message_id (message_ids_of ring.kept) id ≡ true
+among_repeat floor low ring id is repeat = go repeat.answered
+  where
+    go : IsAnswered (seen floor low ring) id → has_message_id (message_ids_of ring.kept) id ≡ true
+    go (inl below) = among_from (message_ids_of ring.kept) id (is.whole id below.0 below.1 repeat.near)
+    go (inr among) = among_from (message_ids_of ring.kept) id among
+
+pub new_not_among : (floor low : ℕ) (ring : SlidingRing) (id : ℕ) → IsNewRequest low (IsAnswered (seen floor low ring)) id →
+    has_message_id (message_ids_of ring.kept) id ≡ false
+new_not_among floor low ring id new = none_among (message_ids_of ring.kept) id (λ among. new.unanswered (inr among))
+
+passes : (floor low id : ℕ) (b : Bool) → ((nat_le floor id && nat_le low (id + 8)) && b) ≡ true → (floor ≤ id) × (low ≤ id + 8) × (b ≡ true)
+passes floor low id b passed = (
+  (let x : floor ≤ id = grind (arith, nat_tests) in x),
+  (let x : low ≤ id + 8 = grind (arith, nat_tests) in x),
+  (let x : b ≡ true = grind (arith, nat_tests) in x),
+)
+
+passed : (floor low id : ℕ) (b : Bool) → floor ≤ id → low ≤ id + 8 → b ≡ true → ((nat_le floor id && nat_le low (id + 8)) && b) ≡ true
+passed floor low id b from near is = grind (arith, nat_tests)
+
+-- what is left after responses were dropped
+pub settled : (floor from low : ℕ) (kept : List KeptMessage) (ring : SlidingRing) → floor ≤ from → AllBelow (from + 8) kept → AllBelow (2 ^ 32 - 1) kept →
+    ((id : ℕ) → floor ≤ id → id < from → from ≤ id + 8 → has_message_id (message_ids_of kept) id ≡ true) →
+    IsLeastFree from (Contains (message_ids_of kept)) low → ring.first ≡ max floor (low - 8) → ring.kept ≡ filter (is_repeatable floor low) kept →
+    IsWindow floor low ring
+settled floor from low kept ring up below end whole least first is = record {
+  ordered = let above = least.from in omega arith;
+  room_below = let above = least.from in omega arith;
+  room_above = omega arith;
+  from = λ id among. (left id among).0;
+  near = λ id among. (left id among).1;
+  below = let above : from ≤ low = least.from in
+      rw is (below_filtered (is_repeatable floor low) (low + 8) kept (below_higher (from + 8) (low + 8) kept (omega arith) below));
+  below_the_end = rw is (below_filtered (is_repeatable floor low) (2 ^ 32 - 1) kept end);
+  free = λ among. least.free (from_among (message_ids_of kept) low (left low (among_from (message_ids_of ring.kept) low among)).2);
+  whole = λ id above under near. from_among (message_ids_of ring.kept) id
+      (all id ∙ passed floor low id (has_message_id (message_ids_of kept) id) above near (there id above under near));
+}
+  where
+    all : (id : ℕ) → has_message_id (message_ids_of ring.kept) id ≡ ((nat_le floor id && nat_le low (id + 8)) && has_message_id (message_ids_of kept) id)
+    all id = ap (λ ms. has_message_id (message_ids_of ms) id) is ∙ among_where (λ m. nat_le floor m && nat_le low (m + 8)) kept id
+
+    left : (id : ℕ) → has_message_id (message_ids_of ring.kept) id ≡ true → (floor ≤ id) × (low ≤ id + 8) × (has_message_id (message_ids_of kept) id ≡ true)
+    left id among = passes floor low id (has_message_id (message_ids_of kept) id) (sym (all id) ∙ among)
+
+    there : (id : ℕ) → floor ≤ id → id < low → low ≤ id + 8 → has_message_id (message_ids_of kept) id ≡ true
+    there id above under near = go (cases_lt id from)
+      where
+        go : (id < from) ⊎ (from ≤ id) → has_message_id (message_ids_of kept) id ≡ true
+        go (inl less) = whole id above less (let up_to = least.from in omega arith)
+        go (inr more) = among_from (message_ids_of kept) id (least.taken id more under)
+
+-- what the storing of a response leaves
+pub stored_window : (floor low new_low : ℕ) (old ring : SlidingRing) (message : KeptMessage) → IsWindow floor low old →
+    IsNewRequest low (IsAnswered (seen floor low old)) message.id →
+    IsLeastFree low (Contains (message_ids_of (with_kept message old.kept))) new_low → ring.first ≡ max floor (new_low - 8) →
+    ring.kept ≡ filter (is_repeatable floor new_low) (with_kept message old.kept) → IsWindow floor new_low ring
+stored_window floor low new_low old ring message is new least first kept =
+    settled floor low new_low (with_kept message old.kept) ring is.ordered
+    (below_inserted (low + 8) message old.kept new.within is.below) (below_inserted (2 ^ 32 - 1) message old.kept new.below_the_end is.below_the_end)
+    (λ id above under near. among_inserted message old.kept id
+    ∙ either (message.id == id) (has_message_id (message_ids_of old.kept) id) (among_from (message_ids_of old.kept) id (is.whole id above under near)))
+    least first kept
+  where
+    either : (a b : Bool) → b ≡ true → (a || b) ≡ true
+    either true b so = refl
+    either false b so = so
+
+pub stores_of : (floor low new_low : ℕ) (old ring : SlidingRing) (message : KeptMessage) → IsWindow floor low old →
+    IsLeastFree low (Contains (message_ids_of (with_kept message old.kept))) new_low →
+    ring.kept ≡ filter (is_repeatable floor new_low) (with_kept message old.kept) → Stores message (seen floor low old) (seen floor new_low ring)
+stores_of floor low new_low old ring message is least kept = record {
+  floor = refl;
+  low = record {
+    from = let a = is.ordered in let b = least.from in omega arith;
+    taken = λ m above under. ⊎_elim (λ less. inr (inl (above, less))) (λ more. split m (among_from (message_ids_of all) m (least.taken m more under)))
+        (cases_lt m low);
+    free = λ either. least.free (from_among (message_ids_of all) new_low (among_inserted message old.kept new_low ∙ joined either));
+  };
+  responses = kept;
+}
+  where
+    all : List KeptMessage
+    all = with_kept message old.kept
+
+    split : (m : ℕ) → has_message_id (message_ids_of all) m ≡ true → (m ≡ message.id) ⊎ IsAnswered (seen floor low old) m
+    split m among = go (message.id == m) refl (sym (among_inserted message old.kept m) ∙ among)
+      where
+        go : (b : Bool) → (message.id == m) ≡ b → (b || has_message_id (message_ids_of old.kept) m) ≡ true →
+            (m ≡ message.id) ⊎ IsAnswered (seen floor low old) m
+        go true same so = inl (sym (eqb-true message.id m same))
+        go false other so = inr (inr (from_among (message_ids_of old.kept) m so))
+
+    joined : (new_low ≡ message.id) ⊎ IsAnswered (seen floor low old) new_low →
+        ((message.id == new_low) || has_message_id (message_ids_of old.kept) new_low) ≡ true
+    joined (inl same) = grind (arith, nat_tests)
+    joined (inr (inl below)) = let up = least.from in absurd (omega (arith, below.1))
+    joined (inr (inr among)) = let there : has_message_id (message_ids_of old.kept) new_low ≡ true = among_from (message_ids_of old.kept) new_low among in
+        grind (arith, nat_tests)
+
+-- what a jump leaves
+pub jumped_window : (floor low to new_low : ℕ) (old ring : SlidingRing) → IsWindow floor low old →
+    IsLeastFree (max low to) (Contains (message_ids_of old.kept)) new_low → ring.first ≡ max (max floor to) (new_low - 8) →
+    ring.kept ≡ filter (is_repeatable (max floor to) new_low) old.kept → IsWindow (max floor to) new_low ring
+jumped_window floor low to new_low old ring is least first kept =
+    settled (max floor to) (max low to) new_low old.kept ring (let a = is.ordered in omega arith)
+    (below_higher (low + 8) (max low to + 8) old.kept (omega arith) is.below) is.below_the_end
+    (λ id above under near. among_from (message_ids_of old.kept) id (is.whole id (omega arith) (omega arith) (omega arith)))
+    least first kept
+
+pub jumps_of : (floor low to new_low : ℕ) (old ring : SlidingRing) → IsWindow floor low old →
+    IsLeastFree (max low to) (Contains (message_ids_of old.kept)) new_low →
+    ring.kept ≡ filter (is_repeatable (max floor to) new_low) old.kept → Jumps to (seen floor low old) (seen (max floor to) new_low ring)
+jumps_of floor low to new_low old ring is least kept = record {
+  floor = refl;
+  low = record {
+    from = let a = is.ordered in let b = least.from in omega arith;
+    taken = λ m above under. ⊎_elim (λ less. inl (omega arith, omega arith)) (λ more. inr (least.taken m more under)) (cases_lt m (max low to));
+    free = λ either. ⊎_elim (λ below. let b = least.from in absurd (omega (arith, below.1))) least.free either;
+  };
+  responses = kept;
+}
+
+-- the two tests of a response are one
+pub one_test : (floor low : ℕ) (kept : List KeptMessage) →
+    filter (λ message. nat_le (max floor (low - 8)) message.id) kept ≡ filter (is_repeatable floor low) kept
+one_test floor low kept = λ i. filter (λ message. same floor low message.id i) kept
+  where
+    same : (floor low id : ℕ) → nat_le (max floor (low - 8)) id ≡ (nat_le floor id && nat_le low (id + 8))
+    same floor low id = grind (arith, nat_tests)
