@@ -2,9 +2,12 @@
 //!
 //! A [`Lot`] holds the numbers of one counter that its owner may use. Each [`Number`] that is drawn
 //! from it is a value that can be neither copied nor dropped: it has to be given to a call that
-//! seals with it, or to [`Number::burn`]. So a program that would use an initialization vector
-//! twice, or forget one, does not compile (AES-GCM needs each to be used once under a key, RFC 5282
-//! section 3.1, SP 800-38D section 8).
+//! seals with it, or to [`Number::burn`]. So a program that would use one drawn number twice, or
+//! forget it, does not compile.
+//!
+//! That no two lots give the same number of a counter is for their owners to keep: two can be made
+//! of one range. AES-GCM needs it where the numbers are initialization vectors, since each is to be
+//! used once under a key (RFC 5282, section 3.1; SP 800-38D, section 8).
 //!
 //! No call takes memory.
 #![tactic(auto)]
