@@ -1,3 +1,4 @@
+pub mod HashTables
 pub mod Hashing
 pub mod HeldKeys
 pub mod Lists
@@ -6,3 +7,4 @@ pub mod Rounds
 pub mod Schedules
 pub mod Seals
 pub mod Streams
+pub mod WordRounds

@@ -35,6 +35,16 @@ pub xored-append : (ps qs xs ys : List ℕ) → length ps ≡ length xs → xore
 unfolding xored
 xored-append ps qs xs ys h = xored-append_zip ps qs xs ys h
 
+enough_zip : (xs ks more : List ℕ) → length xs ≤ length ks → zip2 bit_xor xs (ks ++ more) ≡ zip2 bit_xor xs ks
+enough_zip [] ks more h = refl
+enough_zip (x ∷ xs) [] more h = absurd (omega arith)
+enough_zip (x ∷ xs) (k ∷ ks) more h = ap (λ zs. bit_xor x k ∷ zs) (enough_zip xs ks more (omega arith))
+
+-- what is beyond the text is not joined with it
+pub xored_enough : (xs ks more : List ℕ) → length xs ≤ length ks → xored xs (ks ++ more) ≡ xored xs ks
+unfolding xored
+xored_enough xs ks more h = enough_zip xs ks more h
+
 xor_twice : (x k : ℕ) → bit_xor (bit_xor x k) k ≡ x
 xor_twice x k = xor_assoc x k k ∙ ap (bit_xor x) (xor_self k) ∙ xor_zero_r x
 

@@ -2,6 +2,7 @@
 -- An octet is a number below 256. As an element of GF(2 ^ 8) its bit i is the coefficient of x ^ i.
 use Rattle.std.specs.Prelude.{ℕ, zero, suc, ◌+◌, ◌-◌, ◌*◌, ◌/◌, ◌%◌, ◌&&◌, ◌==◌, nat_lt, if◌then◌else◌, List, [], ◌∷◌, ◌++◌, length, map, take, drop, slice_index, bit_xor}
 use Rattle.std.specs.Int.{w8, rotate_left}
+use Rattle.std.specs.List.{concat, range_with_len}
 use lib.Lanes.{zip2}
 
 -- a times x modulo x ^ 8 + x ^ 4 + x ^ 3 + x + 1 (FIPS 197, 4.2.1)
@@ -38,14 +39,11 @@ sub_byte a = affine (inverse a)
 unfoldable pub sub_bytes : List ℕ → List ℕ
 sub_bytes s = map sub_byte s
 
--- The state is its octets in the order of the block, so row r and column c stand at r + 4 * c. Row r moves
--- by r columns (FIPS 197, 5.1.2).
+-- The state is its octets in the order of the block, so row r and column c stand at r + 4 * c. In column c
+-- comes what row r has in column (c + r) % 4 (FIPS 197, 5.1.2).
 unfoldable pub shift_rows : List ℕ → List ℕ
 shift_rows s =
-    slice_index s 0 ∷ slice_index s 5 ∷ slice_index s 10 ∷ slice_index s 15
-    ∷ slice_index s 4 ∷ slice_index s 9 ∷ slice_index s 14 ∷ slice_index s 3
-    ∷ slice_index s 8 ∷ slice_index s 13 ∷ slice_index s 2 ∷ slice_index s 7
-    ∷ slice_index s 12 ∷ slice_index s 1 ∷ slice_index s 6 ∷ slice_index s 11 ∷ []
+    map (λ i. slice_index s (i % 4 + 4 * ((i / 4 + i % 4) % 4))) (range_with_len 0 16)
 
 -- one column times 3 x ^ 3 + x ^ 2 + x + 2 modulo x ^ 4 + 1 (FIPS 197, 5.1.3)
 unfoldable pub mix_column : ℕ → ℕ → ℕ → ℕ → List ℕ
@@ -55,12 +53,10 @@ mix_column a b c d =
     ∷ bit_xor (bit_xor (bit_xor a b) (times 2 c)) (times 3 d)
     ∷ bit_xor (bit_xor (bit_xor (times 3 a) b) c) (times 2 d) ∷ []
 
+-- each of the four columns (FIPS 197, 5.1.3)
 unfoldable pub mix_columns : List ℕ → List ℕ
 mix_columns s =
-    mix_column (slice_index s 0) (slice_index s 1) (slice_index s 2) (slice_index s 3)
-    ++ mix_column (slice_index s 4) (slice_index s 5) (slice_index s 6) (slice_index s 7)
-    ++ mix_column (slice_index s 8) (slice_index s 9) (slice_index s 10) (slice_index s 11)
-    ++ mix_column (slice_index s 12) (slice_index s 13) (slice_index s 14) (slice_index s 15)
+    concat (map (λ c. mix_column (slice_index s (4 * c)) (slice_index s (4 * c + 1)) (slice_index s (4 * c + 2)) (slice_index s (4 * c + 3))) (range_with_len 0 4))
 
 -- octet by octet, as long as the shorter of the two
 unfoldable pub xored : List ℕ → List ℕ → List ℕ

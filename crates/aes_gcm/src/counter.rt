@@ -1,13 +1,14 @@
 //! Counter mode (NIST SP 800-38D, sections 6.5 and 7.1) for a nonce of 96 bits.
 
-ghost use Rattle.std.specs.Prelude.{◌≡◌, ◌≤◌, length};
+ghost use Rattle.std.specs.Prelude.{◌≡◌, ◌+◌, ◌*◌, ◌<◌, ◌≤◌, ◌++◌, length};
 ghost use Rattle.aes_gcm.specs.Aes.{cipher};
 ghost use Rattle.aes_gcm.specs.Gcm.{counter_block, encrypted};
 
 use crate::MAX_LEN;
-use crate::cipher::encrypt;
-use crate::octets::xor_into;
+use crate::columns::encrypt_block;
+use crate::octets::{xor_into, xor_lanes};
 
+#[inline(always)]
 pub(crate) fn counter_block(nonce: &[u8; 12], counter: u32) -> [u8; 16]
     ensures { result ≡ counter_block nonce.now counter }
 {
@@ -15,6 +16,26 @@ pub(crate) fn counter_block(nonce: &[u8; 12], counter: u32) -> [u8; 16]
     block[..12].copy_from_slice(nonce);
     block[12..].copy_from_slice(&counter.to_be_bytes());
     block
+}
+
+/// The blocks number `2 * pair` and `2 * pair + 1` of the key stream, counted from 0.
+#[inline(always)]
+fn two_blocks(
+    round_keys: &[u8; 240],
+    middle_rounds: usize,
+    nonce: &[u8; 12],
+    pair: usize,
+) -> [u8; 32]
+    requires rounds { middle_rounds ≤ 13 }
+    requires pair { pair ≤ MAX_LEN }
+    ensures { result ≡ cipher round_keys.now middle_rounds (counter_block nonce.now (2 * pair + 2)) ++ cipher round_keys.now middle_rounds (counter_block nonce.now (2 * pair + 3)) }
+{
+    let first = counter_block(nonce, 2 * pair as u32 + 2);
+    let second = counter_block(nonce, 2 * pair as u32 + 3);
+    let mut blocks = [0; 32];
+    blocks[..16].copy_from_slice(&encrypt_block(round_keys, middle_rounds, &first));
+    blocks[16..].copy_from_slice(&encrypt_block(round_keys, middle_rounds, &second));
+    blocks
 }
 
 /// Exclusive-ors the key stream into `buf`, which enciphers a plaintext and deciphers a ciphertext.
@@ -28,13 +49,14 @@ pub(crate) fn apply_key_stream(
     requires size { length buf.old ≤ MAX_LEN }
     ensures { buf.new ≡ encrypted (cipher round_keys.now middle_rounds) nonce.now buf.old }
 {
-    for i in 0..buf.len().div_ceil(16) {
-        let pad = encrypt(
-            round_keys,
-            middle_rounds,
-            counter_block(nonce, i as u32 + 2),
-        );
-        let end = buf.len().min(16 * i + 16);
-        xor_into(&mut buf[16 * i..end], &pad);
+    let len = buf.len();
+    let whole = len / 32;
+    for i in 0..whole {
+        let pad = two_blocks(round_keys, middle_rounds, nonce, i);
+        xor_lanes(&mut buf[32 * i..32 * i + 32], &pad);
+    }
+    if 32 * whole < len {
+        let last = two_blocks(round_keys, middle_rounds, nonce, whole);
+        xor_into(&mut buf[32 * whole..len], &last);
     }
 }

@@ -12,19 +12,22 @@ ghost use Rattle.aes_gcm.specs.Sealing.{IsSealing};
 ghost use Rattle.aes_gcm.specs.Gcm.{cipher_of, encrypted, nonce_of, sealed, tag_of};
 
 mod cipher;
+mod columns;
 mod counter;
 mod expansion;
 mod ghash;
 pub mod known_answers;
 mod octets;
+mod rows;
 mod tag;
 #[cfg(test)]
 mod tests;
 
 use crate::cipher::encrypt;
+use crate::columns::encrypt_block;
 use crate::counter::apply_key_stream;
 use crate::expansion::{copied, expand};
-use crate::ghash::load;
+use crate::ghash::{hash_tables, load};
 use crate::tag::{is_same, tag};
 pub use spend_once::{CounterName, Number};
 use std::marker::Model;
@@ -36,9 +39,9 @@ use std::marker::Model;
 pub struct Key {
     name: CounterName,
     middle_rounds: usize,
-    subkey: u128,
     round_keys: [u8; 240],
     salt: [u8; 4],
+    hash_tables: [u128; 128],
 }
 
 impl Model for Key {
@@ -69,14 +72,15 @@ impl Key {
         let (key, salt) = bytes.split_at(bytes.len() - 4);
         let middle_rounds = key.len() / 4 + 5;
         let round_keys = expand(key);
-        let subkey = load(&encrypt(&round_keys, middle_rounds, [0; 16]));
+        let subkey = load(&encrypt_block(&round_keys, middle_rounds, &[0; 16]));
+        let hash_tables = hash_tables(subkey);
         let salt = copied(salt);
         Some(Key {
             name,
             middle_rounds,
-            subkey,
             round_keys,
             salt,
+            hash_tables,
         })
     }
 
@@ -125,7 +129,7 @@ impl Key {
         tag(
             &self.round_keys,
             self.middle_rounds,
-            self.subkey,
+            &self.hash_tables,
             &nonce,
             aad,
             ciphertext,

@@ -1,12 +1,13 @@
 //! The tag over associated data and ciphertext (NIST SP 800-38D, section 7.1).
 
-ghost use Rattle.std.specs.Prelude.{◌≡◌, ◌*◌, ◌≤◌, ◌++◌, ◌↔◌, IsTrue, length};
+ghost use Rattle.std.specs.Prelude.{◌≡◌, ◌*◌, ◌≤◌, ◌++◌, ◌↔◌, IsTrue, length, slice_index};
 ghost use Rattle.std.specs.Int.{w64, to_be_bytes};
 ghost use Rattle.aes_gcm.specs.Aes.{cipher};
 ghost use Rattle.aes_gcm.specs.Gcm.{ghash, hash_subkey, hashed_text, tag_under};
+ghost use Rattle.aes_gcm.specs.HashTables.{IsHashTable};
 
 use crate::MAX_LEN;
-use crate::cipher::encrypt;
+use crate::columns::encrypt_block;
 use crate::counter::counter_block;
 use crate::ghash::hash_onto;
 use crate::octets::xor_into;
@@ -23,32 +24,34 @@ fn length_block(aad: usize, ciphertext: usize) -> [u8; 16]
     block
 }
 
-fn hash(subkey: u128, aad: &[u8], ciphertext: &[u8]) -> u128
+fn hash(tables: &[u128; 128], aad: &[u8], ciphertext: &[u8]) -> u128
+    requires tables { IsHashTable tables.now }
     requires aad_size { length aad.now ≤ MAX_LEN }
     requires size { length ciphertext.now ≤ MAX_LEN }
-    ensures { result ≡ ghash subkey (hashed_text aad.now ciphertext.now) }
+    ensures { result ≡ ghash (slice_index tables.now 8) (hashed_text aad.now ciphertext.now) }
 {
-    let hashed = hash_onto(subkey, hash_onto(subkey, 0, aad), ciphertext);
-    hash_onto(subkey, hashed, &length_block(aad.len(), ciphertext.len()))
+    let hashed = hash_onto(tables, hash_onto(tables, 0, aad), ciphertext);
+    hash_onto(tables, hashed, &length_block(aad.len(), ciphertext.len()))
 }
 
-/// The tag under the key schedule `round_keys`, whose hash subkey is `subkey`.
+/// The tag under the key schedule `round_keys`, whose hash subkey's products are `tables`.
 pub(crate) fn tag(
     round_keys: &[u8; 240],
     middle_rounds: usize,
-    subkey: u128,
+    tables: &[u128; 128],
     nonce: &[u8; 12],
     aad: &[u8],
     ciphertext: &[u8],
 ) -> [u8; 16]
     requires rounds { middle_rounds ≤ 13 }
-    requires hash_subkey { subkey ≡ hash_subkey (cipher round_keys.now middle_rounds) }
+    requires tables { IsHashTable tables.now }
+    requires hash_subkey { slice_index tables.now 8 ≡ hash_subkey (cipher round_keys.now middle_rounds) }
     requires aad_size { length aad.now ≤ MAX_LEN }
     requires size { length ciphertext.now ≤ MAX_LEN }
     ensures { result ≡ tag_under (cipher round_keys.now middle_rounds) nonce.now aad.now ciphertext.now }
 {
-    let mut tag = encrypt(round_keys, middle_rounds, counter_block(nonce, 1));
-    xor_into(&mut tag, &hash(subkey, aad, ciphertext).to_be_bytes());
+    let mut tag = encrypt_block(round_keys, middle_rounds, &counter_block(nonce, 1));
+    xor_into(&mut tag, &hash(tables, aad, ciphertext).to_be_bytes());
     tag
 }
 

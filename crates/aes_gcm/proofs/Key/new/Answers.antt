@@ -15,13 +15,14 @@ unfolding hash_subkey
 invariant_of-result c =
     let key = c.split_at.result.0.now in
     let w = c.expand-round_keys.result in
-    let enc = c.encrypt.result in
+    let enc = c.encrypt_block.result in
     let same = key_is key w (size c) c.expand-round_keys.ensures in
     let long : length enc ≡ 16 = search rules in
     let whole : enc ++ replicate (16 - length enc) 0 ≡ enc = rw long (append-nil enc) in (
       ⊎_elim (λ h. inl (omega arith)) (λ h. inr (omega arith)) (size c),
       rw same (cipher_is key w (size c) c.expand-round_keys.ensures),
-      c.load-subkey.ensures ∙ ap element (whole ∙ c.encrypt.ensures),
+      c.hash_tables-hash_tables.ensures.tables,
+      c.hash_tables-hash_tables.ensures.subkey ∙ c.load-subkey.ensures ∙ ap element (whole ∙ c.encrypt_block.ensures),
     )
 
 pub returns-clause-octets : goal.returns-clause-octets

@@ -1,13 +1,16 @@
-use Rattle.std.proofs.Common.{◌≡◌, ◌∙◌, ◌+◌, ◌*◌, arith, sym, ap, length, refl, rules}
-use Rattle.std.specs.Prelude.{min}
+use Rattle.std.proofs.Common.{◌≡◌, ◌∙◌, ◌+◌, ◌*◌, ◌/◌, ◌≤◌, ◌++◌, ℕ, List, arith, sym, ap, length, take, refl, rules}
 use Rattle.aes_gcm.specs.Aes.{cipher, xored}
 use Rattle.aes_gcm.specs.Gcm.{key_stream, counter_block}
-use Rattle.aes_gcm.proofs.Streams.{streamed_step, streamed_rest, length-stream_more, streamed_all}
+use Rattle.aes_gcm.proofs.HeldKeys.{length-cipher}
+use Rattle.aes_gcm.proofs.Streams.{streamed_step, streamed_rest, length_held, two_more, length-key_stream, streamed_all}
 use Rattle.aes_gcm.proofs.counter.apply_key_stream.Goals as goal
+
+blocks : (w : List ℕ) (n : ℕ) (nonce : List ℕ) → length w ≡ 240 → n ≤ 13 → (k : ℕ) → length (cipher w n (counter_block nonce k)) ≡ 16
+blocks w n nonce long few k = length-cipher w n (counter_block nonce k) (omega arith)
 
 pub loop-i-init : goal.loop-i-init
 unfolding key_stream xored
-loop-i-init c = record { done = refl; rest = refl; stream_length = refl }
+loop-i-init c = record { done = refl; rest = refl }
 
 pub loop-i-preserved : goal.loop-i-preserved
 loop-i-preserved c =
@@ -15,22 +18,49 @@ loop-i-preserved c =
     let nonce = c.args.nonce.now in
     let xs = c.args.buf.now in
     let now = c.loop-i.buf in
-    let part = c.xor_into.new.buf in
+    let part = c.xor_lanes.new.buf in
     let i = c.loop-i.i in
-    let e = c.min-end.result in
-    let long : length c.encrypt-pad.result ≡ 16 = search rules in
-    let end : e ≡ min (length xs) (16 * i + 16) = c.min-end.ensures ∙ ap (λ n. min n (16 * i + 16)) c.loop-i.auto.buf in
-    let pad : c.encrypt-pad.result ≡ f (counter_block nonce (i + 2)) =
-    c.encrypt-pad.ensures ∙ ap f c.counter_block.ensures in
-    let block : length (f (counter_block nonce (i + 2))) ≡ 16 = sym (ap length pad) ∙ long in
-    let part_is = c.xor_into.ensures ∙ ap (xored _) pad in
+    let pad = f (counter_block nonce (2 * i + 2)) ++ f (counter_block nonce (2 * i + 3)) in
+    let ks = key_stream f nonce (2 * i) in
+    let each = blocks c.args.round_keys.now c.args.middle_rounds nonce c.told-round_keys c.requires.rounds in
+    let long : length ks ≡ 32 * i = length-key_stream f nonce each (2 * i) ∙ omega arith in
+    let two : length pad ≡ 32 = sym (ap length c.two_blocks-pad.ensures) ∙ search rules in
+    let part_is = c.xor_lanes.ensures ∙ ap (xored _) c.two_blocks-pad.ensures in
+    let next : 32 * (i + 1) ≡ 32 * i + 32 = omega arith in
     let inv = c.loop-i.invariant in
     record {
-      done = streamed_step f nonce xs now part i e c.loop-i.auto.buf end (omega arith) part_is block inv.rest inv.done inv.stream_length;
-      rest = streamed_rest f nonce xs now part i e c.loop-i.auto.buf end (omega arith) part_is block inv.rest;
-      stream_length = length-stream_more f nonce i inv.stream_length block;
+      done = rw next (streamed_step xs now part ks pad (32 * i) (32 * i + 32) c.loop-i.auto.buf (omega arith) (omega arith) part_is two inv.rest inv.done long ∙ ap (xored (take (32 * i + 32) xs)) (two_more f nonce i));
+      rest = rw next (streamed_rest xs now part ks pad (32 * i) (32 * i + 32) c.loop-i.auto.buf (omega arith) (omega arith) part_is two inv.rest);
     }
 
-pub returns : goal.returns
-returns c =
-    streamed_all (cipher c.args.round_keys.now c.args.middle_rounds) c.args.nonce.now c.args.buf.now c.loop-i.buf c.loop-i.i (omega arith) c.loop-i.auto.buf c.loop-i.invariant.done
+pub returns-then-whole-len : goal.returns-then-whole-len
+returns-then-whole-len c =
+    let f = cipher c.args.round_keys.now c.args.middle_rounds in
+    let nonce = c.args.nonce.now in
+    let xs = c.args.buf.now in
+    let now = c.loop-i.buf in
+    let part = c.xor_into.new.buf in
+    let w = length xs / 32 in
+    let m = 32 * w in
+    let pad = f (counter_block nonce (2 * w + 2)) ++ f (counter_block nonce (2 * w + 3)) in
+    let ks = key_stream f nonce (2 * w) in
+    let each = blocks c.args.round_keys.now c.args.middle_rounds nonce c.told-round_keys c.requires.rounds in
+    let long : length ks ≡ m = length-key_stream f nonce each (2 * w) ∙ omega arith in
+    let two : length pad ≡ 32 = sym (ap length c.two_blocks-last.ensures) ∙ search rules in
+    let part_is = c.xor_into.ensures ∙ ap (xored _) c.two_blocks-last.ensures in
+    let all : c.loop-i.i ≡ w = omega arith in
+    let done = rw all at c.loop-i.invariant.done in
+    let rest = rw all at c.loop-i.invariant.rest in
+    let next : 32 * (w + 1) ≡ m + 32 = omega arith in
+    streamed_all f nonce xs _ (w + 1) each (omega arith) (length_held xs now part ks pad m (length xs) c.loop-i.auto.buf (omega arith) (omega arith) part_is two rest) (rw next (streamed_step xs now part ks pad m (length xs) c.loop-i.auto.buf (omega arith) (omega arith) part_is two rest done long ∙ ap (xored (take (m + 32) xs)) (two_more f nonce w)))
+
+pub returns-else-whole-len : goal.returns-else-whole-len
+returns-else-whole-len c =
+    let f = cipher c.args.round_keys.now c.args.middle_rounds in
+    let nonce = c.args.nonce.now in
+    let xs = c.args.buf.now in
+    let w = length xs / 32 in
+    let each = blocks c.args.round_keys.now c.args.middle_rounds nonce c.told-round_keys c.requires.rounds in
+    let all : c.loop-i.i ≡ w = omega arith in
+    let done = rw all at c.loop-i.invariant.done in
+    streamed_all f nonce xs c.loop-i.buf w each (omega arith) c.loop-i.auto.buf done
