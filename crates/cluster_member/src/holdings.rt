@@ -9,7 +9,8 @@ ghost use Rattle.cluster_member.specs.Members.{DrawsFrom, ReceivesAt, ReceivesFr
 ghost use Rattle.cluster_member.specs.Places.{IsLeastAt, IsLesser, IsPlaceOf, KeepsOthers, NoneReceives};
 
 use crate::holding::Holding;
-use esp_sas::{Room, packet_spi};
+use esp_packets::packet_spi;
+use esp_sas::Room;
 use events::{EspVerdict, Refusal, Step, Verdict};
 use ha_base::{EspDrop, Memory};
 use keeper_book::Keeper;

@@ -7,7 +7,8 @@ ghost use Rattle.cluster_peer.specs.Slots.{IsFirst};
 ghost use Rattle.ha_base.specs.declared.esp_outcomes.EspDrop.TheVariants as drop;
 
 use crate::association::Association;
-use esp_sas::{Room, packet_spi};
+use esp_packets::packet_spi;
+use esp_sas::Room;
 use events::{EspVerdict, Refusal, Step, Verdict};
 use ha_base::{EspDrop, Memory};
 use keeper_book::Record;

@@ -4,7 +4,7 @@ use Rattle.std.specs.Bool.{OnTrue, OnFalse}
 use Rattle.std.proofs.lemmas.List.{drop-drop, take-append-drop}
 use Rattle.aes_gcm.specs.Gcm.{Sealed, sealed}
 use Rattle.aes_gcm.specs.Sealing.{IsSealing}
-use Rattle.esp_packets.specs.Packet.{IsPacket, Opens, associated_data, header, iv_of, opened}
+use Rattle.esp_packets.specs.Packet.{IsPacket, OpensPacket, esp_associated_data, header, iv_of, opened}
 use Rattle.esp_packets.proofs.Packets.{parts, packet_of}
 
 -- the text that a packet has between its header and its end
@@ -19,12 +19,12 @@ tail_is octets long =
 
 -- `data` is the associated data, and `value` the integrity check value, of the packet that the octets may be
 module _ (key : List ℕ) (sealing : IsSealing key) (spi number iv : ℕ) (octets buffer «data» value : List ℕ) (long : 34 ≤ length octets)
-    (front : header spi number iv ≡ take 16 octets) (at : iv ≡ iv_of octets) (as_data : «data» ≡ associated_data spi number) (as_value : value ≡ drop (length octets - 16) octets) where
+    (front : header spi number iv ≡ take 16 octets) (at : iv ≡ iv_of octets) (as_data : «data» ≡ esp_associated_data spi number) (as_value : value ≡ drop (length octets - 16) octets) where
   -- that a plaintext is sealed to the text of the packet
   abbrev SealsTo : List ℕ → Type 0
   SealsTo plain = sealed key iv «data» plain ≡ record { ciphertext = take (length octets - 16 - 16) (drop 16 octets); tag = value }
 
-  there : (plain : List ℕ) → SealsTo plain → sealed key iv (associated_data spi number) plain ≡ text_in octets
+  there : (plain : List ℕ) → SealsTo plain → sealed key iv (esp_associated_data spi number) plain ≡ text_in octets
   there plain e =
       ap (λ d. sealed key iv d plain) (sym as_data) ∙ e ∙ (λ i. record { ciphertext = take (length octets - 16 - 16) (drop 16 octets); tag = as_value i })
 
@@ -37,7 +37,7 @@ module _ (key : List ℕ) (sealing : IsSealing key) (spi number iv : ℕ) (octet
 
   pub opens : (result : Bool) → OnTrue result (SealsTo buffer) → ((plain : List ℕ) → SealsTo plain → IsTrue result × (buffer ≡ plain)) →
       length buffer ≡ length octets - 16 - 16 →
-      OnTrue result ((plain : List ℕ) × Opens key spi number octets plain × (length plain + 32 ≡ length octets)
+      OnTrue result ((plain : List ℕ) × OpensPacket key spi number octets plain × (length plain + 32 ≡ length octets)
       × (take 16 octets ++ (buffer ++ drop (length octets - 16 - 16) (drop 16 octets)) ≡ opened octets plain))
   opens true is unseals size = (
     buffer,

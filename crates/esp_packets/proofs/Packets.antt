@@ -5,7 +5,7 @@ use Rattle.std.proofs.lemmas.List.{take_at, drop_at, take-append-drop, drop-drop
 use Rattle.std.proofs.Math.Seq.{take-add}
 use Rattle.aes_gcm.specs.Gcm.{Sealed, sealed}
 use Rattle.aes_gcm.specs.Sealing.{IsSealing}
-use Rattle.esp_packets.specs.Packet.{IsPacket, associated_data, header}
+use Rattle.esp_packets.specs.Packet.{IsPacket, esp_associated_data, header}
 
 -- the last four of the eight octets of a number
 pub low_octets : (n : ℕ) → drop 4 (to_be_bytes w64 n) ≡ to_be_bytes w32 (n % 2 ^ 32)
@@ -42,26 +42,26 @@ header_is octets spi number iv first second third =
 module _ (key : List ℕ) (sealing : IsSealing key) (spi number iv : ℕ) where
   pub packet_length : (plain octets : List ℕ) → IsPacket key spi number iv plain octets → length octets ≡ 16 + length plain + 16
   packet_length plain octets packet =
-      let text : Sealed = sealed key iv (associated_data spi number) plain in
+      let text : Sealed = sealed key iv (esp_associated_data spi number) plain in
       let whole : length octets ≡ length ((header spi number iv ++ text.ciphertext) ++ text.tag) = ap length packet.sealed in
       omega (
         arith,
         whole,
         length-append (header spi number iv ++ text.ciphertext) text.tag,
         length-append (header spi number iv) text.ciphertext,
-        sealing.ciphertext_length iv (associated_data spi number) plain,
-        sealing.tag_length iv (associated_data spi number) plain,
+        sealing.ciphertext_length iv (esp_associated_data spi number) plain,
+        sealing.tag_length iv (esp_associated_data spi number) plain,
       )
 
   -- what is sealed in a packet is what lies between its header and its end
   pub parts : (plain octets : List ℕ) → IsPacket key spi number iv plain octets →
-      sealed key iv (associated_data spi number) plain ≡ record { ciphertext = take (length octets - 16 - 16) (drop 16 octets); tag = drop (length octets - 16) octets }
+      sealed key iv (esp_associated_data spi number) plain ≡ record { ciphertext = take (length octets - 16 - 16) (drop 16 octets); tag = drop (length octets - 16) octets }
   parts plain octets packet =
-      let text : Sealed = sealed key iv (associated_data spi number) plain in
+      let text : Sealed = sealed key iv (esp_associated_data spi number) plain in
       let long = packet_length plain octets packet in
-      let wide : length text.ciphertext ≡ length octets - 16 - 16 = omega (arith, long, sealing.ciphertext_length iv (associated_data spi number) plain) in
+      let wide : length text.ciphertext ≡ length octets - 16 - 16 = omega (arith, long, sealing.ciphertext_length iv (esp_associated_data spi number) plain) in
       let front : length (header spi number iv ++ text.ciphertext) ≡ length octets - 16 =
-      omega (arith, long, length-append (header spi number iv) text.ciphertext, sealing.ciphertext_length iv (associated_data spi number) plain) in
+      omega (arith, long, length-append (header spi number iv) text.ciphertext, sealing.ciphertext_length iv (esp_associated_data spi number) plain) in
       let rest : drop 16 octets ≡ text.ciphertext ++ text.tag =
       ap (drop 16) (packet.sealed ∙ append_assoc (header spi number iv) text.ciphertext text.tag)
       ∙ drop_at (header spi number iv) (text.ciphertext ++ text.tag) 16 refl in
@@ -73,7 +73,7 @@ module _ (key : List ℕ) (sealing : IsSealing key) (spi number iv : ℕ) where
 
 -- octets with this header and a sealed text are the packet
 pub packet_of : (key : List ℕ) (spi number iv : ℕ) (plain octets : List ℕ) → 32 ≤ length octets → header spi number iv ≡ take 16 octets →
-    sealed key iv (associated_data spi number) plain ≡ record { ciphertext = take (length octets - 16 - 16) (drop 16 octets); tag = drop (length octets - 16) octets } →
+    sealed key iv (esp_associated_data spi number) plain ≡ record { ciphertext = take (length octets - 16 - 16) (drop 16 octets); tag = drop (length octets - 16) octets } →
     IsPacket key spi number iv plain octets
 packet_of key spi number iv plain octets long front text = record {
   sealed = sym (three_parts octets long) ∙ (λ i. (sym front i ++ (sym text i).ciphertext) ++ (sym text i).tag);

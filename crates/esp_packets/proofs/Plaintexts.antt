@@ -1,7 +1,10 @@
 -- A plaintext written piece by piece, and what is read from its end.
-use Rattle.std.proofs.Common.{◌≡◌, ℕ, zero, suc, ◌+◌, ◌≤◌, List, [], ◌∷◌, ◌++◌, length, take, set, refl, sym, ap, ◌∙◌, append_assoc, arith}
+use Rattle.std.proofs.Common.{◌≡◌, ℕ, zero, suc, ◌+◌, ◌-◌, ◌%◌, ◌≤◌, Bool, true, false, not, if◌then◌else◌, List, [], ◌∷◌, ◌++◌, length, take, set, refl, sym, ap, ◌∙◌, append_assoc, arith}
 use Rattle.std.proofs.lemmas.List.{take_more_set, take_at, length-append, length-set}
+use Rattle.std.proofs.lemmas.Bool.Decides.{nat_tests}
 use Rattle.std.specs.List.{range_with_len}
+use Rattle.esp_packets.specs.Laws.{PaddingIsShortest}
+use Rattle.esp_packets.specs.Packet.{is_padded, pad_length}
 
 -- two octets written after the first n
 take_two_set : (n : ℕ) (xs : List ℕ) (x y : ℕ) → n + 2 ≤ length xs → take (n + 2) (set (set xs n x) (n + 1) y) ≡ take n xs ++ x ∷ y ∷ []
@@ -24,6 +27,38 @@ written copied filled payload padding rest after end pad x y is pads long wide r
     let front : take (end + pad) (payload ++ (padding ++ after)) ≡ payload ++ padding =
     ap (take (end + pad)) (sym (append_assoc payload padding after)) ∙ take_at (payload ++ padding) after (end + pad) both in
     rw (is, pads, begun) (take_two_set (end + pad) (payload ++ (padding ++ after)) x y whole ∙ ap (λ ys. ys ++ x ∷ y ∷ []) front)
+
+-- the lengths that are tried
+tried : (n : ℕ) → pad_length n ≡ (if not (is_padded n 0) then 1 + (if not (is_padded n 1) then 1 + (if not (is_padded n 2) then 1 + (if not (is_padded n 3) then 1 + 0 else 0) else 0) else 0) else 0)
+tried n = refl
+
+-- the fewest octets of padding, by the remainder of the payload
+pub pad_length_is : (n : ℕ) → pad_length n ≡ 3 - (n + 1) % 4
+pad_length_is n = go (n % 4) refl
+  where
+    go : (r : ℕ) → n % 4 ≡ r → pad_length n ≡ 3 - (n + 1) % 4
+    go zero e =
+        let none : is_padded n 0 ≡ false = grind (arith, nat_tests) in
+        let one : is_padded n 1 ≡ false = grind (arith, nat_tests) in
+        let two : is_padded n 2 ≡ true = grind (arith, nat_tests) in
+        tried n ∙ rw (none, one, two) (omega arith)
+    go (suc zero) e =
+        let none : is_padded n 0 ≡ false = grind (arith, nat_tests) in
+        let one : is_padded n 1 ≡ true = grind (arith, nat_tests) in
+        tried n ∙ rw (none, one) (omega arith)
+    go (suc (suc zero)) e =
+        let none : is_padded n 0 ≡ true = grind (arith, nat_tests) in
+        tried n ∙ rw none (omega arith)
+    go (suc (suc (suc zero))) e =
+        let none : is_padded n 0 ≡ false = grind (arith, nat_tests) in
+        let one : is_padded n 1 ≡ false = grind (arith, nat_tests) in
+        let two : is_padded n 2 ≡ false = grind (arith, nat_tests) in
+        let three : is_padded n 3 ≡ true = grind (arith, nat_tests) in
+        tried n ∙ rw (none, one, two, three) (omega arith)
+    go (suc (suc (suc (suc r)))) e = absurd (omega arith)
+
+pub padding_shortest : PaddingIsShortest
+padding_shortest n = (omega (arith, pad_length_is n), λ pad h. omega (arith, pad_length_is n))
 
 -- the padding octets count up from 1
 pub padding_is : (pad : ℕ) → pad ≤ 3 → take pad (1 ∷ 2 ∷ 3 ∷ []) ≡ range_with_len 1 pad

@@ -13,8 +13,8 @@ use Rattle.replay_set.specs.Window.{Window, IsMeant, judged}
 use Rattle.replay_set.specs.Laws.{MeaningIsUnique}
 use Rattle.replay_set.specs.declared.judgement.Judgement.{Judgement}
 use Rattle.replay_set.specs.declared.judgement.Judgement.TheVariants.{Stale as JudgedStale, Seen as JudgedSeen, Fresh}
-use Rattle.esp_packets.specs.Packet.{IsPacket, IsDatagram, IsAnswer, Opens, Means, pad_length, plain_of, pad_length_in, next_header_in, spi_of, low_half_of, iv_of, opened}
-use Rattle.esp_packets.specs.Laws.{Covers, Accepts}
+use Rattle.esp_packets.specs.Packet.{IsPacket, IsEspDatagram, IsEspAnswer, OpensPacket, Means, pad_length, esp_plaintext, esp_pad_length_in, next_header_in, spi_of, low_half_of, iv_of, opened}
+use Rattle.esp_packets.specs.Laws.{WindowCovers, Accepts}
 use Rattle.esp_packets.proofs.Packets.{low_octets, packet_length}
 use Rattle.esp_packets.proofs.Plaintexts.{length-range_with_len}
 
@@ -28,32 +28,32 @@ module _ (payload : List ℕ) (next_header : ℕ) where
   front_length : length (payload ++ range_with_len 1 (pad_length (length payload))) ≡ length payload + pad_length (length payload)
   front_length = length-append payload (range_with_len 1 (pad_length (length payload))) ∙ ap (λ n. length payload + n) (length-range_with_len 1 (pad_length (length payload)))
 
-  pub length-plain_of : length (plain_of payload next_header) ≡ length payload + pad_length (length payload) + 2
-  length-plain_of =
+  pub length-esp_plaintext : length (esp_plaintext payload next_header) ≡ length payload + pad_length (length payload) + 2
+  length-esp_plaintext =
       length-append (payload ++ range_with_len 1 (pad_length (length payload))) (pad_length (length payload) ∷ next_header ∷ [])
       ∙ ap (λ n. n + 2) front_length
 
   -- the last two octets
   last_octet : (k at : ℕ) → at ≡ length payload + pad_length (length payload) + k →
-      get_or (plain_of payload next_header) at 0 ≡ get_or (pad_length (length payload) ∷ next_header ∷ []) k 0
+      get_or (esp_plaintext payload next_header) at 0 ≡ get_or (pad_length (length payload) ∷ next_header ∷ []) k 0
   last_octet k at is =
       let rest : at - (length payload + pad_length (length payload)) ≡ k = omega arith in
       get_or-append_right (payload ++ range_with_len 1 (pad_length (length payload))) (pad_length (length payload) ∷ next_header ∷ [])
       (length payload + pad_length (length payload)) at 0 front_length (omega arith)
       ∙ ap (λ i. get_or (pad_length (length payload) ∷ next_header ∷ []) i 0) rest
 
-  pub pad_length_in-plain_of : pad_length_in (plain_of payload next_header) ≡ pad_length (length payload)
-  pad_length_in-plain_of = last_octet 0 (length (plain_of payload next_header) - 2) (omega (arith, length-plain_of))
+  pub esp_pad_length_in-esp_plaintext : esp_pad_length_in (esp_plaintext payload next_header) ≡ pad_length (length payload)
+  esp_pad_length_in-esp_plaintext = last_octet 0 (length (esp_plaintext payload next_header) - 2) (omega (arith, length-esp_plaintext))
 
-  pub next_header_in-plain_of : next_header_in (plain_of payload next_header) ≡ next_header
-  next_header_in-plain_of = last_octet 1 (length (plain_of payload next_header) - 1) (omega (arith, length-plain_of))
+  pub next_header_in-esp_plaintext : next_header_in (esp_plaintext payload next_header) ≡ next_header
+  next_header_in-esp_plaintext = last_octet 1 (length (esp_plaintext payload next_header) - 1) (omega (arith, length-esp_plaintext))
 
   -- the payload is at the front of the plaintext
-  pub payload_of : (front rest : List ℕ) → length front ≡ 16 → take (length payload) (drop 16 ((front ++ plain_of payload next_header) ++ rest)) ≡ payload
+  pub payload_of : (front rest : List ℕ) → length front ≡ 16 → take (length payload) (drop 16 ((front ++ esp_plaintext payload next_header) ++ rest)) ≡ payload
   payload_of front rest long =
       let tail : List ℕ = pad_length (length payload) ∷ next_header ∷ [] in
-      ap (λ ys. take (length payload) (drop 16 ys)) (append_assoc front (plain_of payload next_header) rest)
-      ∙ ap (take (length payload)) (drop_at front (plain_of payload next_header ++ rest) 16 long)
+      ap (λ ys. take (length payload) (drop 16 ys)) (append_assoc front (esp_plaintext payload next_header) rest)
+      ∙ ap (take (length payload)) (drop_at front (esp_plaintext payload next_header ++ rest) 16 long)
       ∙ ap (take (length payload)) (append_assoc (payload ++ range_with_len 1 (pad_length (length payload))) tail rest
       ∙ append_assoc payload (range_with_len 1 (pad_length (length payload))) (tail ++ rest))
       ∙ take_at payload (range_with_len 1 (pad_length (length payload)) ++ (tail ++ rest)) (length payload) refl
@@ -76,18 +76,18 @@ module _ (key : List ℕ) (spi number iv : ℕ) (plain octets : List ℕ) (packe
       ap (from_be_bytes w64) field ∙ from_be_bytes-to_be_bytes_8 iv small
 
 module _ (unique : MeaningIsUnique) (key : List ℕ) (sealing : IsSealing key) (spi number : ℕ) (payload : List ℕ) (next_header : ℕ) (octets : List ℕ) (window : Window)
-    (after : List ℕ) (small : spi < 2 ^ 32) (packet : IsDatagram key spi number payload next_header octets) (covers : Covers window number) (fresh : judged window number ≡ Fresh) where
+    (after : List ℕ) (small : spi < 2 ^ 32) (packet : IsEspDatagram key spi number payload next_header octets) (covers : WindowCovers window number) (fresh : judged window number ≡ Fresh) where
   plain : List ℕ
-  plain = plain_of payload next_header
+  plain = esp_plaintext payload next_header
 
-  long : length octets ≡ 16 + length (plain_of payload next_header) + 16
-  long = packet_length key sealing spi number number (plain_of payload next_header) octets packet
+  long : length octets ≡ 16 + length (esp_plaintext payload next_header) + 16
+  long = packet_length key sealing spi number number (esp_plaintext payload next_header) octets packet
 
   long_enough : 34 ≤ length octets
-  long_enough = omega (arith, long, length-plain_of payload next_header)
+  long_enough = omega (arith, long, length-esp_plaintext payload next_header)
 
   low : low_half_of octets ≡ number % 2 ^ 32
-  low = low_half_is key spi number number (plain_of payload next_header) octets packet
+  low = low_half_is key spi number number (esp_plaintext payload next_header) octets packet
 
   means : Means window octets number
   means = record { meant = subst (λ l. IsMeant window l number) (sym low) covers.meant; below_end = covers.below_end }
@@ -97,36 +97,36 @@ module _ (unique : MeaningIsUnique) (key : List ℕ) (sealing : IsSealing key) (
   only other meant = unique window (low_half_of octets) other number meant.meant means.meant
 
   -- the packet, with its IV as it stands
-  as_it_stands : IsPacket key spi number (iv_of octets) (plain_of payload next_header) octets
-  as_it_stands = subst (λ v. IsPacket key spi number v (plain_of payload next_header) octets) (sym (iv_is key spi number number (plain_of payload next_header) octets packet (omega (arith, covers.below_end)))) packet
+  as_it_stands : IsPacket key spi number (iv_of octets) (esp_plaintext payload next_header) octets
+  as_it_stands = subst (λ v. IsPacket key spi number v (esp_plaintext payload next_header) octets) (sym (iv_is key spi number number (esp_plaintext payload next_header) octets packet (omega (arith, covers.below_end)))) packet
 
-  plain_is : (other : ℕ) (found : List ℕ) → other ≡ number → Opens key spi other octets found → plain_of payload next_header ≡ found
-  plain_is other found same opens = opens.only (plain_of payload next_header) (subst (λ n. IsPacket key spi n (iv_of octets) (plain_of payload next_header) octets) (sym same) as_it_stands)
+  plain_is : (other : ℕ) (found : List ℕ) → other ≡ number → OpensPacket key spi other octets found → esp_plaintext payload next_header ≡ found
+  plain_is other found same opens = opens.only (esp_plaintext payload next_header) (subst (λ n. IsPacket key spi n (iv_of octets) (esp_plaintext payload next_header) octets) (sym same) as_it_stands)
 
-  pub accepts : (answer : Result EspOpened EspDrop) → IsAnswer key spi window octets answer after → Accepts number payload next_header answer after
+  pub accepts : (answer : Result EspOpened EspDrop) → IsEspAnswer key spi window octets answer after → Accepts number payload next_header answer after
   accepts (Err Short) is = absurd (omega (arith, is.0, long_enough))
-  accepts (Err WrongSpi) is = absurd (is.1 (spi_is key spi number number (plain_of payload next_header) octets packet small))
+  accepts (Err WrongSpi) is = absurd (is.1 (spi_is key spi number number (esp_plaintext payload next_header) octets packet small))
   accepts (Err Stale) is = absurd (fresh_not_stale (judged window number) fresh (is.1 number means))
   accepts (Err Seen) (us, (other, meant, seen), same) =
       absurd (fresh_not_seen (judged window number) fresh (ap (judged window) (sym (only other meant)) ∙ seen))
   accepts (Err NotOpened) ((other, new, none), same) =
-      absurd (none (plain_of payload next_header) (subst (λ n. IsPacket key spi n (iv_of octets) (plain_of payload next_header) octets) (sym (only other new.means)) as_it_stands))
+      absurd (none (esp_plaintext payload next_header) (subst (λ n. IsPacket key spi n (iv_of octets) (esp_plaintext payload next_header) octets) (sym (only other new.means)) as_it_stands))
   accepts (Err Padding) (other, found, new, opens, short, is) =
-      let same : plain_of payload next_header ≡ found = plain_is other found (only other new.means) opens in
-      let P : List ℕ → Type 0 = λ ys. length ys < pad_length_in ys + 2 in
-      let unfit : P (plain_of payload next_header) = subst P (sym same) short in
-      absurd (omega (arith, unfit, length-plain_of payload next_header, pad_length_in-plain_of payload next_header))
+      let same : esp_plaintext payload next_header ≡ found = plain_is other found (only other new.means) opens in
+      let P : List ℕ → Type 0 = λ ys. length ys < esp_pad_length_in ys + 2 in
+      let unfit : P (esp_plaintext payload next_header) = subst P (sym same) short in
+      absurd (omega (arith, unfit, length-esp_plaintext payload next_header, esp_pad_length_in-esp_plaintext payload next_header))
   accepts (Ok found) (text, new, opens, lies, is) =
-      let same : plain_of payload next_header ≡ text = plain_is found.number text (only found.number new.means) opens in
-      let Q : List ℕ → Type 0 = λ ys. found.length ≡ length ys - 2 - pad_length_in ys in
-      let placed : Q (plain_of payload next_header) = subst Q (sym same) lies.length_is in
-      let as_long : found.length ≡ length payload = omega (arith, placed, length-plain_of payload next_header, pad_length_in-plain_of payload next_header) in
+      let same : esp_plaintext payload next_header ≡ text = plain_is found.number text (only found.number new.means) opens in
+      let Q : List ℕ → Type 0 = λ ys. found.length ≡ length ys - 2 - esp_pad_length_in ys in
+      let placed : Q (esp_plaintext payload next_header) = subst Q (sym same) lies.length_is in
+      let as_long : found.length ≡ length payload = omega (arith, placed, length-esp_plaintext payload next_header, esp_pad_length_in-esp_plaintext payload next_header) in
       let front : length (take 16 octets) ≡ 16 = length-take-le 16 octets (omega (arith, long_enough)) in
       record {
         packet = found;
         accepted = refl;
         number_is = only found.number new.means;
-        next_header_is = lies.next_header ∙ ap next_header_in (sym same) ∙ next_header_in-plain_of payload next_header;
+        next_header_is = lies.next_header ∙ ap next_header_in (sym same) ∙ next_header_in-esp_plaintext payload next_header;
         payload_is =
             (λ i. take (as_long i) (drop (lies.start i) (is i)))
             ∙ ap (λ ys. take (length payload) (drop 16 (opened octets ys))) (sym same)

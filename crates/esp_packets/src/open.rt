@@ -1,29 +1,39 @@
-ghost use Rattle.std.specs.Prelude.{◌≡◌, ◌+◌, ◌%◌, ◌^◌, ◌≤◌, List, ℕ, IfOk, length, take, drop};
+ghost use Rattle.std.specs.Prelude.{◌≡◌, ◌+◌, ◌%◌, ◌^◌, ◌<◌, ◌≤◌, List, ℕ, IfOk, MatchOption};
+ghost use Rattle.std.specs.Prelude.{length, take, drop};
 ghost use Rattle.std.specs.Int.{w32, to_be_bytes};
 ghost use Rattle.std.specs.Bool.{OnTrue, OnFalse};
-ghost use Rattle.esp_packets.specs.Packet.{IsAnswer, IsPacket, Opens, opened, iv_of};
+ghost use Rattle.esp_packets.specs.Packet.{IsEspAnswer, IsPacket, OpensPacket, opened, iv_of, spi_of};
 ghost use Rattle.esp_packets.specs.Answers.{IsNumberAnswer, IsPlainAnswer};
 
-use super::packet::{CHECK_VALUE, HEADER, associated, check_value, read_u32, read_u64};
+use super::packet::{CHECK_VALUE, HEADER, LONGEST_PACKET, SHORTEST_PACKET, associated, check_value};
 use aes_gcm::{Key, open_in_place, sealing_laws};
-use ha_base::{EspDrop, EspOpened};
+use ha_base::{EspDrop, EspOpened, read_u32, read_u64};
 use replay_set::{Judgement, ReplaySet};
 
-/// How many octets a packet has at least: its header, pad length, next header and integrity check value.
-pub const SHORTEST_PACKET: usize = 34;
+/// The SPI of a packet. None exactly where it is shorter than any packet.
+pub fn packet_spi(bytes: &[u8]) -> Option<u32>
+    ensures { MatchOption result (length bytes.now < SHORTEST_PACKET)
+        (λ spi. (SHORTEST_PACKET ≤ length bytes.now) × (spi ≡ spi_of bytes.now)) }
+{
+    if bytes.len() < SHORTEST_PACKET {
+        return None;
+    }
+    Some(read_u32(&bytes[..4]))
+}
 
-/// Opens in place a packet of at most 65,536 octets that came to this SPI, and tells where its payload lies (RFC 4303, section 3.4).
+/// Opens in place a packet of at most 65,536 octets that came to this SPI, and tells where its
+/// payload lies (RFC 4303, section 3.4).
 ///
-/// The error is the first check that fails. The octets stay as they were but where the last check, that of the pad
-/// length, is the one that fails.
+/// The error is the first check that fails. After an error the octets are as they were, but where
+/// it is the last check, that of the pad length: then the plaintext stands in them.
 pub fn open_packet(
     key: &Key,
     spi: u32,
     set: &ReplaySet,
     bytes: &mut [u8],
 ) -> Result<EspOpened, EspDrop>
-    requires { length bytes.old ≤ 65536 }
-    ensures answer { IsAnswer key.now.octets spi set.now bytes.old result bytes.new }
+    requires { length bytes.old ≤ LONGEST_PACKET }
+    ensures answer { IsEspAnswer key.now.octets spi set.now bytes.old result bytes.new }
     ensures within { IfOk result (λ packet. packet.start + packet.length ≤ length bytes.new) }
 {
     if bytes.len() < SHORTEST_PACKET {
@@ -51,14 +61,17 @@ fn fresh_number(set: &ReplaySet, low32: u32) -> Result<u64, EspDrop>
     }
 }
 
-/// Opens the ciphertext in place, and answers whether its integrity check value holds.
+/// OpensPacket the ciphertext in place, and answers whether its integrity check value holds.
 fn open_text(key: &Key, spi: u32, number: u64, bytes: &mut [u8]) -> bool
-    requires long { 34 ≤ length bytes.old }
+    requires long { SHORTEST_PACKET ≤ length bytes.old }
     requires named { to_be_bytes w32 spi ≡ take 4 bytes.old }
     requires low_half { to_be_bytes w32 (number % 2 ^ 32) ≡ take 4 (drop 4 bytes.old) }
-    requires size { length bytes.old ≤ 65536 }
-    ensures opened { OnTrue result ((plain : List ℕ) × Opens key.now.octets spi number bytes.old plain × (length plain + 32 ≡ length bytes.old) × (bytes.new ≡ opened bytes.old plain)) }
-    ensures refused { OnFalse result ((bytes.new ≡ bytes.old) × ((plain : List ℕ) → ¬ IsPacket key.now.octets spi number (iv_of bytes.old) plain bytes.old)) }
+    requires size { length bytes.old ≤ LONGEST_PACKET }
+    ensures opened { OnTrue result ((plain : List ℕ)
+        × OpensPacket key.now.octets spi number bytes.old plain
+        × (length plain + 32 ≡ length bytes.old) × (bytes.new ≡ opened bytes.old plain)) }
+    ensures refused { OnFalse result ((bytes.new ≡ bytes.old)
+        × ((plain : List ℕ) → ¬ IsPacket key.now.octets spi number (iv_of bytes.old) plain bytes.old)) }
 {
     // Sealing keeps lengths, so a packet has its parts in one way only.
     sealing_laws();

@@ -1,6 +1,5 @@
 ghost use Rattle.std.specs.Prelude.{◌≡◌, ◌≤◌, length};
-ghost use Rattle.std.specs.Int.{w32, w64, from_be_bytes, to_be_bytes};
-ghost use Rattle.esp_packets.specs.Packet.{associated_data, header};
+ghost use Rattle.esp_packets.specs.Packet.{esp_associated_data, header};
 
 /// How many octets stand before the ciphertext.
 pub const HEADER: usize = 16;
@@ -8,8 +7,15 @@ pub const HEADER: usize = 16;
 /// How many octets the integrity check value has.
 pub const CHECK_VALUE: usize = 16;
 
+/// How many octets a packet has at least: its header, pad length, next header and integrity check
+/// value.
+pub const SHORTEST_PACKET: usize = 34;
+
+/// How many octets a packet that is opened may have.
+pub const LONGEST_PACKET: usize = 65_536;
+
 pub fn associated(spi: u32, number: u64) -> [u8; 12]
-    ensures { result ≡ associated_data spi number }
+    ensures { result ≡ esp_associated_data spi number }
 {
     let mut octets = [0; 12];
     octets[..4].copy_from_slice(&spi.to_be_bytes());
@@ -27,26 +33,8 @@ pub fn header_octets(spi: u32, number: u64, iv: u64) -> [u8; HEADER]
     octets
 }
 
-pub fn read_u32(octets: &[u8]) -> u32
-    requires { length octets.now ≡ 4 }
-    ensures value { result ≡ from_be_bytes w32 octets.now }
-    ensures spelled { to_be_bytes w32 result ≡ octets.now }
-{
-    u32::from_be_bytes([octets[0], octets[1], octets[2], octets[3]])
-}
-
-pub fn read_u64(octets: &[u8]) -> u64
-    requires { length octets.now ≡ 8 }
-    ensures value { result ≡ from_be_bytes w64 octets.now }
-    ensures spelled { to_be_bytes w64 result ≡ octets.now }
-{
-    let mut copy = [0; 8];
-    copy.copy_from_slice(octets);
-    u64::from_be_bytes(copy)
-}
-
 pub fn check_value(octets: &[u8]) -> [u8; CHECK_VALUE]
-    requires { length octets.now ≡ 16 }
+    requires { length octets.now ≡ CHECK_VALUE }
     ensures { result ≡ octets.now }
 {
     let mut copy = [0; CHECK_VALUE];

@@ -1,5 +1,5 @@
 ghost use Rattle.std.specs.Prelude.{◌≡◌, ◌+◌, ◌≤◌, length, take};
-ghost use Rattle.esp_packets.specs.Packet.{plain_of};
+ghost use Rattle.esp_packets.specs.Packet.{esp_plaintext};
 
 /// How many octets a payload has at most.
 pub const MAX_PAYLOAD: usize = 1400;
@@ -7,8 +7,8 @@ pub const MAX_PAYLOAD: usize = 1400;
 /// How many octets a plaintext has at most, written with the shortest padding.
 pub const MAX_PLAIN: usize = 1404;
 
-/// How many octets a packet has more than its payload, at most: SPI, low half, IV, the longest padding, pad length, next header
-/// and integrity check value.
+/// How many octets a packet has more than its payload, at most: SPI, low half, IV, the longest
+/// padding, pad length, next header and integrity check value.
 pub const PACKET_OVERHEAD: usize = 37;
 
 /// The longest padding.
@@ -17,9 +17,9 @@ const PADDING: [u8; 3] = [1, 2, 3];
 /// Writes the plaintext of a payload to the front of a buffer, and tells its length.
 pub fn write_plain(payload: &[u8], next_header: u8, buffer: &mut [u8; MAX_PLAIN]) -> usize
     requires { length payload.now ≤ MAX_PAYLOAD }
-    ensures fits { result ≤ 1404 }
+    ensures fits { result ≤ MAX_PLAIN }
     ensures short { result ≤ length payload.now + 5 }
-    ensures plain { take result buffer.new ≡ plain_of payload.now next_header }
+    ensures plain { take result buffer.new ≡ esp_plaintext payload.now next_header }
 {
     let end = payload.len();
     let pad = 3 - (end + 1) % 4;

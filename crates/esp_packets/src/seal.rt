@@ -1,5 +1,5 @@
 ghost use Rattle.std.specs.Prelude.{◌≡◌, ◌+◌, ◌≤◌, [], ◌++◌, length};
-ghost use Rattle.esp_packets.specs.Packet.{plain_of, IsDatagram};
+ghost use Rattle.esp_packets.specs.Packet.{esp_plaintext, IsEspDatagram};
 
 use super::packet::{CHECK_VALUE, associated, header_octets};
 use super::plain::{MAX_PAYLOAD, MAX_PLAIN, PACKET_OVERHEAD, write_plain};
@@ -7,21 +7,22 @@ use aes_gcm::{Key, seal_in_place};
 use ha_base::Octets;
 use spend_once::Number;
 
-/// Writes to `out` the plaintext that is sealed for a payload of at most 1,400 octets: the payload, the shortest
-/// padding, the pad length and the next header (RFC 4303, section 2). There is room for the packet.
+/// Writes to `out` the plaintext that is sealed for a payload of at most 1,400 octets: the payload,
+/// the shortest padding, the pad length and the next header (RFC 4303, section 2). There is room for
+/// the packet.
 pub fn spell_plain(payload: &[u8], next_header: u8, out: &mut Octets)
     requires empty { out.old.octets ≡ [] }
     requires room { length payload.now + PACKET_OVERHEAD ≤ out.old.spare }
     requires size { length payload.now ≤ MAX_PAYLOAD }
-    ensures { out.new.octets ≡ plain_of payload.now next_header }
+    ensures { out.new.octets ≡ esp_plaintext payload.now next_header }
 {
     let mut buffer = [0; MAX_PLAIN];
     let end = write_plain(payload, next_header, &mut buffer);
     append(out, &buffer[..end]);
 }
 
-/// Writes to `out` the ESP packet of a payload of at most 1,400 octets. Its sequence number and its IV are the number,
-/// which is spent. It has at most 1,436 octets, and there is room for it.
+/// Writes to `out` the ESP packet of a payload of at most 1,400 octets. Its sequence number and its
+/// IV are the number, which is spent. It has at most 1,436 octets, and there is room for it.
 pub fn seal_packet(
     key: &Key,
     spi: u32,
@@ -34,7 +35,8 @@ pub fn seal_packet(
     requires empty { out.old.octets ≡ [] }
     requires room { length payload.now + PACKET_OVERHEAD ≤ out.old.spare }
     requires size { length payload.now ≤ MAX_PAYLOAD }
-    ensures datagram { IsDatagram key.now.octets spi n.value payload.now next_header out.new.octets }
+    ensures datagram {
+        IsEspDatagram key.now.octets spi n.value payload.now next_header out.new.octets }
     ensures overhead { length out.new.octets ≤ length payload.now + PACKET_OVERHEAD }
     ensures short { length out.new.octets ≤ 1436 }
 {

@@ -1,12 +1,10 @@
-ghost use Rattle.std.specs.Prelude.{◌≡◌, ◌^◌, ◌<◌};
+ghost use Rattle.std.specs.Prelude.{◌≡◌};
 
-use super::{EspDrop, EspOpened, PACKET_OVERHEAD, open_packet, seal_packet, spell_plain};
-use aes_gcm::{CounterName, Key, Number};
-use ha_base::{End, Kind, Octets, Origin};
-use replay_set::{Judgement, ReplaySet};
-use spend_once::Lot;
+use super::{EspDrop, EspOpened, open_packet};
+use aes_gcm::{CounterName, Key};
+use ha_base::{End, Kind, Origin};
+use replay_set::{Judgement, ReplaySet, SEQUENCE_END};
 use std::process::Abort;
-use std::test::Fail;
 
 const NAME: CounterName = CounterName {
     origin: Origin::Imported(1),
@@ -33,8 +31,8 @@ const PACKET: [u8; 40] = [
     0xd5, 0x99, 0x12, 0x7a, 0x60, 0x28, 0xa8, 0x6a,
 ];
 
-/// The packet with the number 5 and the IV 7 whose plaintext is a pad length 1 and a next header, as another program
-/// seals it.
+/// The packet with the number 5 and the IV 7 whose plaintext is a pad length 1 and a next header, as
+/// another program seals it.
 const SHORT_PADDING: [u8; 34] = [
     0x4e, 0xe8, 0x10, 0x97, 0x00, 0x00, 0x00, 0x05, 0x00, 0x00, 0x00, 0x00, 0x00, 0x00, 0x00, 0x07,
     0x76, 0x1e, 0x86, 0xe1, 0x06, 0x69, 0x66, 0x0e, 0x62, 0x24, 0x79, 0x37, 0xd4, 0xd5, 0xca, 0xed,
@@ -47,48 +45,13 @@ fn key(rt: &impl Abort) -> Key
     Key::new(NAME, &KEY).expect(rt, "a key of 16 octets and its salt")
 }
 
-fn number(rt: &impl Abort, value: u64) -> Number
-    requires { value < 2 ^ 63 }
-    ensures { result.name ≡ NAME }
-{
-    Lot::new(NAME, value, value + 1)
-        .draw()
-        .expect(rt, "a lot of one number")
-}
-
 /// A window of 64 numbers in which `noted` was noted, where it is fresh.
 fn window(rt: &impl Abort, base: u64, noted: u64) -> ReplaySet {
     let mut set = ReplaySet::new(64, base).expect(rt, "64 is a window");
-    if noted < 1 << 63 && set.judge(noted) == Judgement::Fresh {
+    if noted < SEQUENCE_END && set.judge(noted) == Judgement::Fresh {
         set.note(noted);
     }
     set
-}
-
-#[test]
-fn a_packet_is_sealed(rt: HostRuntime) -> Result<(), Fail> {
-    let mut plain = Octets::with_room(rt.alloc(), PAYLOAD.len() + PACKET_OVERHEAD)
-        .ok()
-        .ok_or("memory")?;
-    spell_plain(&PAYLOAD, 4, &mut plain);
-    assert_eq!(rt;
-        plain.as_slice(),
-        [0x30, 0x1f, 0xee, 0x2d, 1, 2, 2, 4].as_slice()
-    );
-
-    let mut packet = Octets::with_room(rt.alloc(), PAYLOAD.len() + PACKET_OVERHEAD)
-        .ok()
-        .ok_or("memory")?;
-    seal_packet(
-        &key(&rt),
-        SPI,
-        number(&rt, NUMBER),
-        &PAYLOAD,
-        4,
-        &mut packet,
-    );
-    assert_eq!(rt; packet.as_slice(), PACKET.as_slice());
-    Ok(())
 }
 
 #[test]

@@ -1,4 +1,5 @@
 ghost use Rattle.std.specs.Prelude.{◌≡◌, ◌≤◌, ◌⊎◌, length};
+ghost use Rattle.esp_packets.specs.declared.plain.TheConstants.{MAX_PAYLOAD};
 ghost use Rattle.turn_rules.specs.Packets.{Sends};
 
 use crate::room::Room;
@@ -24,7 +25,8 @@ impl Model for OutboundSa {
 }
 
 impl OutboundSa {
-    /// The octets are an AES key and four of salt, and `counter` is that of the numbers, which are the key's IVs.
+    /// The octets are an AES key and four of salt, and `counter` is that of the numbers, which are
+    /// the key's IVs.
     pub fn new(counter: CounterName, octets: &[u8], spi: u32) -> OutboundSa
         requires { (length octets.now ≡ 20) ⊎ (length octets.now ≡ 36) }
         ensures name { result.key.name ≡ counter }
@@ -37,11 +39,11 @@ impl OutboundSa {
         }
     }
 
-    /// Sends a payload of at most 1,400 octets, for which there is room, under this number, which is spent. It takes no memory but
-    /// the room.
+    /// Sends a payload of at most 1,400 octets, for which there is room, under this number, which is
+    /// spent. It takes no memory but the room.
     pub fn send(&self, room: Room, number: Number, payload: &[u8]) -> Step
         requires named { number.name ≡ self.now.key.name }
-        requires size { length payload.now ≤ 1400 }
+        requires size { length payload.now ≤ MAX_PAYLOAD }
         requires room { length payload.now ≤ room }
         ensures { Sends self.now number.value payload.now result }
     {

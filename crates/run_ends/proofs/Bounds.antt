@@ -8,8 +8,8 @@ use Rattle.std.specs.Option.{option_map}
 use Rattle.std.specs.Prelude.{option_to_list, nat_le, nat_lt, slice_get, slice_index_or, slice_set, bit_xor}
 use Rattle.aes_gcm.proofs.Seals.{sealing}
 use Rattle.esp_packets.proofs.Packets.{packet_length}
-use Rattle.esp_packets.proofs.Plaintexts.{length-range_with_len}
-use Rattle.esp_packets.specs.Packet.{pad_length, plain_of}
+use Rattle.esp_packets.proofs.Plaintexts.{length-range_with_len, pad_length_is}
+use Rattle.esp_packets.specs.Packet.{pad_length, esp_plaintext}
 use Rattle.events.specs.Events.{plain}
 use Rattle.events.specs.Ranges.{Fits}
 use Rattle.events.specs.declared.event.Event.{Event}
@@ -119,10 +119,11 @@ sends-short outbound number payload step sized few sends =
           arith,
           few,
           ap length sends.same,
-          packet_length outbound.key.octets (sealing outbound.key.octets sized) outbound.spi number number (plain_of payload 4) sends.seal.sealed.octets sends.sealed,
+          packet_length outbound.key.octets (sealing outbound.key.octets sized) outbound.spi number number (esp_plaintext payload 4) sends.seal.sealed.octets sends.sealed,
           length-append (payload ++ range_with_len 1 pad) tail,
           length-append payload (range_with_len 1 pad),
           length-range_with_len 1 pad,
+          pad_length_is (length payload),
         )
 
 changed_run : (given : Option PlainDatagram) (change : List ℕ → Option (List ℕ)) (why : Refusal) → changed given change ≡ Err why → is_of_run why ≡ true

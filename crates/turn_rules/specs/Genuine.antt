@@ -1,8 +1,8 @@
 -- Packets that the other end sealed, and what becomes of them.
 use Rattle.std.specs.Prelude.{ℕ, ◌^◌, ◌≡◌, ◌<◌, ◌⊎◌, Some, List, [], ◌∷◌, Ok}
 use Rattle.std.specs.List.{AllByRecursion}
-use Rattle.esp_packets.specs.Laws.{Covers}
-use Rattle.esp_packets.specs.Packet.{IsDatagram, payload_in, spi_of}
+use Rattle.esp_packets.specs.Laws.{WindowCovers}
+use Rattle.esp_packets.specs.Packet.{IsEspDatagram, payload_in, spi_of}
 use Rattle.events.specs.declared.turn.Medium.TheVariants as medium
 use Rattle.events.specs.declared.turn.Turn.{Turn}
 use Rattle.events.specs.declared.verdict.EspVerdict.{EspVerdict}
@@ -30,8 +30,8 @@ use Rattle.turn_rules.specs.Slots.{Slot, first_slot, peer_counter, receives_at, 
 -- by the window and was not accepted before.
 pub record IsGenuine (inbound : Inbound) (number : ℕ) (payload octets : List ℕ) : Type 0 where
   pub spi : inbound.spi < 2 ^ 32
-  pub sealed : IsDatagram inbound.key inbound.spi number payload 4 octets
-  pub covered : Covers inbound.window number
+  pub sealed : IsEspDatagram inbound.key inbound.spi number payload 4 octets
+  pub covered : WindowCovers inbound.window number
   pub first : judged inbound.window number ≡ judgement.Fresh
 
 -- the number lies below what was acknowledged, or each call was answered so that it does

@@ -1,7 +1,7 @@
 -- What an end does with ESP packets (RFC 4303), by the keys, SPIs and windows that it holds.
 use Rattle.std.specs.Prelude.{ℕ, ◌+◌, ◌≡◌, ◌≤◌, Some, None, List, [], ◌∷◌, Result}
 use Rattle.aes_gcm.specs.NamedKey.{NamedKey}
-use Rattle.esp_packets.specs.Packet.{IsAnswer, IsDatagram, payload_in, plain_of}
+use Rattle.esp_packets.specs.Packet.{IsEspAnswer, IsEspDatagram, payload_in, esp_plaintext}
 use Rattle.events.specs.declared.seals.Seal.{Seal}
 use Rattle.events.specs.declared.turn.Datagram.{Datagram}
 use Rattle.events.specs.declared.turn.Medium.TheVariants.{Esp}
@@ -39,15 +39,15 @@ pub record Sends (outbound : Outbound) (number : ℕ) (payload : List ℕ) (step
   pub gives : step.gives ≡ Some datagram
   pub named : seal.name ≡ outbound.key.name
   pub iv : seal.iv ≡ number
-  pub plain : seal.plain.octets ≡ plain_of payload 4
-  pub sealed : IsDatagram outbound.key.octets outbound.spi number payload 4 seal.sealed.octets
+  pub plain : seal.plain.octets ≡ esp_plaintext payload 4
+  pub sealed : IsEspDatagram outbound.key.octets outbound.spi number payload 4 seal.sealed.octets
   pub esp : datagram.medium ≡ Esp
   pub same : datagram.octets.octets ≡ seal.sealed.octets
 
 -- The first check of a packet that fails, or where its payload lies. What its octets are then comes last: the plaintext
 -- stands in the place of the ciphertext once it was opened.
 abbrev pub Opens : Inbound → List ℕ → Result EspOpened EspDrop → List ℕ → Type 0
-Opens inbound octets opened after = IsAnswer inbound.key inbound.spi inbound.window octets opened after
+Opens inbound octets opened after = IsEspAnswer inbound.key inbound.spi inbound.window octets opened after
 
 -- the packet was dropped, and its octets are as they were
 pub record Drops (why : EspDrop) (octets : List ℕ) (answer : EspVerdict) (after : List ℕ) : Type 0 where
