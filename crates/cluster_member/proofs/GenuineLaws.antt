@@ -11,9 +11,8 @@ use Rattle.turn_rules.proofs.KeySizes.{sized_to_cluster}
 use Rattle.turn_rules.specs.Draws.{counter_name}
 use Rattle.turn_rules.specs.Genuine.{IsAcknowledged, IsGenuine, IsTakenAs}
 use Rattle.turn_rules.specs.Held.{Held, held_at}
-use Rattle.turn_rules.specs.MemberPackets.{ReceivesPacketTo, TakesPacketTo, inbound_of}
+use Rattle.turn_rules.specs.MemberPackets.{MemberReceives, ReceivesPacket, TakesPacket, inbound_of}
 use Rattle.cluster_member.specs.Genuine.{GenuineAreAccepted}
-use Rattle.cluster_member.specs.Members.{ReceivesFrom}
 
 module _ (law : SealedPacketsOpen) (held : Held) (number : ℕ) (payload octets : List ℕ) (genuine : IsGenuine (inbound_of held) number payload octets) where
   its_key : IsSized (inbound_of held)
@@ -22,11 +21,11 @@ module _ (law : SealedPacketsOpen) (held : Held) (number : ℕ) (payload octets 
   not_short : length octets < 34 → ⊥
   not_short short = genuine-long law (inbound_of held) its_key number payload octets genuine short
 
-  received_accepted : (calls : List Call) (answer : EspVerdict) (after : List ℕ) (now : Held) → IsAcknowledged held number calls → ReceivesPacketTo held octets calls answer after now → IsTakenAs (counter_name held.sa counter.EspIn) number payload answer after
-  received_accepted calls answer after now allowed r =
+  received_accepted : (calls : List Call) (answer : EspVerdict) (after : List ℕ) → IsAcknowledged held number calls → ReceivesPacket held octets calls answer after → IsTakenAs (counter_name held.sa counter.EspIn) number payload answer after
+  received_accepted calls answer after allowed r =
       let opened : Accepts number payload 4 r.opened after = genuine-opens law (inbound_of held) its_key number payload octets genuine r.opened after r.opens in
       let packet = opened.packet in
-      let takes : TakesPacketTo held (Ok packet) calls answer now = subst (λ o. TakesPacketTo held o calls answer now) opened.accepted r.takes in
+      let takes : TakesPacket held (Ok packet) calls answer = subst (λ o. TakesPacket held o calls answer) opened.accepted r.takes in
       let below : packet.number < 2 ^ 63 = subst (λ n. n < 2 ^ 63) (sym opened.number_is) genuine.covered.below_end in
       let mine : IsAcknowledged held packet.number calls = subst (λ n. IsAcknowledged held n calls) (sym opened.number_is) allowed in
       record {
@@ -37,11 +36,11 @@ module _ (law : SealedPacketsOpen) (held : Held) (number : ℕ) (payload octets 
         payload_is = opened.payload_is;
       }
 
-pub genuine_accepted : SealedPacketsOpen → (old : List Held) (octets : List ℕ) (calls : List Call) (answer : EspVerdict) (after : List ℕ) (new : List Held) → ReceivesFrom old octets calls answer after new → GenuineAreAccepted old octets calls answer after
-genuine_accepted law old octets calls answer after new r spir number held payload is genuine allowed =
+pub genuine_accepted : SealedPacketsOpen → (old : List Held) (octets : List ℕ) (calls : List Call) (answer : EspVerdict) (after : List ℕ) → MemberReceives (held_at old) octets calls answer after → GenuineAreAccepted old octets calls answer after
+genuine_accepted law old octets calls answer after r spir number held payload is genuine allowed =
     ⊎_elim (λ l. absurd (not_short law held number payload octets genuine l))
     (λ l. ⊎_elim (λ none. absurd (none.0 spir held is.is_held is.receives))
-    (λ got. received_accepted law held number payload octets genuine calls answer after got.now allowed
-    (subst (λ g. ReceivesPacketTo g octets calls answer after got.now) (same_receiver (held_at old) (spi_of octets) got.spir spir got.receiver held got.is_receiver is) got.receives))
+    (λ got. received_accepted law held number payload octets genuine calls answer after allowed
+    (subst (λ g. ReceivesPacket g octets calls answer after) (same_receiver (held_at old) (spi_of octets) got.spir spir got.receiver held got.is_receiver is) got.receives))
     (r.long l))
     (cases_lt (length octets) 34)

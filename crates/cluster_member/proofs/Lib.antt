@@ -1,6 +1,8 @@
+pub mod Advancing
 pub mod GenuineLaws
 pub mod KeySizes
 pub mod PlaceLemmas
+pub mod Placed
 pub mod ReceiverLemmas
-pub mod StepLaws
-pub mod VerdictLaws
+pub mod Sending
+pub mod Taking

@@ -4,6 +4,7 @@ use Rattle.events.specs.declared.verdict.EspVerdict.{EspVerdict}
 use Rattle.events.specs.declared.verdict.EspVerdict.TheVariants as esp
 use Rattle.ha_base.specs.declared.esp_outcomes.EspOpened.{EspOpened}
 use Rattle.horizons.specs.Reaches.{Reach}
+use Rattle.keeper_book.specs.CounterEnds.{end_of}
 use Rattle.keeper_book.specs.declared.counters.Counter.{Counter}
 use Rattle.keeper_book.specs.declared.counters.Counter.TheVariants as counter
 use Rattle.keeper_book.specs.declared.records.Record.{Record}
@@ -16,6 +17,7 @@ pub record IsHorizon (sa : Record) (epoch : ℕ) (c : Counter) (horizon : Reach)
   pub counter : horizon.counter ≡ c
   pub spir : horizon.spir ≡ sa.spir
   pub epoch_is : horizon.epoch ≡ epoch
+  pub end_is : horizon.end ≡ end_of sa c
 
 -- there is one for each counter
 pub record AreHorizons (sa : Record) (epoch : ℕ) (esp_out esp_in iv ask answer : Reach) : Type 0 where

@@ -1,14 +1,14 @@
-ghost use Rattle.std.specs.Prelude.{◌≡◌, ◌^◌, ◌<◌, ◌≤◌, List, Ok, length};
-ghost use Rattle.keeper_book.specs.Asks.{Asks};
+ghost use Rattle.std.specs.Prelude.{◌≡◌, ◌<◌, ◌≤◌, Ok, length};
+ghost use Rattle.keeper_book.specs.CounterEnds.{end_of};
 ghost use Rattle.keeper_book.specs.Counters.{AreWithinEnds};
-ghost use Rattle.keeper_book.specs.declared.calls.Call.{Call};
+ghost use Rattle.keeper_book.specs.declared.counters.Counter.TheVariants as counter;
 ghost use Rattle.replay_set.specs.Window.{IsWindowSize, judged};
 ghost use Rattle.replay_set.specs.declared.judgement.Judgement.TheVariants as judgement;
 ghost use Rattle.cluster_member.specs.Holdings.{TookPacket};
-ghost use Rattle.turn_rules.specs.Packets.{LiesWithin};
-ghost use Rattle.turn_rules.specs.Draws.{DrawsTo};
+ghost use Rattle.cluster_member.specs.Uses.{DrawsNext, Notes, NotesPacket, SendsNext};
+ghost use Rattle.keeper_book.specs.Asks.{AsksFor};
 ghost use Rattle.turn_rules.specs.Held.{begun};
-ghost use Rattle.turn_rules.specs.MemberPackets.{ReceivesPacketTo, SendsDataTo, TakesPacketTo};
+ghost use Rattle.turn_rules.specs.Packets.{LiesWithin};
 
 use crate::refusals;
 use esp_sas::{InboundSa, OutboundSa, Room};
@@ -147,28 +147,26 @@ impl Holding {
     }
 
     /// Draws the next ESP number and gives it up.
-    pub fn draw<K: Keeper>(&mut self, keeper: &mut K) -> Verdict
-        ensures draws { (calls : List Call) × DrawsTo self.old calls result self.new × Asks K.Keeper keeper.old calls keeper.new }
+    pub fn draw<K: Keeper>(&mut self, keeper: &mut K) -> Step
+        ensures draws { AsksFor K.Keeper keeper.old keeper.new (λ calls. DrawsNext self.old calls result self.new) }
         ensures sa { self.new.sa ≡ self.old.sa }
-        ensures held { K.held keeper.new ≡ K.held keeper.old }
     {
         match self.esp_out.send_number(keeper) {
             Ok(number) => {
                 let value = number.value();
                 number.burn();
-                Verdict::Number(value)
+                return Step::quiet(Verdict::Number(value));
             }
-            Err(stop) => Verdict::Refused(refusals::of_stop(stop)),
+            Err(stop) => return Step::quiet(Verdict::Refused(refusals::of_stop(stop))),
         }
     }
+
     /// Sends a payload of at most 1,400 octets under the next ESP number.
     pub fn send<K: Keeper>(&mut self, keeper: &mut K, room: Room, payload: &[u8]) -> Step
         requires size { length payload.now ≤ 1400 }
         requires room { length payload.now ≤ room }
-        ensures sends { (calls : List Call) × SendsDataTo self.old payload.now calls result self.new
-            × Asks K.Keeper keeper.old calls keeper.new }
+        ensures sends { AsksFor K.Keeper keeper.old keeper.new (λ calls. SendsNext self.old payload.now calls result self.new) }
         ensures sa { self.new.sa ≡ self.old.sa }
-        ensures held { K.held keeper.new ≡ K.held keeper.old }
     {
         match self.esp_out.send_number(keeper) {
             Ok(number) => return self.outbound.send(room, number, payload),
@@ -180,12 +178,10 @@ impl Holding {
     fn take<K: Keeper>(&mut self, keeper: &mut K, packet: EspOpened) -> EspVerdict
         requires fresh { judged self.old.window packet.number ≡ judgement.Fresh }
         requires from_base { self.old.window.base ≤ packet.number }
-        requires below { packet.number < 2 ^ 63 }
-        ensures takes { (calls : List Call) × TakesPacketTo self.old (Ok packet) calls result self.new
-            × Asks K.Keeper keeper.old calls keeper.new }
+        requires below { packet.number < end_of self.old.sa counter.EspIn }
+        ensures takes { AsksFor K.Keeper keeper.old keeper.new (λ calls. Notes self.old (Ok packet) calls result self.new) }
         ensures same { TookPacket packet result }
         ensures sa { self.new.sa ≡ self.old.sa }
-        ensures held { K.held keeper.new ≡ K.held keeper.old }
     {
         match self.esp_in.admit(keeper, packet.number) {
             Ok(()) => {
@@ -202,11 +198,9 @@ impl Holding {
     /// Opens in place a packet that came. Its number is noted where the packet is accepted.
     pub fn receive<K: Keeper>(&mut self, keeper: &mut K, bytes: &mut [u8]) -> EspVerdict
         requires { length bytes.old ≤ 65536 }
-        ensures receives { (calls : List Call) × ReceivesPacketTo self.old bytes.old calls result bytes.new self.new
-            × Asks K.Keeper keeper.old calls keeper.new }
+        ensures receives { AsksFor K.Keeper keeper.old keeper.new (λ calls. NotesPacket self.old bytes.old calls result bytes.new self.new) }
         ensures within { LiesWithin result (length bytes.new) }
         ensures sa { self.new.sa ≡ self.old.sa }
-        ensures held { K.held keeper.new ≡ K.held keeper.old }
     {
         match self.inbound.open(bytes) {
             Ok(packet) => return self.take(keeper, packet),

@@ -1,11 +1,15 @@
-ghost use Rattle.std.specs.Prelude.{◌≡◌, ◌<◌, ◌≤◌, length, Some, None, [], List, MatchOption, IfSome, OnOk};
-ghost use Rattle.keeper_book.specs.Asks.{Asks};
-ghost use Rattle.keeper_book.specs.declared.calls.Call.{Call};
+ghost use Rattle.std.specs.Prelude.{◌≡◌, ◌<◌, ◌≤◌, ◌⊎◌, length, Some, None, [], MatchOption, IfSome, OnOk};
+ghost use Rattle.esp_packets.specs.Packet.{spi_of};
+ghost use Rattle.ha_base.specs.declared.esp_outcomes.EspDrop.TheVariants as drop;
+ghost use Rattle.keeper_book.specs.Asks.{AsksFor};
+ghost use Rattle.turn_rules.specs.Fits.{DrawsOf, SendsOf};
+ghost use Rattle.turn_rules.specs.MemberPackets.{DropsQuietly, IsReceived, MemberReceives, ReceivesNowhere};
+ghost use Rattle.turn_rules.specs.Tasks as task;
 ghost use Rattle.turn_rules.specs.Held.{held_at};
 ghost use Rattle.events.specs.declared.verdict.Refusal.TheVariants as refusal;
 ghost use Rattle.turn_rules.specs.Packets.{LiesWithin};
 ghost use Rattle.turn_rules.specs.Steps.{Says};
-ghost use Rattle.cluster_member.specs.Members.{DrawsFrom, ReceivesAt, ReceivesFrom, SendsFrom};
+ghost use Rattle.cluster_member.specs.Members.{HoldsOn, ReceivesOn};
 ghost use Rattle.cluster_member.specs.Places.{IsLeastAt, IsLesser, IsPlaceOf, KeepsOthers, NoneReceives};
 
 use crate::holding::Holding;
@@ -113,17 +117,16 @@ impl Holdings {
     }
 
     /// Draws the next ESP number of an association that is held.
-    pub fn draw<K: Keeper>(&mut self, keeper: &mut K, spir: u64) -> Verdict
-        ensures draws { (calls : List Call) × DrawsFrom spir self.old.held calls result self.new.held
-            × Asks K.Keeper keeper.old calls keeper.new }
-        ensures held { K.held keeper.new ≡ K.held keeper.old }
+    pub fn draw<K: Keeper>(&mut self, keeper: &mut K, spir: u64) -> Step
+        ensures draws { AsksFor K.Keeper keeper.old keeper.new (λ calls. DrawsOf (held_at self.old.held spir) calls result
+            × HoldsOn (task.Draw spir) calls result self.old.held self.new.held) }
     {
         match place_of(&self.items, spir) {
             Some(place) => {
                 let holding = &mut self.items[place];
                 holding.draw(keeper)
             }
-            None => Verdict::Refused(Refusal::NotOwner),
+            None => not_owner(),
         }
     }
 
@@ -131,9 +134,8 @@ impl Holdings {
     pub fn send<K: Keeper>(&mut self, keeper: &mut K, spir: u64, room: Room, payload: &[u8]) -> Step
         requires size { length payload.now ≤ 1400 }
         requires room { length payload.now ≤ room }
-        ensures sends { (calls : List Call) × SendsFrom spir self.old.held payload.now calls result self.new.held
-            × Asks K.Keeper keeper.old calls keeper.new }
-        ensures held { K.held keeper.new ≡ K.held keeper.old }
+        ensures sends { AsksFor K.Keeper keeper.old keeper.new (λ calls. SendsOf (held_at self.old.held spir) payload.now calls result
+            × HoldsOn (task.Send spir payload.now) calls result self.old.held self.new.held) }
     {
         match place_of(&self.items, spir) {
             Some(place) => {
@@ -147,10 +149,10 @@ impl Holdings {
     /// Hands a packet to what is held that receives at its SPI.
     pub fn receive<K: Keeper>(&mut self, keeper: &mut K, bytes: &mut [u8]) -> EspVerdict
         requires { length bytes.old ≤ 65536 }
-        ensures receives { (calls : List Call) × ReceivesFrom self.old.held bytes.old calls result bytes.new self.new.held
-            × Asks K.Keeper keeper.old calls keeper.new }
+        ensures receives { AsksFor K.Keeper keeper.old keeper.new (λ calls.
+            MemberReceives (held_at self.old.held) bytes.old calls result bytes.new
+            × ReceivesOn calls result bytes.new self.old.held self.new.held) }
         ensures within { LiesWithin result (length bytes.new) }
-        ensures held { K.held keeper.new ≡ K.held keeper.old }
     {
         match packet_spi(bytes) {
             Some(spi) => return self.receive_at(keeper, spi, bytes),
@@ -160,11 +162,13 @@ impl Holdings {
 
     // Hands a packet to what is held that receives at this SPI.
     fn receive_at<K: Keeper>(&mut self, keeper: &mut K, spi: u32, bytes: &mut [u8]) -> EspVerdict
-        requires { length bytes.old ≤ 65536 }
-        ensures receives { (calls : List Call) × ReceivesAt spi self.old.held bytes.old calls result bytes.new self.new.held
-            × Asks K.Keeper keeper.old calls keeper.new }
+        requires size { length bytes.old ≤ 65536 }
+        requires spi { spi ≡ spi_of bytes.old }
+        ensures receives { AsksFor K.Keeper keeper.old keeper.new (λ calls.
+            ((ReceivesNowhere (held_at self.old.held) (spi_of bytes.old) × DropsQuietly drop.WrongSpi bytes.old calls result bytes.new)
+            ⊎ IsReceived (held_at self.old.held) bytes.old calls result bytes.new)
+            × ReceivesOn calls result bytes.new self.old.held self.new.held) }
         ensures within { LiesWithin result (length bytes.new) }
-        ensures held { K.held keeper.new ≡ K.held keeper.old }
     {
         match receiver_of(&self.items, spi) {
             Some(place) => {

@@ -9,7 +9,7 @@ mod refusals;
 
 pub use config::Config;
 pub use member::Member;
-pub use refusals::of_fault;
+pub use refusals::of_import;
 
 #[cfg(test)]
 mod tests;

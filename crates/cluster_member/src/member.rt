@@ -1,11 +1,14 @@
-ghost use Rattle.std.specs.Prelude.{◌≡◌, ◌≤◌, [], List, IfOk, OnErr, length};
-ghost use Rattle.keeper_book.specs.Asks.{Asks};
-ghost use Rattle.keeper_book.specs.declared.calls.Call.{Call};
+ghost use Rattle.std.specs.Prelude.{◌≡◌, ◌≤◌, [], IfOk, OnErr, length};
 ghost use Rattle.replay_set.specs.Window.{IsWindowSize};
+ghost use Rattle.keeper_book.specs.Asks.{AsksFor};
+ghost use Rattle.turn_rules.specs.Draws.{TakesOver};
+ghost use Rattle.turn_rules.specs.Fits.{DrawsOf, Quietly, SendsOf};
+ghost use Rattle.turn_rules.specs.Held.{held_at};
+ghost use Rattle.turn_rules.specs.MemberPackets.{MemberReceives};
 ghost use Rattle.turn_rules.specs.Packets.{LiesWithin};
-ghost use Rattle.turn_rules.specs.Steps.{IsQuiet};
+ghost use Rattle.turn_rules.specs.Tasks as task;
 ghost use Rattle.cluster_member.specs.Genuine.{GenuineAreAccepted};
-ghost use Rattle.cluster_member.specs.Members.{AsksInVain, DrawsFrom, ReceivesFrom, SendsFrom, TakesTo};
+ghost use Rattle.cluster_member.specs.Members.{AsksInVain, IsAfter, IsAfterPacket};
 
 use crate::config::Config;
 use crate::holding::Holding;
@@ -59,15 +62,10 @@ impl Member {
     /// begins anew. An error is want of memory; the member is then as it was, and the keeper was asked only where it lacked
     /// the memory itself.
     pub fn take_over<K: Keeper>(&mut self, keeper: &mut K, spir: u64) -> Result<Step, Memory>
-        ensures takes { IfOk result (λ step. (calls : List Call)
-            × TakesTo self.old.window spir self.old.number self.old.held calls step.verdict self.new.held
-            × Asks K.Keeper keeper.old calls keeper.new) }
-        ensures quiet { IfOk result IsQuiet }
-        ensures number { self.new.number ≡ self.old.number }
-        ensures window { self.new.window ≡ self.old.window }
+        ensures takes { IfOk result (λ step. AsksFor K.Keeper keeper.old keeper.new (λ calls.
+            Quietly (TakesOver spir self.old.number) calls step × IsAfter (task.TakeOver spir) calls step self.old self.new)) }
         ensures err { OnErr result (self.new ≡ self.old) }
         ensures in_vain { OnErr result (AsksInVain K.Keeper keeper.old keeper.new) }
-        ensures held { K.held keeper.new ≡ K.held keeper.old }
     {
         self.holdings.reserve()?;
         match keeper.take_over(spir, self.number) {
@@ -79,7 +77,7 @@ impl Member {
                 self.holdings.put(Holding::begin(taken, self.config.window));
                 Ok(Step::quiet(verdict))
             }
-            Err(fault) => match refusals::of_fault(fault) {
+            Err(fault) => match refusals::of_takeover(fault) {
                 Some(refusal) => Ok(Step::quiet(Verdict::Refused(refusal))),
                 None => Err(Memory),
             },
@@ -87,12 +85,9 @@ impl Member {
     }
 
     /// Draws the next ESP number of an association and gives it up. It takes no memory.
-    pub fn draw<K: Keeper>(&mut self, keeper: &mut K, spir: u64) -> Verdict
-        ensures draws { (calls : List Call) × DrawsFrom spir self.old.held calls result self.new.held
-            × Asks K.Keeper keeper.old calls keeper.new }
-        ensures number { self.new.number ≡ self.old.number }
-        ensures window { self.new.window ≡ self.old.window }
-        ensures held { K.held keeper.new ≡ K.held keeper.old }
+    pub fn draw<K: Keeper>(&mut self, keeper: &mut K, spir: u64) -> Step
+        ensures draws { AsksFor K.Keeper keeper.old keeper.new (λ calls. DrawsOf (held_at self.old.held spir) calls result
+            × IsAfter (task.Draw spir) calls result self.old self.new) }
     {
         self.holdings.draw(keeper, spir)
     }
@@ -107,13 +102,10 @@ impl Member {
         payload: &[u8],
     ) -> Result<Step, Memory>
         requires { length payload.now ≤ 1400 }
-        ensures sends { IfOk result (λ step. (calls : List Call)
-            × SendsFrom spir self.old.held payload.now calls step self.new.held
-            × Asks K.Keeper keeper.old calls keeper.new) }
-        ensures number { self.new.number ≡ self.old.number }
-        ensures window { self.new.window ≡ self.old.window }
+        ensures sends { IfOk result (λ step. AsksFor K.Keeper keeper.old keeper.new (λ calls.
+            SendsOf (held_at self.old.held spir) payload.now calls step
+            × IsAfter (task.Send spir payload.now) calls step self.old self.new)) }
         ensures err { OnErr result ((self.new ≡ self.old) × (keeper.new ≡ keeper.old)) }
-        ensures held { K.held keeper.new ≡ K.held keeper.old }
     {
         let room = Room::new(self.alloc, payload.len())?;
         Ok(self.holdings.send(keeper, spir, room, payload))
@@ -123,13 +115,11 @@ impl Member {
     /// has to be ready first. It takes no memory.
     pub fn receive_esp<K: Keeper>(&mut self, keeper: &mut K, bytes: &mut [u8]) -> EspVerdict
         requires { length bytes.old ≤ 2048 }
-        ensures receives { (calls : List Call) × ReceivesFrom self.old.held bytes.old calls result bytes.new self.new.held
+        ensures receives { AsksFor K.Keeper keeper.old keeper.new (λ calls.
+            MemberReceives (held_at self.old.held) bytes.old calls result bytes.new
             × GenuineAreAccepted self.old.held bytes.old calls result bytes.new
-            × Asks K.Keeper keeper.old calls keeper.new }
+            × IsAfterPacket calls result bytes.new self.old self.new) }
         ensures within { LiesWithin result (length bytes.new) }
-        ensures number { self.new.number ≡ self.old.number }
-        ensures window { self.new.window ≡ self.old.window }
-        ensures held { K.held keeper.new ≡ K.held keeper.old }
     {
         sealed_packets_open();
         self.holdings.receive(keeper, bytes)

@@ -1,5 +1,5 @@
 ghost use Rattle.std.specs.Prelude.{◌≡◌, ◌≢◌, Some, None};
-ghost use Rattle.turn_rules.specs.Draws.{refusal_of_fault, refusal_of_stop};
+ghost use Rattle.turn_rules.specs.Draws.{refusal_of_import, refusal_of_stop, refusal_of_takeover};
 
 use events::Refusal;
 use horizons::Stop;
@@ -18,16 +18,27 @@ pub(crate) fn of_stop(stop: Stop) -> Refusal
     }
 }
 
-/// The refusal that a keeper's answer to a call is that is not a cover, but for want of memory.
-pub fn of_fault(fault: KeeperFault) -> Option<Refusal>
-    ensures { result ≡ refusal_of_fault fault }
+/// The refusal of a takeover that a keeper's answer is, but for want of memory.
+pub(crate) fn of_takeover(fault: KeeperFault) -> Option<Refusal>
+    ensures { result ≡ refusal_of_takeover fault }
 {
     match fault {
         KeeperFault::Failed => Some(Refusal::KeeperFault),
         KeeperFault::Unknown => Some(Refusal::Unknown),
         KeeperFault::Closed => Some(Refusal::Closed),
         KeeperFault::Full(limit) => Some(Refusal::Full(limit)),
+        _ => None,
+    }
+}
+
+/// The refusal of an import that a keeper's answer is, but for want of memory.
+pub fn of_import(fault: KeeperFault) -> Option<Refusal>
+    ensures { result ≡ refusal_of_import fault }
+{
+    match fault {
+        KeeperFault::Failed => Some(Refusal::KeeperFault),
         KeeperFault::SpiInUse => Some(Refusal::SpiInUse),
-        KeeperFault::Replaced(_) | KeeperFault::Spent | KeeperFault::Memory => None,
+        KeeperFault::Full(limit) => Some(Refusal::Full(limit)),
+        _ => None,
     }
 }

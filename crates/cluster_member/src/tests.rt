@@ -105,7 +105,7 @@ fn takes_over(member: &mut Member, keeper: &mut MemoryKeeper, spir: u64) -> Answ
 }
 
 fn draws(member: &mut Member, keeper: &mut MemoryKeeper, spir: u64) -> Answer {
-    answer_of(&member.draw(keeper, spir))
+    answer_of(&member.draw(keeper, spir).verdict)
 }
 
 // Two members draw from one association; the first covers the numbers below 1025, the second those below 2049. What a

@@ -18,26 +18,24 @@ module _ (law : SealedPacketsOpen) (slot : Slot) (number : ℕ) (payload octets 
   not_short : length octets < 34 → ⊥
   not_short short = genuine-long law (slot_inbound slot) its_key number payload octets genuine short
 
-  received_accepted : (answer : EspVerdict) (after : List ℕ) (now : Slot) → SlotReceives slot octets answer after now → IsTakenAs (peer_counter slot.sa counter.EspIn) number payload answer after
-  received_accepted answer after now r =
+  received_accepted : (answer : EspVerdict) (after : List ℕ) → SlotReceives slot octets answer after → IsTakenAs (peer_counter slot.sa counter.EspIn) number payload answer after
+  received_accepted answer after r =
       let opened : Accepts number payload 4 r.opened after = genuine-opens law (slot_inbound slot) its_key number payload octets genuine r.opened after r.opens in
-      let takes : SlotTakes slot (Ok opened.packet) answer now = subst (λ o. SlotTakes slot o answer now) opened.accepted r.takes in
+      let takes : SlotTakes slot (Ok opened.packet) answer = subst (λ o. SlotTakes slot o answer) opened.accepted r.takes in
       record {
         packet = opened.packet;
-        said = takes.0;
+        said = takes;
         number_is = opened.number_is;
         next_header_is = opened.next_header_is;
         payload_is = opened.payload_is;
       }
 
-  found_accepted : (A : Type 0) (found : Option Slot) (answer : EspVerdict) (after : List ℕ) (Rest : Slot → Slot → Type 0) → found ≡ Some slot
-      → MatchOption found A (λ s. (now : Slot) × SlotReceives s octets answer after now × Rest s now) → IsTakenAs (peer_counter slot.sa counter.EspIn) number payload answer after
-  found_accepted A found answer after Rest is r =
-      let there = subst (λ f. MatchOption f A (λ s. (now : Slot) × SlotReceives s octets answer after now × Rest s now)) is r in
-      received_accepted answer after there.0 there.1
+  found_accepted : (A : Type 0) (found : Option Slot) (answer : EspVerdict) (after : List ℕ) → found ≡ Some slot
+      → MatchOption found A (λ s. SlotReceives s octets answer after) → IsTakenAs (peer_counter slot.sa counter.EspIn) number payload answer after
+  found_accepted A found answer after is r = received_accepted answer after (subst (λ f. MatchOption f A (λ s. SlotReceives s octets answer after)) is r)
 
-pub genuine_accepted : SealedPacketsOpen → (old : List Slot) (octets : List ℕ) (answer : EspVerdict) (after : List ℕ) (new : List Slot) → PeerReceives old octets answer after new → GenuineAreAccepted old octets answer after
-genuine_accepted law old octets answer after new r number slot payload is genuine =
+pub genuine_accepted : SealedPacketsOpen → (old : List Slot) (octets : List ℕ) (answer : EspVerdict) (after : List ℕ) → PeerReceives old octets answer after → GenuineAreAccepted old octets answer after
+genuine_accepted law old octets answer after r number slot payload is genuine =
     ⊎_elim (λ l. absurd (not_short law slot number payload octets genuine l))
-    (λ l. found_accepted law slot number payload octets genuine _ _ answer after _ is (r.long l))
+    (λ l. found_accepted law slot number payload octets genuine _ _ answer after is (r.long l))
     (cases_lt (length octets) 34)

@@ -1,3 +1,4 @@
 mod GenuineLaws
 pub mod KeySizes
+mod SlotLaws
 mod SlotLemmas

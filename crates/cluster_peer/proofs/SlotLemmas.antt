@@ -1,7 +1,6 @@
 -- The first slot that passes a test, by the place where it stands.
 use Rattle.std.proofs.Common.{◌≡◌, ℕ, zero, suc, ◌<◌, Bool, true, false, List, [], ◌∷◌, ◌++◌, length, take, Some, None, get_or, refl, ap, sym, ◌∙◌, arith}
-use Rattle.std.proofs.Math.ListN.{set}
-use Rattle.turn_rules.specs.Slots.{Slot, first_slot, with_slot}
+use Rattle.turn_rules.specs.Slots.{Slot, first_slot}
 use Rattle.cluster_peer.specs.Slots.{IsFirst}
 
 module _ (test : Slot → Bool) where
@@ -32,18 +31,6 @@ module _ (test : Slot → Bool) where
       let other = not_here x (take k xs) n in
       there x xs other ∙ first_within k xs s (omega arith) (sym (there x (take k xs) other) ∙ n) t at
 
-  put_within : (place : ℕ) (ss : List Slot) (s now : Slot) → place < length ss → first_slot test (take place ss) ≡ None → test s ≡ true → s ≡ get_or ss place s → with_slot test now ss ≡ set ss place now
-  put_within place [] s now w n t at = absurd (omega arith)
-  put_within zero (x ∷ xs) s now w n t at = let x_passes : test x ≡ true = ap test (sym at) ∙ t in rw x_passes
-  put_within (suc k) (x ∷ xs) s now w n t at =
-      let other = not_here x (take k xs) n in
-      let later : with_slot test now xs ≡ set xs k now = put_within k xs s now (omega arith) (sym (there x (take k xs) other) ∙ n) t at in
-      rw (other, later)
-
   -- the first slot is found
   pub first_at : (place : ℕ) (ss : List Slot) (s : Slot) → IsFirst test place ss → s ≡ get_or ss place s → first_slot test ss ≡ Some s
   first_at place ss s is at = first_within place ss s is.within is.none_before (is.here s at) at
-
-  -- and it is the one that is put another in the place of
-  pub put_at : (place : ℕ) (ss : List Slot) (s now : Slot) → IsFirst test place ss → s ≡ get_or ss place s → with_slot test now ss ≡ set ss place now
-  put_at place ss s now is at = put_within place ss s now is.within is.none_before (is.here s at) at

@@ -1,5 +1,6 @@
 -- What the peer keeps of an association.
-use Rattle.std.specs.Prelude.{◌≡◌, ◌^◌}
+use Rattle.std.specs.Prelude.{◌≡◌}
+use Rattle.keeper_book.specs.CounterEnds.{end_of}
 use Rattle.keeper_book.specs.declared.counters.Counter.TheVariants as counter
 use Rattle.keeper_book.specs.declared.records.Record.{Record}
 use Rattle.spend_once.specs.Lot.{Remaining}
@@ -9,7 +10,7 @@ use Rattle.turn_rules.specs.Slots.{peer_counter}
 -- the numbers that are left, and what is sent and received with, are those of the record
 pub record IsOfRecord (sa : Record) (lot : Remaining) (outbound : Outbound) (inbound : Inbound) : Type 0 where
   pub numbers : lot.name ≡ peer_counter sa counter.EspOut
-  pub end : lot.end ≡ 2 ^ 63
+  pub end : lot.end ≡ end_of sa counter.EspOut
   pub sent_name : outbound.key.name ≡ peer_counter sa counter.EspOut
   pub sent_key : outbound.key.octets ≡ sa.child.to_cluster
   pub sent_spi : outbound.spi ≡ sa.spi_in

@@ -1,7 +1,14 @@
 -- The associations of the peer, and where they stand.
 use Rattle.std.specs.Prelude.{ℕ, ◌≡◌, ◌<◌, Bool, true, None, List, length, take, slice_index_or}
+use Rattle.events.specs.declared.turn.Step.{Step}
+use Rattle.events.specs.declared.verdict.EspVerdict.{EspVerdict}
+use Rattle.events.specs.declared.verdict.EspVerdict.TheVariants as esp
 use Rattle.ha_base.specs.declared.identities.GatewayId.{GatewayId}
-use Rattle.turn_rules.specs.Slots.{Slot, first_slot}
+use Rattle.replay_set.specs.Window.{with_noted}
+use Rattle.turn_rules.specs.Packets.{IsVerdictOf}
+use Rattle.turn_rules.specs.Slots.{Slot, first_slot, slots_after}
+use Rattle.turn_rules.specs.Tasks as task
+use Rattle.turn_rules.specs.Tasks.{Task}
 
 -- what the peer holds: its gateway, the receive window of associations that come, its associations, and for how many more
 -- there is room
@@ -21,3 +28,18 @@ pub record IsFirst (test : Slot → Bool) (place : ℕ) (slots : List Slot) : Ty
   pub within : place < length slots
   pub none_before : first_slot test (take place slots) ≡ None
   pub here : (slot : Slot) → slot ≡ slice_index_or slots place slot → test slot ≡ true
+
+-- what an association is once its answer to a packet was given: the number of a packet that was accepted is noted
+abbrev pub slot_noted : EspVerdict → Slot → Slot
+slot_noted (esp.Accepted counter packet) slot = record slot { window = with_noted slot.window packet.number }
+slot_noted answer slot = slot
+
+-- what the peer is after a task
+pub record IsPeerAfter (asked : Task) (step : Step) (old new : PeerHeld) : Type 0 where
+  pub gateway : new.gateway ≡ old.gateway
+  pub window : new.window ≡ old.window
+  pub slots : new.slots ≡ slots_after old.window asked step old.slots
+
+-- the same of a packet, by the step that words the answer
+abbrev pub IsPeerAfterPacket : EspVerdict → List ℕ → PeerHeld → PeerHeld → Type 0
+IsPeerAfterPacket answer after old new = (step : Step) → IsVerdictOf answer after step.verdict → IsPeerAfter task.Receive step old new

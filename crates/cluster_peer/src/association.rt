@@ -1,14 +1,15 @@
-ghost use Rattle.std.specs.Prelude.{◌≡◌, ◌≤◌, ◌⊎◌, length};
+ghost use Rattle.std.specs.Prelude.{◌≡◌, ◌+◌, ◌<◌, ◌≤◌, ◌^◌, ◌⊎◌, length};
 ghost use Rattle.replay_set.specs.Window.{IsWindowSize};
 ghost use Rattle.keeper_book.specs.declared.counters.Counter.TheVariants as counter;
 ghost use Rattle.turn_rules.specs.Packets.{LiesWithin};
 ghost use Rattle.turn_rules.specs.Peers.{clashes};
 ghost use Rattle.turn_rules.specs.Slots.{SlotReceives, SlotSends, entered_slot, peer_counter};
+ghost use Rattle.cluster_peer.specs.Slots.{slot_noted};
 
 use esp_sas::{InboundSa, OutboundSa, Room};
 use events::{EspVerdict, Refusal, Step, Verdict};
 use ha_base::{CounterName, End, Kind};
-use keeper_book::Record;
+use keeper_book::{Counter, Record};
 use spend_once::Lot;
 use std::marker::Model;
 
@@ -72,7 +73,7 @@ impl Association {
         ensures { result ≡ entered_slot window sa }
     {
         Association {
-            lot: Lot::new(esp_out(&sa), sa.starts.esp_in, 1 << 63),
+            lot: Lot::new(esp_out(&sa), sa.starts.esp_in, sa.end(Counter::EspOut)),
             outbound: OutboundSa::new(esp_out(&sa), sa.child.to_cluster.as_slice(), sa.spi_in),
             inbound: InboundSa::new(
                 esp_in(&sa),
@@ -111,7 +112,10 @@ impl Association {
     pub fn send(&mut self, room: Room, payload: &[u8]) -> Step
         requires size { length payload.now ≤ 1400 }
         requires room { length payload.now ≤ room }
-        ensures { SlotSends self.old payload.now result self.new }
+        ensures sends { SlotSends self.old payload.now result }
+        ensures within { self.old.next < 2 ^ 63 → self.new ≡ record self.old { next = self.old.next + 1 } }
+        ensures ended { 2 ^ 63 ≤ self.old.next → self.new ≡ self.old }
+        ensures sa { self.new.sa ≡ self.old.sa }
     {
         match self.lot.draw() {
             Some(number) => self.outbound.send(room, number, payload),
@@ -122,7 +126,9 @@ impl Association {
     /// Opens in place a packet that came, and notes its number where it is accepted.
     pub fn receive(&mut self, bytes: &mut [u8]) -> EspVerdict
         requires { length bytes.old ≤ 65536 }
-        ensures receives { SlotReceives self.old bytes.old result bytes.new self.new }
+        ensures receives { SlotReceives self.old bytes.old result bytes.new }
+        ensures noted { self.new ≡ slot_noted result self.old }
+        ensures sa { self.new.sa ≡ self.old.sa }
         ensures within { LiesWithin result (length bytes.new) }
     {
         match self.inbound.open(bytes) {

@@ -5,6 +5,8 @@ ghost use Rattle.replay_set.specs.Window.{IsWindowSize};
 ghost use Rattle.turn_rules.specs.Packets.{LiesWithin};
 ghost use Rattle.turn_rules.specs.Peers.{admits};
 ghost use Rattle.turn_rules.specs.Slots.{PeerReceives, PeerSends, entered_slot, records};
+ghost use Rattle.turn_rules.specs.Tasks as task;
+ghost use Rattle.cluster_peer.specs.Slots.{IsPeerAfter, IsPeerAfterPacket};
 ghost use Rattle.turn_rules.specs.Steps.{Says};
 
 use crate::slots::Slots;
@@ -110,9 +112,8 @@ impl Peer {
     /// then as it was.
     pub fn send_data(&mut self, spir: u64, payload: &[u8]) -> Result<Step, Memory>
         requires { length payload.now ≤ 1400 }
-        ensures sends { IfOk result (λ step. PeerSends spir self.old.slots payload.now step self.new.slots) }
-        ensures gateway { self.new.gateway ≡ self.old.gateway }
-        ensures window { self.new.window ≡ self.old.window }
+        ensures sends { IfOk result (λ step. PeerSends spir self.old.slots payload.now step) }
+        ensures after { IfOk result (λ step. IsPeerAfter (task.Send spir payload.now) step self.old self.new) }
         ensures err { OnErr result (self.new ≡ self.old) }
     {
         let room = Room::new(self.alloc, payload.len())?;
@@ -123,10 +124,9 @@ impl Peer {
     /// section 3.4). It takes no memory.
     pub fn receive_esp(&mut self, bytes: &mut [u8]) -> EspVerdict
         requires { length bytes.old ≤ 2048 }
-        ensures receives { PeerReceives self.old.slots bytes.old result bytes.new self.new.slots }
+        ensures receives { PeerReceives self.old.slots bytes.old result bytes.new }
+        ensures after { IsPeerAfterPacket result bytes.new self.old self.new }
         ensures genuine { GenuineAreAccepted self.old.slots bytes.old result bytes.new }
-        ensures gateway { self.new.gateway ≡ self.old.gateway }
-        ensures window { self.new.window ≡ self.old.window }
         ensures within { LiesWithin result (length bytes.new) }
     {
         sealed_packets_open();

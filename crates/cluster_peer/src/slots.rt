@@ -1,8 +1,10 @@
-ghost use Rattle.std.specs.Prelude.{◌≡◌, ◌≤◌, ◌<◌, [], ◌∷◌, ◌++◌, None, MatchOption, OnOk, length};
+ghost use Rattle.std.specs.Prelude.{◌≡◌, ◌≤◌, ◌<◌, [], ◌∷◌, ◌++◌, None, true, map, MatchOption, OnOk, length};
 ghost use Rattle.replay_set.specs.Window.{IsWindowSize};
-ghost use Rattle.turn_rules.specs.Packets.{Drops, LiesWithin};
+ghost use Rattle.events.specs.declared.turn.Step.{Step};
+ghost use Rattle.turn_rules.specs.Packets.{Drops, IsVerdictOf, LiesWithin};
 ghost use Rattle.turn_rules.specs.Peers.{admits};
-ghost use Rattle.turn_rules.specs.Slots.{PeerReceives, PeerSends, Slot, SlotReceives, entered_slot, first_slot, has_spir, receives_at, records, with_slot};
+ghost use Rattle.turn_rules.specs.Slots.{PeerReceives, PeerSends, SlotReceives, entered_slot, first_slot, has_spir, receives_at, records, slot_after};
+ghost use Rattle.turn_rules.specs.Tasks as task;
 ghost use Rattle.cluster_peer.specs.Slots.{IsFirst};
 ghost use Rattle.ha_base.specs.declared.esp_outcomes.EspDrop.TheVariants as drop;
 
@@ -23,11 +25,15 @@ pub struct Slots {
 
 impl Model for Slots {
     ghost use Rattle.std.specs.Prelude.{◌-◌, vec_len, vec_capacity};
+    ghost use Rattle.turn_rules.specs.Peers.{AreDistinct};
+    ghost use Rattle.turn_rules.specs.Slots.{records};
     ghost use Rattle.cluster_peer.specs.Slots.{Slotted};
 
     ghost Value = { Slotted };
 
     ghost view = { λ s. record { slots = s.items.items; spare = vec_capacity s.items - vec_len s.items } };
+
+    ghost invariant = { λ s. AreDistinct (records s.items.items) };
 }
 
 /// Where the association of a responder's SPI stands.
@@ -88,6 +94,7 @@ impl Slots {
 
     /// Adds an association where there is room for one, with a receive window of this size.
     pub fn push(&mut self, sa: Record, window: u32)
+        requires admitted { admits (records self.old.slots) sa ≡ true }
         requires room { 0 < self.old.spare }
         requires window { IsWindowSize window }
         ensures { self.new.slots ≡ self.old.slots ++ entered_slot window sa ∷ [] }
@@ -99,7 +106,8 @@ impl Slots {
     pub fn send(&mut self, spir: u64, room: Room, payload: &[u8]) -> Step
         requires size { length payload.now ≤ 1400 }
         requires room { length payload.now ≤ room }
-        ensures { PeerSends spir self.old.slots payload.now result self.new.slots }
+        ensures sends { PeerSends spir self.old.slots payload.now result }
+        ensures after { self.new.slots ≡ map (slot_after (task.Send spir payload.now) result) self.old.slots }
     {
         match place_of(&self.items, spir) {
             Some(place) => {
@@ -113,7 +121,8 @@ impl Slots {
     /// Hands a packet to the association that receives at its SPI.
     pub fn receive(&mut self, bytes: &mut [u8]) -> EspVerdict
         requires { length bytes.old ≤ 65536 }
-        ensures receives { PeerReceives self.old.slots bytes.old result bytes.new self.new.slots }
+        ensures receives { PeerReceives self.old.slots bytes.old result bytes.new }
+        ensures after { (step : Step) → IsVerdictOf result bytes.new step.verdict → self.new.slots ≡ map (slot_after task.Receive step) self.old.slots }
         ensures within { LiesWithin result (length bytes.new) }
     {
         match packet_spi(bytes) {
@@ -126,8 +135,9 @@ impl Slots {
     fn receive_at(&mut self, spi: u32, bytes: &mut [u8]) -> EspVerdict
         requires { length bytes.old ≤ 65536 }
         ensures receives { MatchOption (first_slot (receives_at spi) self.old.slots)
-            (Drops drop.WrongSpi bytes.old result bytes.new × (self.new.slots ≡ self.old.slots))
-            (λ slot. (now : Slot) × SlotReceives slot bytes.old result bytes.new now × (self.new.slots ≡ with_slot (receives_at spi) now self.old.slots)) }
+            (Drops drop.WrongSpi bytes.old result bytes.new)
+            (λ slot. SlotReceives slot bytes.old result bytes.new) }
+        ensures after { (step : Step) → IsVerdictOf result bytes.new step.verdict → self.new.slots ≡ map (slot_after task.Receive step) self.old.slots }
         ensures within { LiesWithin result (length bytes.new) }
     {
         match receiver_at(&self.items, spi) {

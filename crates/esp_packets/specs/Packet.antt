@@ -113,7 +113,7 @@ IsEspAnswer key spi window octets (Err drops.Seen) after =
     × (after ≡ octets)
 IsEspAnswer key spi window octets (Err drops.NotOpened) after =
     ((number : ℕ) × IsNewPacket spi window octets number
-        × ((plain : List ℕ) → ¬ IsPacket key spi number (iv_of octets) plain octets))
+    × ((plain : List ℕ) → ¬ IsPacket key spi number (iv_of octets) plain octets))
     × (after ≡ octets)
 IsEspAnswer key spi window octets (Err drops.Padding) after =
     (number : ℕ) × (plain : List ℕ)

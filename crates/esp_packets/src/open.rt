@@ -5,7 +5,9 @@ ghost use Rattle.std.specs.Bool.{OnTrue, OnFalse};
 ghost use Rattle.esp_packets.specs.Packet.{IsEspAnswer, IsPacket, OpensPacket, opened, iv_of, spi_of};
 ghost use Rattle.esp_packets.specs.Answers.{IsNumberAnswer, IsPlainAnswer};
 
-use super::packet::{CHECK_VALUE, HEADER, LONGEST_PACKET, SHORTEST_PACKET, associated, check_value};
+use super::packet::{
+    CHECK_VALUE, HEADER, LONGEST_PACKET, SHORTEST_PACKET, associated, check_value,
+};
 use aes_gcm::{Key, open_in_place, sealing_laws};
 use ha_base::{EspDrop, EspOpened, read_u32, read_u64};
 use replay_set::{Judgement, ReplaySet};

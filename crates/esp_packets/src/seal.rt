@@ -35,8 +35,7 @@ pub fn seal_packet(
     requires empty { out.old.octets ≡ [] }
     requires room { length payload.now + PACKET_OVERHEAD ≤ out.old.spare }
     requires size { length payload.now ≤ MAX_PAYLOAD }
-    ensures datagram {
-        IsEspDatagram key.now.octets spi n.value payload.now next_header out.new.octets }
+    ensures datagram { IsEspDatagram key.now.octets spi n.value payload.now next_header out.new.octets }
     ensures overhead { length out.new.octets ≤ length payload.now + PACKET_OVERHEAD }
     ensures short { length out.new.octets ≤ 1436 }
 {

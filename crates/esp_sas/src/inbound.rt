@@ -43,7 +43,11 @@ impl InboundSa {
         requires size { (length octets.now ≡ 20) ⊎ (length octets.now ≡ 36) }
         requires window { IsWindowSize window }
         ensures { result ≡ record {
-            counter = counter; key = octets.now; spi = spi; window = window_of window base [] } }
+          counter = counter;
+          key = octets.now;
+          spi = spi;
+          window = window_of window base [];
+        } }
     {
         match (Key::new(sender, octets), ReplaySet::new(window, base)) {
             (Some(key), Some(set)) => InboundSa {

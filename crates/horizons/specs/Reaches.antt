@@ -1,12 +1,12 @@
 -- How far a counter of an association reaches in an epoch.
 use Rattle.std.specs.Prelude.{ℕ, ◌+◌, ◌≤◌, ◌≡◌, min, Some}
 use Rattle.ha_base.specs.declared.counter_names.CounterName.{CounterName}
-use Rattle.keeper_book.specs.Counters.{counter_named, end_of}
+use Rattle.keeper_book.specs.Counters.{counter_of_kind}
 use Rattle.keeper_book.specs.declared.counters.Counter.{Counter}
 use Rattle.keeper_book.specs.declared.counters.Counter.TheVariants as counter
 
 -- The epoch of a counter: where it began, the number that is used next, and the high below which the keeper
--- acknowledged all numbers.
+-- acknowledged all numbers. No number reaches the end.
 pub record Reach : Type 0 where
   pub name : CounterName
   pub counter : Counter
@@ -15,6 +15,7 @@ pub record Reach : Type 0 where
   pub base : ℕ
   pub next : ℕ
   pub high : ℕ
+  pub end : ℕ
 
 -- how many numbers a cover asks for at once
 abbrev pub lead_of : Counter → ℕ
@@ -25,16 +26,16 @@ lead_of counter.Ask = 16
 lead_of counter.Answer = 16
 
 -- up to where a cover goes that a number asks for
-abbrev pub cover_of : Counter → ℕ → ℕ
-cover_of c at = min (at + lead_of c) (end_of c)
+abbrev pub cover_of : Reach → ℕ → ℕ
+cover_of h at = min (at + lead_of h.counter) h.end
 
 -- the name is the counter's, nothing lies below the base, and nothing passes the counter's end
 pub record IsInRange (h : Reach) : Type 0 where
-  pub named : counter_named h.name.kind h.name.child ≡ Some h.counter
+  pub named : counter_of_kind h.name.kind ≡ Some h.counter
   pub from_base : h.base ≤ h.next
   pub from_low : h.base ≤ h.high
-  pub within : h.high ≤ end_of h.counter
-  pub before_end : h.next ≤ end_of h.counter
+  pub within : h.high ≤ h.end
+  pub before_end : h.next ≤ h.end
 
 -- the same counter in the same epoch
 pub record IsSameCounter (old new : Reach) : Type 0 where
@@ -43,3 +44,4 @@ pub record IsSameCounter (old new : Reach) : Type 0 where
   pub spir : new.spir ≡ old.spir
   pub epoch : new.epoch ≡ old.epoch
   pub base : new.base ≡ old.base
+  pub end : new.end ≡ old.end

@@ -5,7 +5,6 @@ use Rattle.horizons.specs.Reaches.{Reach, cover_of}
 use Rattle.horizons.specs.Stops.{stop_of}
 use Rattle.horizons.specs.declared.stop.Stop.{Stop}
 use Rattle.horizons.specs.declared.stop.Stop.TheVariants as stop
-use Rattle.keeper_book.specs.Counters.{end_of}
 use Rattle.spend_once.specs.Lot.{Drawn}
 use Rattle.keeper_book.specs.Told.{seen}
 use Rattle.keeper_book.specs.declared.calls.Call.{Call}
@@ -23,14 +22,14 @@ Answered (answer.Refused why) stops goes = MatchOption (stop_of why) ⊥ stops
 abbrev pub Covers : Reach → ℕ → List Call → (Stop → List Call → Type 0) → (ℕ → List Call → Type 0) → Type 0
 Covers h at [] stops goes = ⊥
 Covers h at (call ∷ calls) stops goes =
-    (call.asked ≡ ask.Cover h.spir h.name.kind h.name.child h.epoch (cover_of h.counter at))
-    × Answered (seen call) (λ why. stops why calls) (goes (cover_of h.counter at) calls)
+    (call.asked ≡ ask.Cover h.spir h.name.kind h.name.child h.epoch (cover_of h at))
+    × Answered (seen call) (λ why. stops why calls) (goes (cover_of h at) calls)
 
 -- a number below the high is ready, one at the end of the counter never is, and any other one asks for a cover
 pub record Ready (h : Reach) (at : ℕ) (calls : List Call) (stops : Stop → List Call → Type 0) (goes : ℕ → List Call → Type 0) : Type 0 where
   pub within : at < h.high → goes h.high calls
-  pub ended : h.high ≤ at → end_of h.counter ≤ at → stops stop.Exhausted calls
-  pub asked : h.high ≤ at → at < end_of h.counter → Covers h at calls stops goes
+  pub ended : h.high ≤ at → h.end ≤ at → stops stop.Exhausted calls
+  pub asked : h.high ≤ at → at < h.end → Covers h at calls stops goes
 
 -- the number that a horizon gives next
 abbrev pub next_number : Reach → Drawn

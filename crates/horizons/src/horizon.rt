@@ -1,9 +1,8 @@
-ghost use Rattle.std.specs.Prelude.{◌≡◌, ◌+◌, ◌≤◌, ◌<◌, max, Some, List, ◌↔◌, IfOk, IfSome, IfNone, IsSome, OnSome};
+ghost use Rattle.std.specs.Prelude.{◌≡◌, ◌+◌, ◌≤◌, ◌<◌, max, Some, ◌↔◌, IfOk, IfSome, IfNone, IsSome, OnSome};
 ghost use Rattle.horizons.specs.Reaches.{IsInRange, IsSameCounter, lead_of};
 ghost use Rattle.horizons.specs.Ready.{Readies, Sends, next_number};
-ghost use Rattle.keeper_book.specs.Counters.{counter_named, end_of};
-ghost use Rattle.keeper_book.specs.Asks.{Asks};
-ghost use Rattle.keeper_book.specs.declared.calls.Call.{Call};
+ghost use Rattle.keeper_book.specs.Counters.{counter_of_kind, extended_end};
+ghost use Rattle.keeper_book.specs.Asks.{AsksFor};
 
 use crate::stop::Stop;
 use keeper_book::{Counter, Keeper};
@@ -18,6 +17,7 @@ pub struct Horizon {
     epoch: u64,
     base: u64,
     high: u64,
+    end: u64,
     lot: Lot,
 }
 
@@ -35,9 +35,10 @@ impl Model for Horizon {
       base = h.base;
       next = h.lot.next;
       high = h.high;
+      end = h.end;
     } };
 
-    ghost invariant = { λ h. IsWell h.counter h.base h.high h.lot };
+    ghost invariant = { λ h. IsWell h.counter h.base h.high h.end h.lot };
 }
 
 /// How many numbers a cover asks for at once: 1,024 of ESP, 64 IVs, 16 Message IDs.
@@ -52,26 +53,29 @@ fn lead(counter: Counter) -> u64
 }
 
 impl Horizon {
-    /// The beginning of an epoch: the counter goes on at the base, and numbers below the high are acknowledged.
+    /// The beginning of an epoch: the counter goes on at the base, and numbers below the high are acknowledged. Sequence
+    /// numbers are extended.
     pub fn begin(name: CounterName, spir: u64, epoch: u64, base: u64, high: u64) -> Horizon
-        requires named { IsSome (counter_named name.kind name.child) }
+        requires named { IsSome (counter_of_kind name.kind) }
         requires from_base { base ≤ high }
-        requires within { IfSome (counter_named name.kind name.child) (λ c. high ≤ end_of c) }
+        requires within { IfSome (counter_of_kind name.kind) (λ c. high ≤ extended_end c) }
         ensures name { result.name ≡ name }
-        ensures counter { counter_named name.kind name.child ≡ Some result.counter }
+        ensures counter { counter_of_kind name.kind ≡ Some result.counter }
         ensures spir { result.spir ≡ spir }
         ensures epoch { result.epoch ≡ epoch }
         ensures base { result.base ≡ base }
         ensures next { result.next ≡ base }
         ensures high { result.high ≡ high }
+        ensures end { result.end ≡ extended_end result.counter }
     {
-        match Counter::named(name.kind, name.child) {
+        match Counter::of_kind(name.kind) {
             Some(counter) => Horizon {
                 counter,
                 spir,
                 epoch,
                 base,
                 high,
+                end: counter.extended_end(),
                 lot: Lot::new(name, base, high),
             },
             None => unreachable!(),
@@ -103,19 +107,17 @@ impl Horizon {
     // a number from the base on
     fn cover_to<K: Keeper>(&mut self, keeper: &mut K, at: u64) -> Result<(), Stop>
         requires { self.old.base ≤ at }
-        ensures calls { (calls : List Call) × Readies self.old at calls result self.new
-            × Asks K.Keeper keeper.old calls keeper.new }
-        ensures held { K.held keeper.new ≡ K.held keeper.old }
+        ensures calls { AsksFor K.Keeper keeper.old keeper.new
+            (λ calls. Readies self.old at calls result self.new) }
         ensures same { IsSameCounter self.old self.new }
     {
         if at < self.high {
             return Ok(());
         }
-        let end = self.counter.end();
-        if at >= end {
+        if at >= self.end {
             return Err(Stop::Exhausted);
         }
-        let upto = (at + lead(self.counter)).min(end);
+        let upto = at.saturating_add(lead(self.counter)).min(self.end);
         let CounterName { kind, child, .. } = self.lot.name();
         match keeper.cover(self.spir, kind, child, self.epoch, upto) {
             Ok(()) => {
@@ -132,9 +134,8 @@ impl Horizon {
     /// the other errors as the keeper answered.
     pub fn ready<K: Keeper>(&mut self, keeper: &mut K, at: u64) -> Result<(), Stop>
         requires { self.old.next ≤ at }
-        ensures calls { (calls : List Call) × Readies self.old at calls result self.new
-            × Asks K.Keeper keeper.old calls keeper.new }
-        ensures held { K.held keeper.new ≡ K.held keeper.old }
+        ensures calls { AsksFor K.Keeper keeper.old keeper.new
+            (λ calls. Readies self.old at calls result self.new) }
         ensures same { IsSameCounter self.old self.new }
     {
         prove!(self.base <= at);
@@ -157,11 +158,10 @@ impl Horizon {
 
     /// Gives the next number, once it is ready. The errors are those of `ready`, and nothing has changed then.
     pub fn send_number<K: Keeper>(&mut self, keeper: &mut K) -> Result<Number, Stop>
-        ensures calls { (calls : List Call) × Sends self.old calls result self.new
-            × Asks K.Keeper keeper.old calls keeper.new }
+        ensures calls { AsksFor K.Keeper keeper.old keeper.new
+            (λ calls. Sends self.old calls result self.new) }
         ensures number { IfOk result (λ number. number ≡ next_number self.old) }
         ensures below { IfOk result (λ number. number.value < self.new.high) }
-        ensures held { K.held keeper.new ≡ K.held keeper.old }
         ensures same { IsSameCounter self.old self.new }
     {
         let next = self.next();
@@ -175,9 +175,8 @@ impl Horizon {
     /// Makes a received number ready to be taken, as `ready` does. It may lie below the next one.
     pub fn admit<K: Keeper>(&mut self, keeper: &mut K, n: u64) -> Result<(), Stop>
         requires { self.old.base ≤ n }
-        ensures calls { (calls : List Call) × Readies self.old n calls result self.new
-            × Asks K.Keeper keeper.old calls keeper.new }
-        ensures held { K.held keeper.new ≡ K.held keeper.old }
+        ensures calls { AsksFor K.Keeper keeper.old keeper.new
+            (λ calls. Readies self.old n calls result self.new) }
         ensures same { IsSameCounter self.old self.new }
     {
         self.cover_to(keeper, n)
@@ -185,7 +184,7 @@ impl Horizon {
 
     /// Gives up the numbers below `to`. No keeper is asked.
     pub fn jump(&mut self, to: u64)
-        requires { to ≤ end_of self.old.counter }
+        requires { to ≤ self.old.end }
         ensures { self.new ≡ record self.old { next = max self.old.next to } }
     {
         if self.lot.next() < to {

@@ -14,7 +14,7 @@ pub enum Stop {
     Exhausted,
     /// The association is closed.
     Closed,
-    /// The keeper knows no such association.
+    /// The keeper knows no such association, or no such counter.
     Unknown,
 }
 

@@ -1,5 +1,5 @@
 ghost use Rattle.std.specs.Prelude.{◌≡◌, Some, length, IfOk};
-ghost use Rattle.keeper_book.specs.Counters.{AreWithinEnds, counter_named};
+ghost use Rattle.keeper_book.specs.Counters.{AreWithinEnds, counter_of_kind, extended_end};
 
 use crate::{Horizon, Stop};
 use ha_base::{ChildKeys, Identity, KeySize, OctetArray, OctetList, SaKeys};
@@ -65,14 +65,15 @@ fn owned<K: Keeper>(keeper: &mut K) -> Result<(), KeeperFault> {
 
 // A counter of the association at the beginning of its first epoch.
 fn begun(spir: u64, kind: Kind, child: u32, base: u64) -> Result<Horizon, &'static str>
-    ensures counter { IfOk result (λ horizon. counter_named kind child ≡ Some horizon.counter) }
+    ensures counter { IfOk result (λ horizon. counter_of_kind kind ≡ Some horizon.counter) }
     ensures base { IfOk result (λ horizon. horizon.base ≡ base) }
     ensures next { IfOk result (λ horizon. horizon.next ≡ base) }
+    ensures end { IfOk result (λ horizon. horizon.end ≡ extended_end horizon.counter) }
 {
-    let Some(counter) = Counter::named(kind, child) else {
+    let Some(counter) = Counter::of_kind(kind) else {
         return Err("no counter of an association");
     };
-    if base > counter.end() {
+    if base > counter.extended_end() {
         return Err("past the end");
     }
     let name = CounterName {

@@ -2,12 +2,14 @@
 use Rattle.std.proofs.Common.{◌≡◌, ℕ, ◌+◌, ◌≤◌, List, [], ◌∷◌, ◌++◌, length, Option, Some, None, refl, ap, sym, subst, ◌∙◌, arith, append_assoc, length-append, ◌⊎◌, ⊎_elim, inl, inr}
 use Rattle.std.proofs.lemmas.List.{append-nil}
 use Rattle.std.specs.Borrow.{MutBor}
+use Rattle.keeper_book.specs.Asks.{AsksFor}
 use Rattle.keeper_book.specs.declared.calls.Call.{Call}
 use Rattle.keeper_book.specs.declared.calls.KeeperAnswer.{KeeperAnswer}
+use Rattle.keeper_book.specs.declared.keepers.Keeper.{Ghosts}
 use Rattle.keeper_book.specs.Spoken.{Spoken, EachGives}
 use Rattle.keeper_book.specs.Book.{Book, EntersAll, EntersTold, EntersAllTold}
 use Rattle.ha_base.specs.Faults.{Rose}
-use Rattle.keeper_book.specs.Told.{AddsTold, AddsAllTold, HasCause, HaveCause, IsFailed, AnyFailed, seen}
+use Rattle.keeper_book.specs.Told.{AddsTold, AddsAllTold, AreAnswers, HasCause, HaveCause, IsAnswerOf, IsFailed, AnyFailed, seen}
 
 enters_none : (book : Option Book) → EntersAllTold book [] book
 enters_none None = refl
@@ -22,8 +24,13 @@ asks_none {K} {book} {told} old = record {
   enters = enters_none (book old);
   adds = adds_none (told old);
   cause = record { later = omega arith; failed = λ none. absurd none };
+  answers = tt;
   each = refl;
 }
+
+-- a function that asked nothing, where its rule holds of no calls
+pub asks_for_none : {K : Type 0} {rule : List Call → Type 0} (keeper : Ghosts K) (k : K) → rule [] → AsksFor keeper k k rule
+asks_for_none keeper k follows = record { calls = []; follows = follows; asked = asks_none k; held = refl }
 
 enters_one : (old : Option Book) (call : Call) (new : Option Book) → EntersTold old call new → EntersAllTold old (call ∷ []) new
 enters_one None call new e = e
@@ -35,11 +42,12 @@ adds_one None call new a = tt
 adds_one (Some old) call new a = λ few. a (omega arith)
 
 -- one call
-pub asks_one : {K : Type 0} {book : K → Option Book} {told : K → Option (List Call)} {faults : K → ℕ} {gives : K → Call → K → Type 0} (old : K) (answered : KeeperAnswer) (call : Call) (new : K) → seen call ≡ answered → EntersTold (book old) call (book new) → AddsTold (told old) call (told new) → HasCause (faults old) (faults new) answered → gives old call new → Spoken book told faults gives old (call ∷ []) new
-asks_one {K} {book} {told} old answered call new sees entered added cause given = record {
+pub asks_one : {K : Type 0} {book : K → Option Book} {told : K → Option (List Call)} {faults : K → ℕ} {gives : K → Call → K → Type 0} (old : K) (answered : KeeperAnswer) (call : Call) (new : K) → seen call ≡ answered → EntersTold (book old) call (book new) → AddsTold (told old) call (told new) → HasCause (faults old) (faults new) answered → IsAnswerOf call.asked call.answer → gives old call new → Spoken book told faults gives old (call ∷ []) new
+asks_one {K} {book} {told} old answered call new sees entered added cause promised given = record {
   enters = enters_one (book old) call (book new) entered;
   adds = adds_one (told old) call (told new) added;
   cause = record { later = cause.later; failed = ⊎_elim (λ f. cause.failed (subst IsFailed sees f)) (λ none. absurd none) };
+  answers = (promised, tt);
   each = (new, given, refl);
 }
 
@@ -82,12 +90,17 @@ gives_then : {K : Type 0} (gives : K → Call → K → Type 0) (old : K) (xs ys
 gives_then gives old [] ys mid new a b = subst (λ m. EachGives gives m ys new) a b
 gives_then gives old (x ∷ xs) ys mid new a b = (a.0, a.1, gives_then gives a.0 xs ys mid new a.2 b)
 
+answers_then : (xs ys : List Call) → AreAnswers xs → AreAnswers ys → AreAnswers (xs ++ ys)
+answers_then [] ys a b = b
+answers_then (x ∷ xs) ys a b = (a.0, answers_then xs ys a.1 b)
+
 -- calls after calls
 pub asks_then : {K : Type 0} {book : K → Option Book} {told : K → Option (List Call)} {faults : K → ℕ} {gives : K → Call → K → Type 0} {old mid new : K} {xs ys : List Call} → Spoken book told faults gives old xs mid → Spoken book told faults gives mid ys new → Spoken book told faults gives old (xs ++ ys) new
 asks_then {K} {book} {told} {faults} {gives} {old} {mid} {new} {xs} {ys} a b = record {
   enters = entered_then_told (book old) xs ys (book mid) (book new) a.enters b.enters;
   adds = adds_then (told old) xs ys (told mid) (told new) a.adds b.adds;
   cause = cause_then (faults old) (faults mid) (faults new) xs ys a.cause b.cause;
+  answers = answers_then xs ys a.answers b.answers;
   each = gives_then gives old xs ys mid new a.each b.each;
 }
 
@@ -97,5 +110,6 @@ asks_lent {K} {book} {told} {faults} {gives} old call new s = record {
   enters = s.enters;
   adds = s.adds;
   cause = s.cause;
+  answers = s.answers;
   each = (new, subst (λ m. gives old.now call m) (sym s.each.2) s.each.1, refl);
 }

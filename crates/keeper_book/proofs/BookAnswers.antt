@@ -15,7 +15,7 @@ use Rattle.keeper_book.specs.declared.counters.Counter.{Counter}
 use Rattle.keeper_book.specs.declared.faults.KeeperFault.{KeeperFault}
 use Rattle.keeper_book.specs.declared.faults.KeeperFault.TheVariants as fault
 use Rattle.keeper_book.specs.Book.{Book, Entry, Answers, RefusedAs, after, answer_to, cover_refusal, edit_at, empty, enter_refusal, entered, entry_of, fresh, given, raised_at, refusal, shares_spi, take_over_refusal, taken_of, taken_over, takes_memory, unless_refused, when}
-use Rattle.keeper_book.specs.Counters.{counter_named}
+use Rattle.keeper_book.specs.Counters.{AreWithinEnds, counter_named}
 use Rattle.keeper_book.specs.Entries.{IsPlaceOf}
 use Rattle.keeper_book.specs.declared.TheConstants.{MAX_ASSOCIATIONS, MAX_EPOCHS}
 use Rattle.keeper_book.specs.declared.records.Record.{Record}
@@ -23,7 +23,7 @@ use Rattle.keeper_book.specs.declared.records.Taken.{Taken}
 use Rattle.ha_base.specs.declared.counter_names.Kind.{Kind}
 use Rattle.keeper_book.proofs.EntryLemmas.{entry_at, edited_at}
 use Rattle.keeper_book.specs.Spoken.{Spoken}
-use Rattle.keeper_book.specs.Told.{IsCallOf, IsFailed, done, taken}
+use Rattle.keeper_book.specs.Told.{IsAnswerOf, IsCallOf, IsFailed, IsRefusalOf, done, taken}
 use Rattle.keeper_book.proofs.Passed.{recorded}
 
 -- refused by name, or for want of memory where nothing else is refused
@@ -67,14 +67,15 @@ enter_done sa es old new view other few added =
     subst (λ b. Answers b (ask.Enter sa) answer.Done new) view (granted (record empty { entries = es }) (ask.Enter sa) answer.Done new (unless_shared sa es other few) refl (sym added))
 
 -- a call of a keeper that tells its book and nothing else, and never fails
-pub memory_call : (old new : Book) (asked : KeeperAsk) (answered : KeeperAnswer) → Answers old asked answered new → (IsFailed answered → ⊥) → (x : Call) × IsCallOf asked answered x × Spoken {K = Book} (λ book. Some book) (λ _. None) (λ _. 0) (λ _ _ _. Unit {0}) old (x ∷ []) new
-memory_call old new asked answered a sound = (
+pub memory_call : (old new : Book) (asked : KeeperAsk) (answered : KeeperAnswer) → Answers old asked answered new → (IsFailed answered → ⊥) → IsAnswerOf asked answered → (x : Call) × IsCallOf asked answered x × Spoken {K = Book} (λ book. Some book) (λ _. None) (λ _. 0) (λ _ _ _. Unit {0}) old (x ∷ []) new
+memory_call old new asked answered a sound promised = (
   recorded asked answered,
   record { asks = refl; sees = refl },
   record {
     enters = (new, a, refl);
     adds = tt;
     cause = record { later = omega arith; failed = ⊎_elim (λ f. absurd (sound f)) (λ none. absurd none) };
+    answers = (promised, tt);
     each = (new, tt, refl);
   },
 )
@@ -127,6 +128,15 @@ covered es old new spir kind child epoch upto place e e' (Err why) view left is 
 -- an association that is not there
 pub unknown : (old : Book) (asked : KeeperAsk) → (refusal old asked ≡ Some fault.Unknown) → Answers old asked (answer.Refused fault.Unknown) old
 unknown old asked r = refused_by_name old asked fault.Unknown (λ m. absurd (cc)) r
+
+-- what the association answers is what a keeper promises
+pub took_over_promised : (spir member own : ℕ) (result : Result Taken KeeperFault) → own ≡ spir → IfErr result (IsRefusalOf (ask.TakeOver own member)) → IfOk result (λ t. t.sa.spir ≡ own) → IfOk result (λ t. AreWithinEnds t.bases) → IsAnswerOf (ask.TakeOver spir member) (taken result)
+took_over_promised spir member own (Ok t) same refusals asked within = record { asked = asked ∙ same; within = within }
+took_over_promised spir member own (Err why) same refusals asked within = subst (λ n. IsRefusalOf (ask.TakeOver n member) why) same refusals
+
+pub covered_promised : (spir : ℕ) (kind : Kind) (child epoch upto own : ℕ) (result : Result (Unit {0}) KeeperFault) → own ≡ spir → IfErr result (IsRefusalOf (ask.Cover own kind child epoch upto)) → IsAnswerOf (ask.Cover spir kind child epoch upto) (done result)
+covered_promised spir kind child epoch upto own (Ok unit) same refusals = tt
+covered_promised spir kind child epoch upto own (Err why) same refusals = subst (λ n. IsRefusalOf (ask.Cover n kind child epoch upto) why) same refusals
 
 -- no refusal by name is that the call failed
 by_tests_failed : (first second : Bool) (why later : KeeperFault) → (why ≡ fault.Failed → ⊥) → (later ≡ fault.Failed → ⊥) → when first why (when second later None) ≡ Some fault.Failed → ⊥

@@ -12,7 +12,8 @@ use Rattle.keeper_book.specs.declared.counters.Five.{Five}
 use Rattle.keeper_book.specs.declared.faults.KeeperFault.{KeeperFault}
 use Rattle.keeper_book.specs.declared.faults.KeeperFault.TheVariants as fault
 use Rattle.keeper_book.specs.declared.records.Record.{Record}
-use Rattle.keeper_book.specs.Counters.{counter_named, end_of, five_at, with_five}
+use Rattle.keeper_book.specs.CounterEnds.{end_of}
+use Rattle.keeper_book.specs.Counters.{counter_named, five_at, with_five}
 
 -- An association in the book. Its epoch is the number of its bases: each epoch begins at the highs of its time.
 pub record Entry : Type 0 where
@@ -52,7 +53,7 @@ taken_over member e = record e { owner = Some member; bases = e.bases ++ e.highs
 
 -- the high of the counter is no less than the number, as far as the counter goes
 abbrev pub raised : Counter → ℕ → Entry → Entry
-raised c upto e = record e { highs = with_five c (max (five_at e.highs c) (min upto (end_of c))) e.highs }
+raised c upto e = record e { highs = with_five c (max (five_at e.highs c) (min upto (end_of e.sa c))) e.highs }
 
 abbrev pub raised_at : Option Counter → ℕ → Entry → Entry
 raised_at None upto e = e

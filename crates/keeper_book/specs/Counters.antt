@@ -1,12 +1,13 @@
 -- The counters that the book keeps of an association, and where they end.
-use Rattle.std.specs.Prelude.{ℕ, ◌-◌, ◌^◌, ◌≤◌, ◌==◌, Option, Some, None, if◌then◌else◌}
+use Rattle.std.specs.Prelude.{ℕ, ◌≤◌, ◌==◌, Option, Some, None, if◌then◌else◌}
+use Rattle.keeper_book.specs.declared.TheConstants.{ESP_END, IV_END, MESSAGE_ID_END}
 use Rattle.ha_base.specs.declared.counter_names.Kind.{Kind}
 use Rattle.ha_base.specs.declared.counter_names.Kind.TheVariants as kind
 use Rattle.keeper_book.specs.declared.counters.Counter.{Counter}
 use Rattle.keeper_book.specs.declared.counters.Counter.TheVariants.{EspOut, EspIn, Iv, Ask, Answer}
 use Rattle.keeper_book.specs.declared.counters.Five.{Five}
 
--- the child associations of IKE counters, and the one of ESP counters
+-- the counter, where the child is this one
 abbrev pub of_child : Counter → ℕ → ℕ → Option Counter
 of_child c n child = if child == n then Some c else None
 
@@ -20,13 +21,23 @@ counter_named kind.Answer child = of_child Answer 0 child
 counter_named kind.TicketIv child = None
 counter_named kind.Nonce child = None
 
--- no number of a counter reaches its end
-abbrev pub end_of : Counter → ℕ
-end_of EspOut = 2 ^ 63
-end_of EspIn = 2 ^ 63
-end_of Iv = 2 ^ 63
-end_of Ask = 2 ^ 32 - 1
-end_of Answer = 2 ^ 32 - 1
+-- which counter of an association is of this kind
+abbrev pub counter_of_kind : Kind → Option Counter
+counter_of_kind kind.EspOut = Some EspOut
+counter_of_kind kind.EspIn = Some EspIn
+counter_of_kind kind.Iv = Some Iv
+counter_of_kind kind.Ask = Some Ask
+counter_of_kind kind.Answer = Some Answer
+counter_of_kind kind.TicketIv = None
+counter_of_kind kind.Nonce = None
+
+-- no number of a counter reaches this end, where sequence numbers are extended (RFC 4303, section 2.2.1)
+abbrev pub extended_end : Counter → ℕ
+extended_end EspOut = ESP_END
+extended_end EspIn = ESP_END
+extended_end Iv = IV_END
+extended_end Ask = MESSAGE_ID_END
+extended_end Answer = MESSAGE_ID_END
 
 -- the number of a counter
 abbrev pub five_at : Five → Counter → ℕ
@@ -46,8 +57,8 @@ with_five Answer n five = record five { answer = n }
 
 -- each number is at most the end of its counter
 pub record AreWithinEnds (five : Five) : Type 0 where
-  pub esp_out : five.esp_out ≤ 2 ^ 63
-  pub esp_in : five.esp_in ≤ 2 ^ 63
-  pub iv : five.iv ≤ 2 ^ 63
-  pub ask : five.ask ≤ 2 ^ 32 - 1
-  pub answer : five.answer ≤ 2 ^ 32 - 1
+  pub esp_out : five.esp_out ≤ ESP_END
+  pub esp_in : five.esp_in ≤ ESP_END
+  pub iv : five.iv ≤ IV_END
+  pub ask : five.ask ≤ MESSAGE_ID_END
+  pub answer : five.answer ≤ MESSAGE_ID_END

@@ -1,5 +1,6 @@
 pub mod Asks
 pub mod Book
+pub mod CounterEnds
 pub mod Counters
 pub mod Entries
 pub mod Gates

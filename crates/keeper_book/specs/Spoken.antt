@@ -2,7 +2,7 @@
 use Rattle.std.specs.Prelude.{ℕ, ◌≡◌, Option, List, [], ◌∷◌}
 use Rattle.keeper_book.specs.declared.calls.Call.{Call}
 use Rattle.keeper_book.specs.Book.{Book, EntersAllTold}
-use Rattle.keeper_book.specs.Told.{AddsAllTold, HaveCause}
+use Rattle.keeper_book.specs.Told.{AddsAllTold, AreAnswers, HaveCause}
 
 -- each call leads from one state of the keeper to the next
 abbrev pub EachGives : {K : Type 0} → (K → Call → K → Type 0) → K → List Call → K → Type 0
@@ -18,5 +18,7 @@ pub record Spoken {K : Type 0} (book : K → Option Book) (told : K → Option (
   pub adds : AddsAllTold (told old) calls (told new)
   -- a call failed only where the count of faults rose
   pub cause : HaveCause (faults old) (faults new) calls
+  -- each answer is one that its call has
+  pub answers : AreAnswers calls
   -- what else the keeper says of its calls
   pub each : EachGives gives old calls new

@@ -1,6 +1,8 @@
 -- What a keeper's calls say of it: the calls that it tells, and its count of faults.
 use Rattle.std.specs.Prelude.{ℕ, ◌+◌, ◌<◌, ◌≤◌, ◌≡◌, ◌⊎◌, if◌then◌else◌, Option, Some, None, List, [], ◌∷◌, ◌++◌, length, Result, Ok, Err}
+use Rattle.std.specs.List.{AllByRecursion}
 use Rattle.ha_base.specs.Faults.{Rose}
+use Rattle.keeper_book.specs.Counters.{AreWithinEnds}
 use Rattle.keeper_book.specs.declared.TheConstants.{MAX_ASSOCIATIONS, MAX_EPOCHS}
 use Rattle.keeper_book.specs.declared.calls.Call.{Call}
 use Rattle.keeper_book.specs.declared.calls.KeeperAnswer.{KeeperAnswer}
@@ -54,6 +56,23 @@ IsRefusalOf (ask.Cover spir kind child epoch upto) fault.Unknown = Unit {0}
 IsRefusalOf (ask.Cover spir kind child epoch upto) fault.Closed = Unit {0}
 IsRefusalOf (ask.Cover spir kind child epoch upto) (fault.Replaced other) = Unit {0}
 IsRefusalOf asked why = ⊥
+
+-- what a takeover grants is the association that was asked for, and its bases lie within the ends
+pub record IsGrantOf (spir : ℕ) (taken : Taken) : Type 0 where
+  pub asked : taken.sa.spir ≡ spir
+  pub within : AreWithinEnds taken.bases
+
+-- the answers that a call has, whatever the keeper's book is
+abbrev pub IsAnswerOf : KeeperAsk → KeeperAnswer → Type 0
+IsAnswerOf asked (answer.Refused why) = IsRefusalOf asked why
+IsAnswerOf (ask.TakeOver spir member) (answer.Taken taken) = IsGrantOf spir taken
+IsAnswerOf (ask.TakeOver spir member) answer.Done = ⊥
+IsAnswerOf asked (answer.Taken taken) = ⊥
+IsAnswerOf asked answer.Done = Unit {0}
+
+-- each of these calls was answered so
+abbrev pub AreAnswers : List Call → Type 0
+AreAnswers calls = AllByRecursion (λ call. IsAnswerOf call.asked call.answer) calls
 
 -- the caller saw a failed call
 abbrev pub IsFailed : KeeperAnswer → Type 0

@@ -112,7 +112,7 @@ impl Association {
         if epoch != epochs {
             return Err(KeeperFault::Replaced(epochs));
         }
-        let high = self.highs.at(counter).max(upto.min(counter.end()));
+        let high = self.highs.at(counter).max(upto.min(self.sa.end(counter)));
         self.highs.set(counter, high);
         Ok(())
     }

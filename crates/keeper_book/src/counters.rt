@@ -1,6 +1,7 @@
 ghost use Rattle.std.specs.Prelude.{◌≡◌};
-ghost use Rattle.keeper_book.specs.Counters.{counter_named, end_of, five_at, with_five};
+ghost use Rattle.keeper_book.specs.Counters.{counter_named, counter_of_kind, extended_end, five_at, with_five};
 
+use crate::{ESP_END, IV_END, MESSAGE_ID_END};
 use ha_base::Kind;
 
 /// The counters that the book keeps of each association.
@@ -44,13 +45,28 @@ impl Counter {
         }
     }
 
-    /// The end of the counter, which no number of it reaches: 2^63 for ESP numbers and IVs, 2^32 - 1 for Message IDs.
-    pub fn end(self) -> u64
-        ensures { result ≡ end_of self }
+    /// The counter of this kind, where it is one of an association.
+    pub fn of_kind(kind: Kind) -> Option<Counter>
+        ensures { result ≡ counter_of_kind kind }
+    {
+        match kind {
+            Kind::EspOut => Some(Counter::EspOut),
+            Kind::EspIn => Some(Counter::EspIn),
+            Kind::Iv => Some(Counter::Iv),
+            Kind::Ask => Some(Counter::Ask),
+            Kind::Answer => Some(Counter::Answer),
+            Kind::TicketIv | Kind::Nonce => None,
+        }
+    }
+
+    /// The end of the counter, where sequence numbers are extended: no number of it reaches this one.
+    pub fn extended_end(self) -> u64
+        ensures { result ≡ extended_end self }
     {
         match self {
-            Counter::EspOut | Counter::EspIn | Counter::Iv => 1 << 63,
-            Counter::Ask | Counter::Answer => 0xffff_ffff,
+            Counter::EspOut | Counter::EspIn => ESP_END,
+            Counter::Iv => IV_END,
+            Counter::Ask | Counter::Answer => MESSAGE_ID_END,
         }
     }
 }

@@ -1,4 +1,4 @@
-ghost use Rattle.std.specs.Prelude.{◌≡◌, false, []};
+ghost use Rattle.std.specs.Prelude.{◌≡◌, Some, false, []};
 ghost use Rattle.keeper_book.specs.Gates.{PassedOn, kept, missed_one, told_calls};
 
 use crate::call_lists::Calls;
@@ -7,6 +7,7 @@ use crate::faults::KeeperFault;
 use crate::keepers::Keeper;
 use crate::records::{Record, Taken};
 use ha_base::Kind;
+use std::marker::Model;
 
 /// Passes calls on to a keeper, and records the first eight.
 #[derive(Drop)]
@@ -17,12 +18,18 @@ pub struct Gate<K: Keeper> {
     missed: bool,
 }
 
+impl<K: Keeper> Model for Gate<K> {
+    ghost use Rattle.keeper_book.specs.Gates.{Gated};
+
+    ghost Value = { Gated K };
+
+    ghost view = { λ g. record { keeper = g.keeper; first = g.calls; missed = g.missed } };
+}
+
 impl<K: Keeper> Gate<K> {
     /// A gate that has recorded no call.
     pub fn new(inner: K) -> Gate<K>
-        ensures keeper { result.keeper ≡ inner }
-        ensures none { result.calls ≡ [] }
-        ensures told { result.missed ≡ false }
+        ensures { result ≡ record { keeper = inner; first = []; missed = false } }
     {
         Gate {
             keeper: inner,
@@ -33,18 +40,24 @@ impl<K: Keeper> Gate<K> {
 
     /// The calls since they were last taken, the first eight of them.
     pub fn take_calls(&mut self) -> Calls
-        ensures calls { result ≡ self.old.calls }
-        ensures none { self.new.calls ≡ [] }
-        ensures told { self.new.missed ≡ false }
+        ensures calls { result ≡ self.old.first }
+        ensures none { told_calls self.new ≡ Some [] }
         ensures keeper { self.new.keeper ≡ self.old.keeper }
     {
         self.missed = false;
         std::mem::replace(&mut self.calls, Calls::none())
     }
 
+    /// The keeper behind it.
+    pub fn into_inner(self) -> K
+        ensures { result ≡ self.keeper }
+    {
+        self.keeper
+    }
+
     fn record(&mut self, call: Call)
-        ensures calls { self.new.calls ≡ kept self.old.calls call }
-        ensures missed { self.new.missed ≡ missed_one self.old.calls self.old.missed }
+        ensures calls { self.new.first ≡ kept self.old.first call }
+        ensures missed { self.new.missed ≡ missed_one self.old.first self.old.missed }
         ensures keeper { self.new.keeper ≡ self.old.keeper }
     {
         if self.calls.len() < 8 {
@@ -58,13 +71,13 @@ impl<K: Keeper> Gate<K> {
 impl<K: Keeper> Keeper for Gate<K> {
     ghost book = { λ g. K.book g.keeper };
 
-    ghost calls = { λ g. told_calls g.missed g.calls };
+    ghost calls = { λ g. told_calls g };
 
     ghost faults = { λ g. K.faults g.keeper };
 
     ghost held = { λ g. K.held g.keeper };
 
-    ghost call_gives = { λ g call h. PassedOn K.book K.calls K.faults K.call_gives g.keeper g.calls g.missed call h.keeper h.calls h.missed };
+    ghost call_gives = { λ g call h. PassedOn K.book K.calls K.faults K.call_gives g call h };
 
     fn enter(&mut self, sa: &Record) -> Result<(), KeeperFault> {
         let result = self.keeper.enter(sa);

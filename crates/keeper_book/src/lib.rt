@@ -5,6 +5,7 @@
 mod associations;
 mod call_lists;
 mod calls;
+mod counter_ends;
 mod counters;
 mod faults;
 mod gates;
@@ -26,6 +27,15 @@ pub const MAX_ASSOCIATIONS: u64 = 1024;
 
 /// The last epoch of an association.
 pub const MAX_EPOCHS: u64 = 4096;
+
+/// The end of ESP sequence numbers, where they are extended. RFC 4303, section 2.2.1, has 64 bits for them.
+pub const ESP_END: u64 = 1 << 63;
+
+/// The end of the IVs of a key.
+pub const IV_END: u64 = 1 << 63;
+
+/// The end of Message IDs (RFC 7296, section 2.2).
+pub const MESSAGE_ID_END: u64 = 0xffff_ffff;
 
 #[cfg(test)]
 mod tests;

@@ -2,8 +2,8 @@ ghost use Rattle.std.specs.Prelude.{◌≡◌, length};
 ghost use Rattle.keeper_book.specs.Counters.{AreWithinEnds};
 
 use crate::{
-    Call, Counter, Five, Gate, Keeper, KeeperAnswer, KeeperAsk, KeeperFault, MAX_ASSOCIATIONS,
-    MemoryKeeper, Record, Taken,
+    Call, Five, Gate, Keeper, KeeperAnswer, KeeperAsk, KeeperFault, MAX_ASSOCIATIONS, MemoryKeeper,
+    Record, Taken,
 };
 use ha_base::{ChildKeys, Identity, KeySize, Kind, OctetArray, OctetList, Origin, SaKeys};
 use std::test::Fail;
@@ -167,6 +167,5 @@ fn a_full_book(rt: HostRuntime) -> Result<(), Fail> {
         keeper.enter(&record(7, 7000)),
         Err(KeeperFault::Full(MAX_ASSOCIATIONS))
     );
-    assert_eq!(rt; Counter::Answer.end(), 0xffff_ffff);
     Ok(())
 }

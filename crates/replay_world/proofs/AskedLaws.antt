@@ -42,6 +42,7 @@ asks-lent {gives = gives} old calls new s = record {
   enters = s.enters;
   adds = s.adds;
   cause = s.cause;
+  answers = s.answers;
   each = gives-lent gives old calls new s.each;
 }
 

@@ -1,18 +1,11 @@
 -- The ends of members, and the services that are left then.
 use Rattle.std.specs.Prelude.{ℕ, ◌-◌, Option, Some, None, List, [], ◌∷◌, slice_set}
-use Rattle.events.specs.declared.event.Event.{Event}
-use Rattle.events.specs.declared.event.Event.TheVariants as event
 use Rattle.events.specs.declared.turn.Turn.{Turn}
-use Rattle.events.specs.declared.verdict.Verdict.{Verdict}
-use Rattle.events.specs.declared.verdict.Verdict.TheVariants as out
+use Rattle.turn_rules.specs.States.{ended_by}
 
--- the member that ended
-abbrev pub ended : Event → Verdict → Option ℕ
-ended (event.Crash member) out.Down = Some member
-ended event verdict = None
-
+-- the member that ended in a turn
 abbrev pub ended_in : Turn → Option ℕ
-ended_in turn = ended turn.event turn.step.verdict
+ended_in turn = ended_by turn.event turn.step.verdict
 
 -- the member that ended in the newest turn
 abbrev pub ended_last : List Turn → Option ℕ

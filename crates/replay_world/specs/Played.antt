@@ -12,6 +12,7 @@ use Rattle.keeper_book.specs.declared.calls.Call.{Call}
 use Rattle.ha_base.specs.Faults.{AppendsFront}
 use Rattle.replay_world.specs.Owning.{OwnedTold}
 use Rattle.run_ends.specs.Runs.{CausedSince, StandsTold}
+use Rattle.turn_laws.specs.OwnTurns.{OwnTurnsTell}
 use Rattle.turn_rules.specs.Local.{Local, calls_of}
 use Rattle.turn_rules.specs.Safe.{Safe}
 
@@ -36,6 +37,8 @@ pub record IsPlayed (given : List Turn → Type 0) (asked : List Call → Type 0
   pub events : contents_of input ≡ record { events = titles trace; fault = fault }
   pub written : text ≡ report trace
   pub local : Local boxes trace
+  -- and what the ends hold before each turn, their own turns tell
+  pub own_turns : OwnTurnsTell boxes trace
   -- what was executed, the services may give
   pub serves : given trace
   -- the calls of its turns were asked of the keeper, in this order, and no others

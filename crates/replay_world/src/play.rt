@@ -1,5 +1,6 @@
-ghost use Rattle.std.specs.Prelude.{◌≡◌, ℕ, List, [], ◌++◌, false, vec_len, IfOk, OnOk};
+ghost use Rattle.std.specs.Prelude.{◌≡◌, ℕ, Some, List, [], ◌++◌, vec_len, IfOk, OnOk};
 ghost use Rattle.event_text.specs.Input.{contents_of, left_contents};
+ghost use Rattle.keeper_book.specs.Gates.{told_calls};
 ghost use Rattle.report_text.specs.Report.{report, turns_text};
 ghost use Rattle.replay_world.specs.Played.{IsPlayed, prefixed, titles};
 ghost use Rattle.run_ends.specs.Asked.{AsksAsSeen};
@@ -31,8 +32,7 @@ fn play_events<K: Keeper>(
     keeper: &mut Gate<K>,
     report: &mut Octets,
 ) -> Result<Option<InputFault>, Memory>
-    requires told { keeper.old.missed ≡ false }
-    requires empty { keeper.old.calls ≡ [] }
+    requires told { told_calls keeper.old ≡ Some [] }
     requires local { Local world.old.ends.boxes world.old.ends.past }
     ensures held { K.held keeper.new.keeper ≡ K.held keeper.old.keeper }
     ensures events { IfOk result (λ fault. prefixed (titles world.old.ends.past) (left_contents reader.old)
@@ -69,8 +69,7 @@ fn play_input<K: Keeper>(
     keeper: &mut Gate<K>,
     report: &mut Octets,
 ) -> Result<Option<InputFault>, Memory>
-    requires told { keeper.old.missed ≡ false }
-    requires empty { keeper.old.calls ≡ [] }
+    requires told { told_calls keeper.old ≡ Some [] }
     requires begun { world.old.ends.past ≡ [] }
     ensures held { K.held keeper.new.keeper ≡ K.held keeper.old.keeper }
     ensures events { IfOk result (λ fault. contents_of input.now ≡ record { events = titles world.new.ends.past; fault = fault }) }
@@ -99,8 +98,7 @@ pub(crate) fn play<K: Keeper>(
     world: &mut World,
     keeper: &mut Gate<K>,
 ) -> Result<Played, Memory>
-    requires told { keeper.old.missed ≡ false }
-    requires empty { keeper.old.calls ≡ [] }
+    requires told { told_calls keeper.old ≡ Some [] }
     requires begun { world.old.ends.past ≡ [] }
     ensures held { K.held keeper.new.keeper ≡ K.held keeper.old.keeper }
     ensures events { IfOk result (λ played. contents_of input.now ≡ record { events = titles world.new.ends.past; fault = played.fault }) }
@@ -128,8 +126,7 @@ fn play_run<K: Keeper>(
     peer_service: Box<dyn Service>,
     services: Vec<Box<dyn Service>>,
 ) -> Result<Played, Memory>
-    requires told { keeper.old.missed ≡ false }
-    requires empty { keeper.old.calls ≡ [] }
+    requires told { told_calls keeper.old ≡ Some [] }
     ensures held { K.held keeper.new.keeper ≡ K.held keeper.old.keeper }
     ensures played { IfOk result (λ played. IsPlayed (AreGiven gives (service_of peer_service services.items))
         (λ calls. AsksAsSeen K.Keeper keeper.old.keeper calls keeper.new.keeper) (vec_len services) input.now played.fault played.report.octets
@@ -157,6 +154,8 @@ pub(crate) fn play_file<K: Keeper>(
         (K.book keeper.old) (K.book keeper.new) (K.faults keeper.old) (K.faults keeper.new)) }
 {
     let mut gate = Gate::new(keeper);
-    let played = play_run(alloc, input.as_slice(), &mut gate, peer_service, services)?;
-    Ok(played)
+    let played = play_run(alloc, input.as_slice(), &mut gate, peer_service, services);
+    // the gate hides the reference that it holds, so the loan ends here
+    let _lent = gate.into_inner();
+    played
 }

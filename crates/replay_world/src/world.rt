@@ -1,9 +1,11 @@
-ghost use Rattle.std.specs.Prelude.{◌≡◌, ◌⊎◌, ℕ, [], IfOk, OnOk, OnErr, Some, false, length, map, slice_get, vec_len};
+ghost use Rattle.std.specs.Prelude.{◌≡◌, ◌⊎◌, ℕ, [], IfOk, OnOk, OnErr, Some, length, map, slice_get, vec_len};
 ghost use Rattle.std.specs.Option.{option_copied};
 ghost use Rattle.events.specs.Events.{plain};
 ghost use Rattle.events.specs.Ranges.{Fits};
+ghost use Rattle.keeper_book.specs.Gates.{told_calls};
 ghost use Rattle.run_ends.specs.Asked.{AsksAsSeen, newest_calls};
 ghost use Rattle.run_ends.specs.Runs.{CausedSince, Grows, LackMemory, StandsTold};
+ghost use Rattle.turn_laws.specs.OwnTurns.{OwnTurnsTell};
 ghost use Rattle.turn_rules.specs.Datagrams.{datagrams_of};
 ghost use Rattle.turn_rules.specs.Local.{Local};
 ghost use Rattle.turn_rules.specs.Safe.{Safe};
@@ -58,11 +60,11 @@ impl World {
         now: Moment,
         event: Event,
     ) -> Result<(), Memory>
-        requires empty { keeper.old.calls ≡ [] }
-        requires told { keeper.old.missed ≡ false }
+        requires told { told_calls keeper.old ≡ Some [] }
         requires fits { Fits (plain event) }
         ensures grows { OnOk result (Grows (run_of self.old) now event (run_of self.new)) }
         ensures local { Local (run_of self.new).boxes (run_of self.new).past }
+        ensures own_turns { OwnTurnsTell (run_of self.new).boxes (run_of self.new).past }
         ensures stands { StandsTold (run_of self.old).past (K.book keeper.old.keeper)
             → OnOk result (StandsTold (run_of self.new).past (K.book keeper.new.keeper)) }
         ensures owned_before { StandsTold (run_of self.old).past (K.book keeper.old.keeper)
@@ -73,11 +75,10 @@ impl World {
         ensures caused { (start : ℕ) → CausedSince start (K.faults keeper.old.keeper) (run_of self.old).past
             → OnOk result (CausedSince start (K.faults keeper.new.keeper) (run_of self.new).past) }
         ensures asks { OnOk result (AsksAsSeen K.Keeper keeper.old.keeper (newest_calls (run_of self.new).past) keeper.new.keeper) }
-        ensures empty { OnOk result (keeper.new.calls ≡ []) }
-        ensures told { OnOk result (keeper.new.missed ≡ false) }
+        ensures told { OnOk result (told_calls keeper.new ≡ Some []) }
         ensures err { OnErr result (self.new ≡ self.old) }
         ensures keeps_book { OnErr result (K.book keeper.new.keeper ≡ K.book keeper.old.keeper) }
-        ensures in_vain { OnErr result ((keeper.new ≡ keeper.old) ⊎ LackMemory keeper.new.calls) }
+        ensures in_vain { OnErr result ((keeper.new ≡ keeper.old) ⊎ LackMemory keeper.new.first) }
         ensures peer_service { peer_service_of self.new ≡ peer_service_of self.old }
         ensures services { OnOk result (services_of self.new ≡ services_after (ended_last (run_of self.new).past) (services_of self.old)) }
         ensures held { K.held keeper.new.keeper ≡ K.held keeper.old.keeper }

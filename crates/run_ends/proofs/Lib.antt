@@ -1,10 +1,9 @@
 mod AskedLaws
+pub mod Acting
 pub mod Bounds
-pub mod EventLaws
-pub mod FitLaws
+pub mod Holding
 pub mod KeptLaws
-pub mod AgreementLaws
-pub mod ReceiveLaws
-pub mod Refusing
-pub mod SendLaws
+pub mod Plays
+pub mod Seats
 pub mod TurnLaws
+pub mod Verdicts

@@ -2,7 +2,7 @@
 use Rattle.std.proofs.Common.{◌≡◌, ℕ, ◌≤◌, Bool, true, false, Option, Some, None, List, [], ◌∷◌, ◌++◌, length, ⊎_elim, ◌⊎◌, inl, inr, arith, subst}
 use Rattle.events.specs.declared.turn.Turn.{Turn}
 use Rattle.keeper_book.specs.Book.{Book, EntersAll, EntersAllTold}
-use Rattle.keeper_book.specs.Gates.{told_calls}
+use Rattle.keeper_book.specs.Gates.{Gated, told_calls, unless_missed}
 use Rattle.keeper_book.specs.Spoken.{EachGives, Spoken}
 use Rattle.ha_base.specs.Faults.{Rose}
 use Rattle.keeper_book.specs.Told.{AddsAllTold, AnyFailed, HaveCause}
@@ -10,15 +10,15 @@ use Rattle.keeper_book.specs.declared.calls.Call.{Call}
 use Rattle.turn_rules.specs.Local.{AreShown, calls_of}
 use Rattle.run_ends.specs.Runs.{CausedSince, StandsTold}
 
-got_all : (calls got : List Call) (missed : Bool) → told_calls missed got ≡ Some calls → got ≡ calls
+got_all : (calls got : List Call) (missed : Bool) → unless_missed missed got ≡ Some calls → got ≡ calls
 got_all calls got true e = absurd (cc)
 got_all calls got false e = cc
 
 -- a gate that had told no call has recorded these
-pub told-all : (calls before got : List Call) (missed missed' : Bool) → before ≡ [] → missed ≡ false → length calls ≤ 1 → AddsAllTold (told_calls missed before) calls (told_calls missed' got) → got ≡ calls
-told-all calls before got missed missed' none told few adds =
-    let said : AddsAllTold (Some []) calls (told_calls missed' got) = subst (λ m. AddsAllTold (told_calls m []) calls (told_calls missed' got)) told (subst (λ b. AddsAllTold (told_calls missed b) calls (told_calls missed' got)) none adds) in
-    got_all calls got missed' (said (omega arith))
+pub told-all : {K : Type 0} (calls : List Call) (before after : Gated K) → told_calls before ≡ Some [] → length calls ≤ 1 → AddsAllTold (told_calls before) calls (told_calls after) → after.first ≡ calls
+told-all calls before after told few adds =
+    let said : AddsAllTold (Some []) calls (told_calls after) = subst (λ t. AddsAllTold t calls (told_calls after)) told adds in
+    got_all calls after.first after.missed (said (omega arith))
 
 pub shown-all : {G : Type 0} (gives : G → Call → G → Type 0) → ((a : G) (call : Call) (b : G) → gives a call b → call.hidden ≡ false) → (old : G) (calls : List Call) (new : G) → EachGives gives old calls new → AreShown calls
 shown-all gives plain old [] new e = tt

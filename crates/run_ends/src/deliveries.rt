@@ -1,10 +1,11 @@
 //! Datagrams that come to an end.
 
-ghost use Rattle.std.specs.Prelude.{◌≡◌, ◌≤◌, [], List, IfOk, OnErr, length, Ok};
-ghost use Rattle.keeper_book.specs.Asks.{Asks};
-ghost use Rattle.keeper_book.specs.declared.calls.Call.{Call};
+ghost use Rattle.std.specs.Prelude.{◌≡◌, ◌≤◌, [], IfOk, OnErr, length, Ok};
+ghost use Rattle.events.specs.declared.event.Party.TheVariants as parties;
+ghost use Rattle.keeper_book.specs.Asks.{AsksFor};
 ghost use Rattle.turn_rules.specs.Datagrams.{PlainDatagram, arrives, datagrams_of};
-ghost use Rattle.run_ends.specs.Parties.{Delivers, HolderTakes, IsShort, PeerActs, PeerTakes, TakenBy, WhereArrives};
+ghost use Rattle.run_ends.specs.Arrivals.{MemberTakesIn, PeerTakesIn};
+ghost use Rattle.run_ends.specs.Parties.{AreInPlace, DeliversTo, HasRoom, IsShort, Plays};
 
 use crate::arrivals::{Arrival, arriving, verdict_of};
 use crate::parties::{Parties, refused};
@@ -24,12 +25,13 @@ impl Parties {
         to: Party,
         event: &Event,
     ) -> Result<Step, Memory>
-        requires { (datagram : PlainDatagram) → arrives (datagrams_of trace.now.past) event.now ≡ Ok datagram → IsShort datagram }
-        ensures delivers { IfOk result (λ step. (calls : List Call) × Delivers trace.now.past self.old to event.now calls step self.new
-            × Asks K.Keeper keeper.old calls keeper.new) }
+        requires to { DeliversTo event.now to }
+        requires short { (datagram : PlainDatagram) → arrives (datagrams_of trace.now.past) event.now ≡ Ok datagram → IsShort datagram }
+        requires in_place { AreInPlace self.old }
+        ensures delivers { IfOk result (λ step. AsksFor K.Keeper keeper.old keeper.new (λ calls.
+            Plays trace.now.past self.old event.now calls step self.new)) }
         ensures err { OnErr result (self.new ≡ self.old) }
         ensures unasked { OnErr result (keeper.new ≡ keeper.old) }
-        ensures held { K.held keeper.new ≡ K.held keeper.old }
     {
         if is_full(trace) {
             return Ok(refused(Refusal::DatagramsFull));
@@ -41,9 +43,11 @@ impl Parties {
     }
 
     fn deliver_to_peer(&mut self, trace: &Trace, event: &Event) -> Result<Step, Memory>
-        requires { (datagram : PlainDatagram) → arrives (datagrams_of trace.now.past) event.now ≡ Ok datagram → IsShort datagram }
-        ensures delivers { IfOk result (λ step. WhereArrives self.old (arrives (datagrams_of trace.now.past) event.now) [] step self.new
-            (λ medium octets. PeerActs self.old (PeerTakes medium octets step) [] self.new)) }
+        requires to { DeliversTo event.now parties.Peer }
+        requires room { HasRoom trace.now.past }
+        requires short { (datagram : PlainDatagram) → arrives (datagrams_of trace.now.past) event.now ≡ Ok datagram → IsShort datagram }
+        requires in_place { AreInPlace self.old }
+        ensures delivers { IfOk result (λ step. Plays trace.now.past self.old event.now [] step self.new) }
         ensures err { OnErr result (self.new ≡ self.old) }
     {
         match arriving(self.alloc, trace, event)? {
@@ -59,13 +63,14 @@ impl Parties {
         member: u64,
         event: &Event,
     ) -> Result<Step, Memory>
-        requires { (datagram : PlainDatagram) → arrives (datagrams_of trace.now.past) event.now ≡ Ok datagram → IsShort datagram }
-        ensures delivers { IfOk result (λ step. (calls : List Call)
-            × TakenBy self.old (Party.Member member) (arrives (datagrams_of trace.now.past) event.now) calls step self.new
-            × Asks K.Keeper keeper.old calls keeper.new) }
+        requires to { DeliversTo event.now (parties.Member member) }
+        requires room { HasRoom trace.now.past }
+        requires short { (datagram : PlainDatagram) → arrives (datagrams_of trace.now.past) event.now ≡ Ok datagram → IsShort datagram }
+        requires in_place { AreInPlace self.old }
+        ensures delivers { IfOk result (λ step. AsksFor K.Keeper keeper.old keeper.new (λ calls.
+            Plays trace.now.past self.old event.now calls step self.new)) }
         ensures err { OnErr result (self.new ≡ self.old) }
         ensures unasked { OnErr result (keeper.new ≡ keeper.old) }
-        ensures held { K.held keeper.new ≡ K.held keeper.old }
     {
         let Some(place) = self.place_of(member) else {
             return Ok(refused(Refusal::NoMember));
@@ -82,8 +87,7 @@ impl Parties {
 
 fn peer_takes(peer: &mut Peer, arrival: Arrival) -> Step
     requires { IsShort arrival }
-    ensures takes { PeerTakes arrival.medium arrival.octets result peer.old.slots peer.new.slots }
-    ensures window { peer.new.window ≡ peer.old.window }
+    ensures { PeerTakesIn arrival.medium arrival.octets result peer.old peer.new }
 {
     let Arrival { medium, mut octets } = arrival;
     match medium {
@@ -97,10 +101,7 @@ fn peer_takes(peer: &mut Peer, arrival: Arrival) -> Step
 
 fn member_takes<K: Keeper>(member: &mut Member, keeper: &mut K, arrival: Arrival) -> Step
     requires { IsShort arrival }
-    ensures takes { (calls : List Call) × HolderTakes arrival.medium arrival.octets calls result member.old member.new × Asks K.Keeper keeper.old calls keeper.new }
-    ensures number { member.new.number ≡ member.old.number }
-    ensures window { member.new.window ≡ member.old.window }
-    ensures held { K.held keeper.new ≡ K.held keeper.old }
+    ensures { AsksFor K.Keeper keeper.old keeper.new (λ calls. MemberTakesIn arrival.medium arrival.octets calls result member.old member.new) }
 {
     let Arrival { medium, mut octets } = arrival;
     match medium {

@@ -1,9 +1,10 @@
-ghost use Rattle.std.specs.Prelude.{◌≡◌, ◌⊎◌, ℕ, [], OnOk, OnErr, false, length, slice_get};
+ghost use Rattle.std.specs.Prelude.{◌≡◌, ◌⊎◌, ℕ, Some, [], OnOk, OnErr, length, slice_get};
 ghost use Rattle.std.specs.Option.{option_copied};
 ghost use Rattle.turn_rules.specs.Local.{Local};
 ghost use Rattle.events.specs.Events.{plain};
 ghost use Rattle.events.specs.Ranges.{Fits};
 ghost use Rattle.turn_rules.specs.Datagrams.{datagrams_of};
+ghost use Rattle.keeper_book.specs.Gates.{told_calls};
 ghost use Rattle.run_ends.specs.Asked.{AsksAsSeen, newest_calls};
 ghost use Rattle.run_ends.specs.Runs.{CausedSince, Grows, LackMemory, StandsTold};
 
@@ -52,8 +53,7 @@ impl Ends {
         now: Moment,
         event: Event,
     ) -> Result<(), Memory>
-        requires empty { keeper.old.calls ≡ [] }
-        requires told { keeper.old.missed ≡ false }
+        requires told { told_calls keeper.old ≡ Some [] }
         requires fits { Fits (plain event) }
         ensures grows { OnOk result (Grows self.old now event self.new) }
         ensures local { Local self.new.boxes self.new.past }
@@ -62,11 +62,10 @@ impl Ends {
         ensures caused { (start : ℕ) → CausedSince start (K.faults keeper.old.keeper) self.old.past
             → OnOk result (CausedSince start (K.faults keeper.new.keeper) self.new.past) }
         ensures asks { OnOk result (AsksAsSeen K.Keeper keeper.old.keeper (newest_calls self.new.past) keeper.new.keeper) }
-        ensures empty { OnOk result (keeper.new.calls ≡ []) }
-        ensures told { OnOk result (keeper.new.missed ≡ false) }
+        ensures told { OnOk result (told_calls keeper.new ≡ Some []) }
         ensures err { OnErr result (self.new ≡ self.old) }
         ensures keeps_book { OnErr result (K.book keeper.new.keeper ≡ K.book keeper.old.keeper) }
-        ensures in_vain { OnErr result ((keeper.new ≡ keeper.old) ⊎ LackMemory keeper.new.calls) }
+        ensures in_vain { OnErr result ((keeper.new ≡ keeper.old) ⊎ LackMemory keeper.new.first) }
         ensures held { K.held keeper.new.keeper ≡ K.held keeper.old.keeper }
     {
         self.trace.reserve()?;

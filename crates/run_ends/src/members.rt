@@ -1,10 +1,11 @@
 //! What members do that send and receive nothing.
 
-ghost use Rattle.std.specs.Prelude.{◌≡◌, false, [], List, MatchOption, IfOk, OnErr};
+ghost use Rattle.std.specs.Prelude.{◌≡◌, ℕ, false, [], List, MatchOption, IfOk, OnErr};
 ghost use Rattle.cluster_member.specs.Members.{AsksInVain};
-ghost use Rattle.keeper_book.specs.Asks.{Asks};
-ghost use Rattle.keeper_book.specs.declared.calls.Call.{Call};
-ghost use Rattle.run_ends.specs.Parties.{ActsUp, Crashes, DrawsAs, IsPlaceOf, Joins, TakesOverAs, WhereUpAs, has_member};
+ghost use Rattle.events.specs.declared.event.Event.TheVariants as event;
+ghost use Rattle.events.specs.declared.turn.Turn.{Turn};
+ghost use Rattle.keeper_book.specs.Asks.{AsksFor};
+ghost use Rattle.run_ends.specs.Parties.{AreInPlace, IsPlaceOf, Plays, has_member};
 
 use crate::parties::{Parties, refused};
 use cluster_member::Member;
@@ -17,7 +18,8 @@ const MAX_MEMBERS: usize = 64;
 
 impl Parties {
     pub(crate) fn join(&mut self, fresh: [u8; 24]) -> Result<Step, Memory>
-        ensures joins { IfOk result (λ step. Joins self.old [] step self.new) }
+        requires in_place { AreInPlace self.old }
+        ensures joins { IfOk result (λ step. (past : List Turn) (octets : List ℕ) → Plays past self.old (event.Join octets) [] step self.new) }
         ensures err { OnErr result (self.new ≡ self.old) }
     {
         let joined = self.members.len();
@@ -49,11 +51,11 @@ impl Parties {
         member: u64,
         spir: u64,
     ) -> Result<Step, Memory>
-        ensures owns { IfOk result (λ step. (calls : List Call) × ActsUp self.old member (TakesOverAs spir calls step) calls step self.new
-            × Asks K.Keeper keeper.old calls keeper.new) }
+        requires in_place { AreInPlace self.old }
+        ensures owns { IfOk result (λ step. AsksFor K.Keeper keeper.old keeper.new (λ calls.
+            (past : List Turn) → Plays past self.old (event.Own member spir) calls step self.new)) }
         ensures err { OnErr result (self.new ≡ self.old) }
         ensures in_vain { OnErr result (AsksInVain K.Keeper keeper.old keeper.new) }
-        ensures held { K.held keeper.new ≡ K.held keeper.old }
     {
         let Some(place) = self.place_of(member) else {
             return Ok(refused(Refusal::NoMember));
@@ -65,22 +67,23 @@ impl Parties {
     }
 
     pub(crate) fn draw<K: Keeper>(&mut self, keeper: &mut K, member: u64, spir: u64) -> Step
-        ensures draws { (calls : List Call) × ActsUp self.old member (DrawsAs spir calls result) calls result self.new
-            × Asks K.Keeper keeper.old calls keeper.new }
-        ensures held { K.held keeper.new ≡ K.held keeper.old }
+        requires in_place { AreInPlace self.old }
+        ensures draws { AsksFor K.Keeper keeper.old keeper.new (λ calls.
+            (past : List Turn) → Plays past self.old (event.Draw member spir) calls result self.new) }
     {
         let Some(place) = self.place_of(member) else {
             return refused(Refusal::NoMember);
         };
         match &mut self.members[place] {
-            Some(member) => return Step::quiet(member.draw(keeper, spir)),
+            Some(member) => return member.draw(keeper, spir),
             None => return refused(Refusal::Down),
         }
     }
 
     // A member that crashed never returns.
     pub(crate) fn crash(&mut self, member: u64) -> Step
-        ensures { WhereUpAs self.old member [] result self.new (Crashes self.old member [] result self.new) }
+        requires in_place { AreInPlace self.old }
+        ensures crashes { (past : List Turn) → Plays past self.old (event.Crash member) [] result self.new }
     {
         let Some(place) = self.place_of(member) else {
             return refused(Refusal::NoMember);

@@ -1,20 +1,21 @@
 //! The ends of a run, and what they do at an event.
 
-ghost use Rattle.std.specs.Prelude.{◌≡◌, ◌<◌, ◌≤◌, [], List, MatchOption, IfOk, OnErr, length, Ok};
+ghost use Rattle.std.specs.Prelude.{◌≡◌, ◌≤◌, [], List, IfOk, OnErr, length};
 ghost use Rattle.std.specs.List.{AllByRecursion};
 ghost use Rattle.events.specs.Events.{plain};
 ghost use Rattle.events.specs.Ranges.{Fits};
 ghost use Rattle.cluster_member.specs.Members.{AsksInVain};
-ghost use Rattle.keeper_book.specs.Asks.{Asks};
-ghost use Rattle.keeper_book.specs.declared.calls.Call.{Call};
+ghost use Rattle.events.specs.declared.event.Event.TheVariants as event;
+ghost use Rattle.events.specs.declared.turn.Turn.{Turn};
+ghost use Rattle.keeper_book.specs.Asks.{AsksFor};
 ghost use Rattle.replay_set.specs.Window.{IsWindowSize};
 ghost use Rattle.turn_rules.specs.Datagrams.{datagrams_of};
 ghost use Rattle.turn_rules.specs.Fits.{is_importable};
 ghost use Rattle.turn_rules.specs.Steps.{Says};
-ghost use Rattle.run_ends.specs.Parties.{ConfiguresFirst, Imports, IsShort, Plays};
+ghost use Rattle.run_ends.specs.Parties.{AreInPlace, Configures, IsShort, Plays};
 
 use crate::settings::Settings;
-use cluster_member::{Member, of_fault};
+use cluster_member::{Member, of_import};
 use cluster_peer::Peer;
 use events::{Event, Refusal, Step, Verdict};
 use ha_base::Memory;
@@ -102,12 +103,12 @@ impl Parties {
     ) -> Result<Step, Memory>
         requires fits { Fits (plain event.now) }
         requires short { AllByRecursion IsShort (datagrams_of trace.now.past) }
-        requires first { trace.now.past ≡ [] → self.old.slots ≡ [] }
-        ensures plays { IfOk result (λ step. (calls : List Call) × Plays trace.now.past self.old event.now calls step self.new
-            × Asks K.Keeper keeper.old calls keeper.new) }
+        requires first { trace.now.past ≡ [] → (self.old.slots ≡ []) × (self.old.members ≡ []) }
+        requires in_place { AreInPlace self.old }
+        ensures plays { IfOk result (λ step. AsksFor K.Keeper keeper.old keeper.new (λ calls.
+            Plays trace.now.past self.old event.now calls step self.new)) }
         ensures err { OnErr result (self.new ≡ self.old) }
         ensures in_vain { OnErr result (AsksInVain K.Keeper keeper.old keeper.new) }
-        ensures held { K.held keeper.new ≡ K.held keeper.old }
     {
         match event {
             Event::Cluster {
@@ -138,8 +139,9 @@ impl Parties {
 
     fn configure(&mut self, trace: &Trace, settings: Settings) -> Step
         requires window { IsWindowSize settings.window }
-        requires first { trace.now.past ≡ [] → self.old.slots ≡ [] }
-        ensures { ConfiguresFirst trace.now.past self.old settings.window [] result self.new }
+        requires first { trace.now.past ≡ [] → (self.old.slots ≡ []) × (self.old.members ≡ []) }
+        requires in_place { AreInPlace self.old }
+        ensures configures { Configures settings.window (λ event. Plays trace.now.past self.old event [] result self.new) }
     {
         if trace.turns() > 0 {
             return refused(Refusal::Late);
@@ -150,11 +152,11 @@ impl Parties {
     }
 
     fn import<K: Keeper>(&mut self, keeper: &mut K, sa: &Record) -> Result<Step, Memory>
-        ensures imports { IfOk result (λ step. (calls : List Call) × Imports self.old sa.now calls step self.new
-            × Asks K.Keeper keeper.old calls keeper.new) }
+        requires in_place { AreInPlace self.old }
+        ensures imports { IfOk result (λ step. AsksFor K.Keeper keeper.old keeper.new (λ calls.
+            (past : List Turn) → Plays past self.old (event.Import sa.now) calls step self.new)) }
         ensures err { OnErr result (self.new ≡ self.old) }
         ensures in_vain { OnErr result (AsksInVain K.Keeper keeper.old keeper.new) }
-        ensures held { K.held keeper.new ≡ K.held keeper.old }
     {
         if !is_importable(sa) {
             return Ok(refused(Refusal::SpiRange));
@@ -166,11 +168,11 @@ impl Parties {
         match keeper.enter(sa) {
             Ok(()) => {
                 self.peer.add(sa);
-                Ok(Step::quiet(Verdict::Entered))
+                return Ok(Step::quiet(Verdict::Entered));
             }
-            Err(fault) => match of_fault(fault) {
-                Some(refusal) => Ok(refused(refusal)),
-                None => Err(Memory),
+            Err(fault) => match of_import(fault) {
+                Some(refusal) => return Ok(refused(refusal)),
+                None => return Err(Memory),
             },
         }
     }

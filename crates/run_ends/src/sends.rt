@@ -1,11 +1,13 @@
 //! Payloads that an end sends.
 
 ghost use Rattle.std.specs.Prelude.{◌≡◌, ◌≤◌, nat_le, [], List, IfOk, OnErr, length};
-ghost use Rattle.keeper_book.specs.Asks.{Asks};
-ghost use Rattle.keeper_book.specs.declared.calls.Call.{Call};
+ghost use Rattle.events.specs.declared.event.Event.TheVariants as event;
+ghost use Rattle.events.specs.declared.event.Party.TheVariants as parties;
+ghost use Rattle.ha_base.specs.Octets.{WithRoom};
+ghost use Rattle.keeper_book.specs.Asks.{AsksFor};
 ghost use Rattle.turn_rules.specs.Datagrams.{datagrams_of};
-ghost use Rattle.turn_rules.specs.Slots.{PeerSends};
-ghost use Rattle.run_ends.specs.Parties.{ActsUp, PeerActs, SendsAs, SendsBy, WhereRoomAs};
+ghost use Rattle.events.specs.declared.turn.Turn.{Turn};
+ghost use Rattle.run_ends.specs.Parties.{AreInPlace, HasRoom, Plays};
 
 use crate::parties::{Parties, refused};
 use events::{Party, Refusal, Step};
@@ -32,13 +34,12 @@ impl Parties {
         spir: u64,
         payload: &[u8],
     ) -> Result<Step, Memory>
-        requires { length payload.now ≤ 1400 }
-        ensures sends { IfOk result (λ step. (calls : List Call)
-            × WhereRoomAs trace.now.past self.old calls step self.new (SendsBy self.old from spir payload.now calls step self.new)
-            × Asks K.Keeper keeper.old calls keeper.new) }
+        requires size { length payload.now ≤ 1400 }
+        requires in_place { AreInPlace self.old }
+        ensures sends { IfOk result (λ step. AsksFor K.Keeper keeper.old keeper.new (λ calls. (given : WithRoom) → given.octets ≡ payload.now
+            → Plays trace.now.past self.old (event.Send from spir given) calls step self.new)) }
         ensures err { OnErr result (self.new ≡ self.old) }
         ensures unasked { OnErr result (keeper.new ≡ keeper.old) }
-        ensures held { K.held keeper.new ≡ K.held keeper.old }
     {
         if is_full(trace) {
             return Ok(refused(Refusal::DatagramsFull));
@@ -50,8 +51,10 @@ impl Parties {
     }
 
     fn send_as_peer(&mut self, spir: u64, payload: &[u8]) -> Result<Step, Memory>
-        requires { length payload.now ≤ 1400 }
-        ensures sends { IfOk result (λ step. PeerActs self.old (λ was now. PeerSends spir was payload.now step now) [] self.new) }
+        requires size { length payload.now ≤ 1400 }
+        requires in_place { AreInPlace self.old }
+        ensures sends { IfOk result (λ step. (past : List Turn) (given : WithRoom) → HasRoom past → given.octets ≡ payload.now
+            → Plays past self.old (event.Send parties.Peer spir given) [] step self.new) }
         ensures err { OnErr result (self.new ≡ self.old) }
     {
         let step = self.peer.send_data(spir, payload)?;
@@ -65,13 +68,13 @@ impl Parties {
         spir: u64,
         payload: &[u8],
     ) -> Result<Step, Memory>
-        requires { length payload.now ≤ 1400 }
-        ensures sends { IfOk result (λ step. (calls : List Call)
-            × ActsUp self.old member (SendsAs spir payload.now calls step) calls step self.new
-            × Asks K.Keeper keeper.old calls keeper.new) }
+        requires size { length payload.now ≤ 1400 }
+        requires in_place { AreInPlace self.old }
+        ensures sends { IfOk result (λ step. AsksFor K.Keeper keeper.old keeper.new (λ calls.
+            (past : List Turn) (given : WithRoom) → HasRoom past → given.octets ≡ payload.now
+            → Plays past self.old (event.Send (parties.Member member) spir given) calls step self.new)) }
         ensures err { OnErr result (self.new ≡ self.old) }
         ensures unasked { OnErr result (keeper.new ≡ keeper.old) }
-        ensures held { K.held keeper.new ≡ K.held keeper.old }
     {
         let Some(place) = self.place_of(member) else {
             return Ok(refused(Refusal::NoMember));

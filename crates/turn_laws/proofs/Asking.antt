@@ -4,6 +4,7 @@ use Rattle.std.proofs.lemmas.Option.{same_Some}
 use Rattle.std.proofs.lemmas.Bool.{eqb-true}
 use Rattle.events.specs.declared.event.Event.{Event}
 use Rattle.events.specs.declared.event.Event.TheVariants as event
+use Rattle.events.specs.declared.event.Party.TheVariants as parties
 use Rattle.events.specs.declared.turn.Step.{Step}
 use Rattle.events.specs.declared.turn.Turn.{Turn}
 use Rattle.events.specs.declared.verdict.Refusal.{Refusal}
@@ -20,7 +21,7 @@ use Rattle.turn_laws.proofs.Arrivals.{came}
 use Rattle.turn_laws.proofs.Deeds.{says-rests, Asked, Deed, IsIdle, Rested}
 use Rattle.turn_laws.specs.Acts.{entered_at}
 use Rattle.turn_laws.specs.Turns.{taken}
-use Rattle.turn_rules.specs.Draws.{Admits, Enters, Grants, TakesOver, refusal_of_fault}
+use Rattle.turn_rules.specs.Draws.{Admits, Enters, Grants, TakesOver, refusal_of_import, refusal_of_takeover}
 use Rattle.turn_rules.specs.Fits.{Quietly, Refuses, Yields}
 use Rattle.turn_rules.specs.Held.{granted}
 use Rattle.turn_rules.specs.Peers.{entered}
@@ -28,7 +29,7 @@ use Rattle.turn_rules.specs.Peers.{entered}
 admits-idle : (answered : KeeperAnswer) (verdict : Verdict) → Admits answered verdict → IsIdle verdict
 admits-idle answer.Done verdict a = subst (λ v. IsIdle v) (sym a) tt
 admits-idle (answer.Taken taken) verdict a = absurd a
-admits-idle (answer.Refused why) verdict a = go (refusal_of_fault why) a
+admits-idle (answer.Refused why) verdict a = go (refusal_of_import why) a
   where
     go : (x : Option Refusal) → MatchOption x ⊥ (λ r. verdict ≡ out.Refused r) → IsIdle verdict
     go None a = absurd a
@@ -38,7 +39,7 @@ admits-idle (answer.Refused why) verdict a = go (refusal_of_fault why) a
 admits-entry : (sa : Record) (spir : ℕ) (answered : KeeperAnswer) (verdict : Verdict) → Admits answered verdict → entered_at spir (ask.Enter sa) answered ≡ came spir (entered (event.Import sa) verdict)
 admits-entry sa spir answer.Done verdict a = sym (ap (λ v. came spir (entered (event.Import sa) v)) a)
 admits-entry sa spir (answer.Taken taken) verdict a = absurd a
-admits-entry sa spir (answer.Refused why) verdict a = go (refusal_of_fault why) a
+admits-entry sa spir (answer.Refused why) verdict a = go (refusal_of_import why) a
   where
     go : (x : Option Refusal) → MatchOption x ⊥ (λ r. verdict ≡ out.Refused r) → None ≡ came spir (entered (event.Import sa) verdict)
     go None a = absurd a
@@ -46,12 +47,14 @@ admits-entry sa spir (answer.Refused why) verdict a = go (refusal_of_fault why) 
 
 refused-entry : (event : Event) (why : Refusal) → entered event (out.Refused why) ≡ None
 refused-entry (event.Import sa) why = refl
+refused-entry (event.Send parties.Peer spir payload) why = refl
+refused-entry (event.Send (parties.Member member) spir payload) why = refl
 refused-entry event why = refl
 
 grants-idle : (spir : ℕ) (answered : KeeperAnswer) (verdict : Verdict) → Grants spir answered verdict → IsIdle verdict
 grants-idle spir answer.Done verdict g = absurd g
 grants-idle spir (answer.Taken taken) verdict g = subst (λ v. IsIdle v) (sym g.1) tt
-grants-idle spir (answer.Refused why) verdict g = go (refusal_of_fault why) g
+grants-idle spir (answer.Refused why) verdict g = go (refusal_of_takeover why) g
   where
     go : (x : Option Refusal) → MatchOption x ⊥ (λ r. verdict ≡ out.Refused r) → IsIdle verdict
     go None a = absurd a

@@ -6,7 +6,8 @@ use Rattle.std.proofs.lemmas.List.{length-map}
 use Rattle.std.specs.List.{list_any}
 use Rattle.std.specs.Option.{option_map}
 use Rattle.keeper_book.specs.Book.{Answers, Book, Entry, after, cover_refusal, enter_refusal, entered, entry_of, fresh, raised, raised_at, refusal, shares_spi, taken_of, taken_over, unless_refused, when}
-use Rattle.keeper_book.specs.Counters.{end_of, five_at}
+use Rattle.keeper_book.specs.CounterEnds.{end_of}
+use Rattle.keeper_book.specs.Counters.{five_at}
 use Rattle.keeper_book.specs.declared.TheConstants.{MAX_ASSOCIATIONS}
 use Rattle.keeper_book.specs.declared.calls.KeeperAnswer.{KeeperAnswer}
 use Rattle.keeper_book.specs.declared.calls.KeeperAnswer.TheVariants as answer
@@ -140,13 +141,14 @@ module _ (old new : Book) (held : Actor → Option Holding) (w : Actor) where
       (subst (λ o. IsNew (column_theirs c o) (column_theirs c (Some (fresh sa))) (begun_theirs c sa)) (sym was) (new-theirs c sa))
 
   -- a cover that was granted leaves no lower high
-  pub keeps-covered : (spir : ℕ) (c : Counter) (asked : KeeperAsk) (named : Option Counter) (epoch upto : ℕ) → refusal old asked ≡ cover_refusal (entry_of spir old.entries) named epoch → named ≡ Some c → entry_after spir asked (entry_of spir old.entries) ≡ option_map (raised_at named upto) (entry_of spir old.entries) → upto ≤ end_of c → answer.Done ≡ unless_refused (refusal old asked) answer.Refused answer.Done → new ≡ after old asked → upto ≤ mark (column (Ours spir c) new) epoch
+  pub keeps-covered : (spir : ℕ) (c : Counter) (asked : KeeperAsk) (named : Option Counter) (epoch upto : ℕ) → refusal old asked ≡ cover_refusal (entry_of spir old.entries) named epoch → named ≡ Some c → entry_after spir asked (entry_of spir old.entries) ≡ option_map (raised_at named upto) (entry_of spir old.entries) → upto ≤ (column (Ours spir c) old).end → answer.Done ≡ unless_refused (refusal old asked) answer.Refused answer.Done → new ≡ after old asked → upto ≤ mark (column (Ours spir c) new) epoch
   keeps-covered spir c asked named epoch upto refused is edits below answered enters =
       let granted : refusal old asked ≡ None = shows-done (refusal old asked) answered in
       go granted (shows-covered (entry_of spir old.entries) named epoch (sym refused ∙ granted))
     where
       go : refusal old asked ≡ None → ShowsCovered (entry_of spir old.entries) named epoch → upto ≤ mark (column (Ours spir c) new) epoch
       go granted shows =
+          let inside : upto ≤ end_of shows.entry.sa c = subst (λ o. upto ≤ (column_ours c o).end) shows.found below in
           let now : entry_of spir new.entries ≡ Some (raised c upto shows.entry) =
           ap (λ (b : Book). entry_of spir b.entries) (after-granted old new asked granted enters)
           ∙ (entry-entered spir old asked
@@ -155,7 +157,7 @@ module _ (old new : Book) (held : Actor → Option Holding) (w : Actor) where
           ∙ ap (λ d. Some (raised_at d upto shows.entry)) is))) in
           let top : mark (column_ours c (Some (raised c upto shows.entry))) epoch ≡ five_at (raised c upto shows.entry).highs c =
           mark-high (column_ours c (Some (raised c upto shows.entry))) epoch (let a : length (map (λ five. five_at five c) shows.entry.bases) ≡ length shows.entry.bases = length-map shows.entry.bases (λ five. five_at five c) in let b : epoch ≡ length shows.entry.bases = shows.is_last in omega arith) in
-          let high : five_at (raised c upto shows.entry).highs c ≡ max (five_at shows.entry.highs c) (min upto (end_of c)) =
-          five_at-with_five c c (max (five_at shows.entry.highs c) (min upto (end_of c))) shows.entry.highs
-          ∙ ap (λ b. if b then max (five_at shows.entry.highs c) (min upto (end_of c)) else five_at shows.entry.highs c) (is_counter-same c) in
+          let high : five_at (raised c upto shows.entry).highs c ≡ max (five_at shows.entry.highs c) (min upto (end_of shows.entry.sa c)) =
+          five_at-with_five c c (max (five_at shows.entry.highs c) (min upto (end_of shows.entry.sa c))) shows.entry.highs
+          ∙ ap (λ b. if b then max (five_at shows.entry.highs c) (min upto (end_of shows.entry.sa c)) else five_at shows.entry.highs c) (is_counter-same c) in
           subst (λ o. upto ≤ mark (column_ours c o) epoch) (sym now) (omega arith)

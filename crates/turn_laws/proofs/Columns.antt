@@ -28,11 +28,12 @@ goes_on-refl column rising = record {
   same_bases = λ i l. refl;
   no_lower = let e : mark column (length column.bases) ≡ column.high = mark-high column (length column.bases) (omega arith) in omega arith;
   rising = rising;
+  same_end = λ some. refl;
 }
 
 -- a column with no epoch rises
-pub rising-none : (high : ℕ) → IsRising (record { bases = []; high = high })
-rising-none high i j l = omega arith
+pub rising-none : (high end : ℕ) → IsRising (record { bases = []; high = high; end = end })
+rising-none high end i j l = omega arith
 
 -- nothing was there before
 pub goes_on-first : (new : Column) → IsRising new → GoesOn nothing new
@@ -41,11 +42,12 @@ goes_on-first new rising = record {
   same_bases = λ i l. absurd (omega arith);
   no_lower = omega arith;
   rising = rising;
+  same_end = λ some. absurd (omega (arith, some));
 }
 
 -- a higher high
 abbrev pub with_high : Column → ℕ → Column
-with_high column high = record { bases = column.bases; high = high }
+with_high column high = record column { high = high }
 
 mark-with_high : (column : Column) (high i : ℕ) → i < length column.bases → mark (with_high column high) i ≡ mark column i
 mark-with_high column high i l = get_or_default column.bases i high column.high l
@@ -56,6 +58,7 @@ goes_on-higher column high rising higher = record {
   same_bases = mark-with_high column high;
   no_lower = let e : mark (with_high column high) (length column.bases) ≡ high = mark-high (with_high column high) (length column.bases) (omega arith) in omega arith;
   rising = rises;
+  same_end = λ some. refl;
 }
   where
     rises : IsRising (with_high column high)
@@ -90,7 +93,7 @@ goes_on-higher column high rising higher = record {
 
 -- one epoch more, which begins at the high: each mark is as it was
 abbrev pub with_epoch : Column → Column
-with_epoch column = record { bases = column.bases ++ column.high ∷ []; high = column.high }
+with_epoch column = record column { bases = column.bases ++ column.high ∷ [] }
 
 mark-append : (bases : List ℕ) (high i : ℕ) → get_or (bases ++ high ∷ []) i high ≡ get_or bases i high
 mark-append [] high i = by_number i
@@ -124,11 +127,12 @@ goes_on-epoch column rising = record {
       let b : mark (with_epoch column) j ≡ mark column j = mark-with_epoch column j in
       let r : mark column i ≤ mark column j = rising i j l in
       omega arith;
+  same_end = λ some. refl;
 }
 
 -- one epoch alone
-pub rising-one : (base high : ℕ) → base ≤ high → IsRising (record { bases = base ∷ []; high = high })
-rising-one base high below i j l = by_number i j l
+pub rising-one : (base high end : ℕ) → base ≤ high → IsRising (record { bases = base ∷ []; high = high; end = end })
+rising-one base high end below i j l = by_number i j l
   where
     by_number : (i j : ℕ) → i ≤ j → get_or (base ∷ []) i high ≤ get_or (base ∷ []) j high
     by_number zero zero l = omega arith

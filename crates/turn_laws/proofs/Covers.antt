@@ -6,7 +6,6 @@ use Rattle.horizons.specs.Ready.{Answered, Covers, Ready}
 use Rattle.horizons.specs.Stops.{stop_of}
 use Rattle.horizons.specs.declared.stop.Stop.{Stop}
 use Rattle.horizons.specs.declared.stop.Stop.TheVariants as stop
-use Rattle.keeper_book.specs.Counters.{end_of}
 use Rattle.keeper_book.specs.Told.{seen}
 use Rattle.keeper_book.specs.declared.calls.Call.{Call}
 use Rattle.keeper_book.specs.declared.calls.KeeperAnswer.{KeeperAnswer}
@@ -15,11 +14,11 @@ use Rattle.keeper_book.specs.declared.calls.KeeperAsk.TheVariants as ask
 
 -- what holds of the calls of such a turn
 module _ (R : List Call → Type 0) (r : Reach) (at : ℕ) (stops : Stop → List Call → Type 0) (goes : ℕ → List Call → Type 0)
-    (step : (call : Call) (rest : List Call) → call.asked ≡ ask.Cover r.spir r.name.kind r.name.child r.epoch (cover_of r.counter at) → R rest → R (call ∷ rest))
+    (step : (call : Call) (rest : List Call) → call.asked ≡ ask.Cover r.spir r.name.kind r.name.child r.epoch (cover_of r at) → R rest → R (call ∷ rest))
     (stopped : (why : Stop) (rest : List Call) → stops why rest → R rest)
     (gone : (high : ℕ) (rest : List Call) → goes high rest → R rest) where
-  answered-calls : (answered : KeeperAnswer) (rest : List Call) → Answered answered (λ why. stops why rest) (goes (cover_of r.counter at) rest) → R rest
-  answered-calls answer.Done rest a = gone (cover_of r.counter at) rest a
+  answered-calls : (answered : KeeperAnswer) (rest : List Call) → Answered answered (λ why. stops why rest) (goes (cover_of r at) rest) → R rest
+  answered-calls answer.Done rest a = gone (cover_of r at) rest a
   answered-calls (answer.Taken taken) rest a = absurd a
   answered-calls (answer.Refused why) rest a = go (stop_of why) a
     where
@@ -34,15 +33,15 @@ module _ (R : List Call → Type 0) (r : Reach) (at : ℕ) (stops : Stop → Lis
   pub ready-calls : (calls : List Call) → Ready r at calls stops goes → R calls
   ready-calls calls ready = ⊎_elim
       (λ w. gone r.high calls (ready.within w))
-      (λ l. ⊎_elim (λ b. covers-calls calls (ready.asked l b)) (λ e. stopped stop.Exhausted calls (ready.ended l e)) (cases_lt at (end_of r.counter)))
+      (λ l. ⊎_elim (λ b. covers-calls calls (ready.asked l b)) (λ e. stopped stop.Exhausted calls (ready.ended l e)) (cases_lt at r.end))
       (cases_lt at r.high)
 
 -- the same with other words for what follows
 module _ (r : Reach) (at : ℕ) (stops now : Stop → List Call → Type 0) (goes then_ : ℕ → List Call → Type 0)
     (stopped : (why : Stop) (rest : List Call) → stops why rest → now why rest)
     (gone : (high : ℕ) (rest : List Call) → goes high rest → then_ high rest) where
-  answered-as : (answered : KeeperAnswer) (rest : List Call) → Answered answered (λ why. stops why rest) (goes (cover_of r.counter at) rest) → Answered answered (λ why. now why rest) (then_ (cover_of r.counter at) rest)
-  answered-as answer.Done rest a = gone (cover_of r.counter at) rest a
+  answered-as : (answered : KeeperAnswer) (rest : List Call) → Answered answered (λ why. stops why rest) (goes (cover_of r at) rest) → Answered answered (λ why. now why rest) (then_ (cover_of r at) rest)
+  answered-as answer.Done rest a = gone (cover_of r at) rest a
   answered-as (answer.Taken taken) rest a = a
   answered-as (answer.Refused why) rest a = go (stop_of why) a
     where

@@ -1,11 +1,12 @@
 -- What a turn may be: it makes no call or one, a member ends, or a number of a member or of the peer is used.
-use Rattle.std.proofs.Common.{◌≡◌, ℕ, ◌<◌, ◌^◌, Bool, Option, Some, None, List, [], ◌∷◌, ◌++◌, map, sym, subst, if◌then◌else◌}
+use Rattle.std.proofs.Common.{◌≡◌, ℕ, ◌<◌, ◌^◌, Bool, Some, None, List, [], ◌∷◌, ◌++◌, map, sym, subst}
 use Rattle.events.specs.declared.event.Event.{Event}
 use Rattle.events.specs.declared.turn.Step.{Step}
 use Rattle.events.specs.declared.turn.Turn.{Turn}
 use Rattle.events.specs.declared.verdict.Verdict.{Verdict}
 use Rattle.events.specs.declared.verdict.Verdict.TheVariants as out
 use Rattle.horizons.specs.Ready.{Ready}
+use Rattle.keeper_book.specs.CounterEnds.{end_of}
 use Rattle.keeper_book.specs.Counters.{five_at}
 use Rattle.keeper_book.specs.Told.{seen}
 use Rattle.keeper_book.specs.declared.calls.Call.{Call}
@@ -21,7 +22,7 @@ use Rattle.turn_laws.specs.Holdings.{Actor}
 use Rattle.turn_laws.specs.Places.{Ours, Place, Theirs, place_of}
 use Rattle.turn_laws.specs.Turns.{key_iv, taken, uses_of}
 use Rattle.turn_rules.specs.Draws.{reach_of}
-use Rattle.turn_rules.specs.Ends.{Member, Peer, Performer, is_refused_by_run, own, performer_of}
+use Rattle.turn_rules.specs.Ends.{Member, Peer, own, performer_at}
 use Rattle.turn_rules.specs.Held.{Held, granted, held_by, used, window_by}
 use Rattle.turn_rules.specs.Peers.{entered}
 use Rattle.turn_rules.specs.Safe.{Packet, accepted_as}
@@ -39,10 +40,6 @@ IsIdle verdict = Unit {0}
 -- the moves of a turn beside its calls
 abbrev pub rest_of : Event → Step → List Move
 rest_of event step = uses_of event step.verdict ++ map (λ seal. Seals (key_iv seal)) step.seals
-
--- who makes the moves of an event that came out so
-abbrev pub performer_at : Event → Verdict → Option Performer
-performer_at event verdict = if is_refused_by_run verdict then None else performer_of event verdict
 
 -- what a call grants is a record with the SPI that was asked for
 abbrev pub HasItsRecord : Call → Type 0
@@ -63,8 +60,8 @@ IsOpen held c n = n ≡ five_at held.nexts c
 
 -- and those that the peer may use
 abbrev pub IsOpenTo : Slot → Counter → ℕ → Type 0
-IsOpenTo slot counter.EspOut n = (n ≡ slot.next) × (n < 2 ^ 63)
-IsOpenTo slot counter.EspIn n = (n < 2 ^ 63) × (judged slot.window n ≡ Fresh)
+IsOpenTo slot counter.EspOut n = (n ≡ slot.next) × (n < end_of slot.sa counter.EspOut)
+IsOpenTo slot counter.EspIn n = (n < end_of slot.sa counter.EspIn) × (judged slot.window n ≡ Fresh)
 IsOpenTo slot c n = ⊥
 
 -- a number of a place is used, and nothing executed; a packet that was accepted has this number

@@ -5,7 +5,8 @@ use Rattle.std.specs.List.{AllByRecursion, filter_map}
 use Rattle.std.specs.Option.{option_map}
 use Rattle.events.specs.declared.turn.Turn.{Turn}
 use Rattle.keeper_book.specs.Book.{Book, EntersAll, Enters, Entry, empty, entry_of, fresh, raised, raised_at, taken_over}
-use Rattle.keeper_book.specs.Counters.{counter_named, end_of, five_at}
+use Rattle.keeper_book.specs.CounterEnds.{end_of}
+use Rattle.keeper_book.specs.Counters.{counter_named, five_at}
 use Rattle.keeper_book.specs.declared.calls.Call.{Call}
 use Rattle.keeper_book.specs.declared.calls.KeeperAsk.{KeeperAsk}
 use Rattle.keeper_book.specs.declared.calls.KeeperAsk.TheVariants as ask
@@ -23,44 +24,49 @@ use Rattle.turn_laws.specs.Turns.{acts_of}
 use Rattle.turn_rules.specs.Held.{is_counter, number_of}
 use Rattle.turn_rules.specs.Local.{Local, Stands, calls_of}
 
+-- a cover leaves the record
+sa-raised : (d : Option Counter) (upto : ℕ) (e : Entry) → (raised_at d upto e).sa ≡ e.sa
+sa-raised None upto e = refl
+sa-raised (Some d) upto e = refl
+
 module _ (c : Counter) where
   -- the high of an association, where there is one, is at most the counter's end
   abbrev pub IsWithin : Option Entry → Type 0
-  IsWithin x = (e : Entry) → x ≡ Some e → five_at e.highs c ≤ end_of c
+  IsWithin x = (e : Entry) → x ≡ Some e → five_at e.highs c ≤ end_of e.sa c
 
-  raised-within : (d : Option Counter) (upto : ℕ) (e : Entry) → five_at e.highs c ≤ end_of c → five_at (raised_at d upto e).highs c ≤ end_of c
+  raised-within : (d : Option Counter) (upto : ℕ) (e : Entry) → five_at e.highs c ≤ end_of e.sa c → five_at (raised_at d upto e).highs c ≤ end_of e.sa c
   raised-within None upto e within = within
   raised-within (Some d) upto e within = by_test (is_counter d c) refl
     where
-      by_test : (b : Bool) → is_counter d c ≡ b → five_at (raised d upto e).highs c ≤ end_of c
+      by_test : (b : Bool) → is_counter d c ≡ b → five_at (raised d upto e).highs c ≤ end_of e.sa c
       by_test true t =
-          let is : five_at (raised d upto e).highs c ≡ max (five_at e.highs d) (min upto (end_of d)) = five_at-with_five d c (max (five_at e.highs d) (min upto (end_of d))) e.highs ∙ rw t in
+          let is : five_at (raised d upto e).highs c ≡ max (five_at e.highs d) (min upto (end_of e.sa d)) = five_at-with_five d c (max (five_at e.highs d) (min upto (end_of e.sa d))) e.highs ∙ rw t in
           let high : five_at e.highs d ≡ five_at e.highs c = ap (five_at e.highs) (is_counter-true d c t) in
-          let end : end_of d ≡ end_of c = ap end_of (is_counter-true d c t) in
+          let end : end_of e.sa d ≡ end_of e.sa c = ap (end_of e.sa) (is_counter-true d c t) in
           omega arith
       by_test false t =
-          let is : five_at (raised d upto e).highs c ≡ five_at e.highs c = five_at-with_five d c (max (five_at e.highs d) (min upto (end_of d))) e.highs ∙ rw t in
+          let is : five_at (raised d upto e).highs c ≡ five_at e.highs c = five_at-with_five d c (max (five_at e.highs d) (min upto (end_of e.sa d))) e.highs ∙ rw t in
           omega arith
 
   entry-within : (spir : ℕ) (asked : KeeperAsk) (old : Option Entry) → IsWithin old → IsWithin (entry_after spir asked old)
   entry-within spir (ask.Enter sa) (Some f) within e is = within e is
   entry-within spir (ask.Enter sa) None within e is = by_test (sa.spir == spir) is
     where
-      by_test : (b : Bool) → (if b then Some (fresh sa) else None) ≡ Some e → five_at e.highs c ≤ end_of c
-      by_test true is = subst (λ (x : Entry). five_at x.highs c ≤ end_of c) (same_Some (fresh sa) e is) (within_end sa.starts c sa.starts_within)
+      by_test : (b : Bool) → (if b then Some (fresh sa) else None) ≡ Some e → five_at e.highs c ≤ end_of e.sa c
+      by_test true is = subst (λ (x : Entry). five_at x.highs c ≤ end_of x.sa c) (same_Some (fresh sa) e is) (within_end sa c)
       by_test false is = absurd (cc)
   entry-within spir (ask.TakeOver asked member) old within e is = by_test (asked == spir) old within is
     where
-      by_test : (b : Bool) (old : Option Entry) → IsWithin old → (if b then option_map (taken_over member) old else old) ≡ Some e → five_at e.highs c ≤ end_of c
+      by_test : (b : Bool) (old : Option Entry) → IsWithin old → (if b then option_map (taken_over member) old else old) ≡ Some e → five_at e.highs c ≤ end_of e.sa c
       by_test false old within is = within e is
       by_test true None within is = absurd (cc)
-      by_test true (Some f) within is = subst (λ (x : Entry). five_at x.highs c ≤ end_of c) (same_Some (taken_over member f) e is) (within f refl)
+      by_test true (Some f) within is = subst (λ (x : Entry). five_at x.highs c ≤ end_of x.sa c) (same_Some (taken_over member f) e is) (within f refl)
   entry-within spir (ask.Cover asked kind child epoch upto) old within e is = by_test (asked == spir) old within is
     where
-      by_test : (b : Bool) (old : Option Entry) → IsWithin old → (if b then option_map (raised_at (counter_named kind child) upto) old else old) ≡ Some e → five_at e.highs c ≤ end_of c
+      by_test : (b : Bool) (old : Option Entry) → IsWithin old → (if b then option_map (raised_at (counter_named kind child) upto) old else old) ≡ Some e → five_at e.highs c ≤ end_of e.sa c
       by_test false old within is = within e is
       by_test true None within is = absurd (cc)
-      by_test true (Some f) within is = subst (λ (x : Entry). five_at x.highs c ≤ end_of c) (same_Some (raised_at (counter_named kind child) upto f) e is) (raised-within (counter_named kind child) upto f (within f refl))
+      by_test true (Some f) within is = subst (λ (x : Entry). five_at x.highs c ≤ end_of x.sa c) (same_Some (raised_at (counter_named kind child) upto f) e is) (subst (λ sa. five_at (raised_at (counter_named kind child) upto f).highs c ≤ end_of sa c) (sym (sa-raised (counter_named kind child) upto f)) (raised-within (counter_named kind child) upto f (within f refl)))
 
   call-within : (spir : ℕ) (old new : Book) (call : Call) → Enters old call new → IsWithin (entry_of spir old.entries) → IsWithin (entry_of spir new.entries)
   call-within spir old new call enters within = ⊎_elim
@@ -73,15 +79,15 @@ module _ (c : Counter) where
   calls-within spir (call ∷ calls) old new enters within = calls-within spir calls enters.0 new enters.2 (call-within spir old enters.0 call enters.1 within)
 
 -- the high of a column, by the book of a trace, is at most the counter's end
-high-within : (past : List Turn) (book : Book) → Stands past book → (p : Place) → (column p book).high ≤ end_at p
+high-within : (past : List Turn) (book : Book) → Stands past book → (p : Place) → (column p book).high ≤ end_at p book
 high-within past book stands (Ours spir c) = go (entry_of spir book.entries) (calls-within c spir (calls_of past) empty book stands (λ e is. absurd (cc)))
   where
-    go : (x : Option Entry) → IsWithin c x → (column_ours c x).high ≤ end_of c
+    go : (x : Option Entry) → IsWithin c x → (column_ours c x).high ≤ (column_ours c x).end
     go None within = omega arith
     go (Some e) within = within e refl
 high-within past book stands (Theirs spir c) = go (entry_of spir book.entries)
   where
-    go : (x : Option Entry) → (column_theirs c x).high ≤ end_of c
+    go : (x : Option Entry) → (column_theirs c x).high ≤ (column_theirs c x).end
     go None = omega arith
     go (Some e) = omega arith
 
@@ -97,10 +103,10 @@ numbers-below column end rising high (u ∷ us) within = (below, numbers-below c
         let d : mark column (length column.bases) ≡ column.high = mark-high column (length column.bases) (omega arith) in
         omega arith
 
-pub numbers-end : (boxes : ℕ) (past : List Turn) (book : Book) → Local boxes past → Stands past book → (p : Place) → AllByRecursion (λ n. n < end_at p) (numbers_at p (acts_of past))
+pub numbers-end : (boxes : ℕ) (past : List Turn) (book : Book) → Local boxes past → Stands past book → (p : Place) → AllByRecursion (λ n. n < end_at p book) (numbers_at p (acts_of past))
 numbers-end boxes past book local stands p =
     let owned : IsOwned _ (uses_at p (acts_of past)) (column p book) = (owned-run boxes past book local stands).numbers p in
-    numbers-below (column p book) (end_at p) owned.rising (high-within past book stands p) (uses_at p (acts_of past)) owned.within
+    numbers-below (column p book) (end_at p book) owned.rising (high-within past book stands p) (uses_at p (acts_of past)) owned.within
 
-pub counters-end : (boxes : ℕ) (past : List Turn) (book : Book) → Local boxes past → Stands past book → (spir : ℕ) (c : Counter) → AllByRecursion (λ n. n < end_of c) (filter_map (number_of spir c) past)
-counters-end boxes past book local stands spir c = counters-hold (λ ns. AllByRecursion (λ n. n < end_of c) ns) tt boxes past local spir c (numbers-end boxes past book local stands (Ours spir c))
+pub counters-end : (boxes : ℕ) (past : List Turn) (book : Book) → Local boxes past → Stands past book → (spir : ℕ) (c : Counter) → AllByRecursion (λ n. n < end_at (Ours spir c) book) (filter_map (number_of spir c) past)
+counters-end boxes past book local stands spir c = counters-hold (λ ns. AllByRecursion (λ n. n < end_at (Ours spir c) book) ns) tt boxes past local spir c (numbers-end boxes past book local stands (Ours spir c))

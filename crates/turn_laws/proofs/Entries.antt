@@ -5,7 +5,8 @@ use Rattle.std.proofs.lemmas.List.{length-map, map-append}
 use Rattle.std.specs.Option.{option_map}
 use Rattle.keeper_book.proofs.EntryLemmas.{entry_of-edit_other, entry_of-edit_same}
 use Rattle.keeper_book.specs.Book.{Book, Entry, edit_at, entered, entry_of, fresh, raised, raised_at, taken_over}
-use Rattle.keeper_book.specs.Counters.{AreWithinEnds, counter_named, end_of, five_at, with_five}
+use Rattle.keeper_book.specs.CounterEnds.{end_of}
+use Rattle.keeper_book.specs.Counters.{AreWithinEnds, counter_named, five_at, with_five}
 use Rattle.keeper_book.specs.declared.calls.KeeperAsk.{KeeperAsk}
 use Rattle.keeper_book.specs.declared.calls.KeeperAsk.TheVariants as ask
 use Rattle.keeper_book.specs.declared.counters.Counter.{Counter}
@@ -74,26 +75,27 @@ is_counter-true counter.Ask counter.Ask e = refl
 is_counter-true counter.Answer counter.Answer e = refl
 is_counter-true c d e = absurd (cc)
 
-pub within_end : (five : Five) (c : Counter) → AreWithinEnds five → five_at five c ≤ end_of c
-within_end five counter.EspOut w = w.esp_out
-within_end five counter.EspIn w = w.esp_in
-within_end five counter.Iv w = w.iv
-within_end five counter.Ask w = w.ask
-within_end five counter.Answer w = w.answer
+-- an association starts each counter within its end
+pub within_end : (sa : Record) (c : Counter) → five_at sa.starts c ≤ end_of sa c
+within_end sa counter.EspOut = sa.starts_within.esp_out
+within_end sa counter.EspIn = sa.starts_within.esp_in
+within_end sa counter.Iv = sa.starts_within.iv
+within_end sa counter.Ask = sa.starts_within.ask
+within_end sa counter.Answer = sa.starts_within.answer
 
-end-mirrored : (c : Counter) → end_of (mirrored c) ≡ end_of c
-end-mirrored counter.EspOut = refl
-end-mirrored counter.EspIn = refl
-end-mirrored counter.Iv = refl
-end-mirrored counter.Ask = refl
-end-mirrored counter.Answer = refl
+end-mirrored : (sa : Record) (c : Counter) → end_of sa (mirrored c) ≡ end_of sa c
+end-mirrored sa counter.EspOut = refl
+end-mirrored sa counter.EspIn = refl
+end-mirrored sa counter.Iv = refl
+end-mirrored sa counter.Ask = refl
+end-mirrored sa counter.Answer = refl
 
-start_within : (sa : Record) (c : Counter) → start_of sa c ≤ end_of c
-start_within sa c = subst (λ n. start_of sa c ≤ n) (end-mirrored c) (within_end sa.starts (mirrored c) sa.starts_within)
+start_within : (sa : Record) (c : Counter) → start_of sa c ≤ end_of sa c
+start_within sa c = subst (λ n. start_of sa c ≤ n) (end-mirrored sa c) (within_end sa (mirrored c))
 
 module _ (c : Counter) where
   column-taken_over : (member : ℕ) (e : Entry) → column_ours c (Some (taken_over member e)) ≡ with_epoch (column_ours c (Some e))
-  column-taken_over member e i = record { bases = map-append (λ (five : Five). five_at five c) e.bases (e.highs ∷ []) i; high = five_at e.highs c }
+  column-taken_over member e i = record { bases = map-append (λ (five : Five). five_at five c) e.bases (e.highs ∷ []) i; high = five_at e.highs c; end = end_of e.sa c }
 
   raised_high : (d : Counter) (upto : ℕ) (e : Entry) → five_at e.highs c ≤ five_at (raised d upto e).highs c
   raised_high d upto e = by_test (is_counter d c) refl
@@ -101,11 +103,11 @@ module _ (c : Counter) where
       by_test : (b : Bool) → is_counter d c ≡ b → five_at e.highs c ≤ five_at (raised d upto e).highs c
       by_test true t =
           let same : d ≡ c = is_counter-true d c t in
-          let is : five_at (raised d upto e).highs c ≡ max (five_at e.highs d) (min upto (end_of d)) = five_at-with_five d c (max (five_at e.highs d) (min upto (end_of d))) e.highs ∙ rw t in
+          let is : five_at (raised d upto e).highs c ≡ max (five_at e.highs d) (min upto (end_of e.sa d)) = five_at-with_five d c (max (five_at e.highs d) (min upto (end_of e.sa d))) e.highs ∙ rw t in
           let at : five_at e.highs d ≡ five_at e.highs c = ap (five_at e.highs) same in
           omega arith
       by_test false t =
-          let is : five_at (raised d upto e).highs c ≡ five_at e.highs c = five_at-with_five d c (max (five_at e.highs d) (min upto (end_of d))) e.highs ∙ rw t in
+          let is : five_at (raised d upto e).highs c ≡ five_at e.highs c = five_at-with_five d c (max (five_at e.highs d) (min upto (end_of e.sa d))) e.highs ∙ rw t in
           omega arith
 
   goes_on-raised : (d : Option Counter) (upto : ℕ) (e : Entry) → IsRising (column_ours c (Some e)) → GoesOn (column_ours c (Some e)) (column_ours c (Some (raised_at d upto e)))
@@ -121,8 +123,8 @@ module _ (c : Counter) where
   goes_on-ours spir (ask.Enter sa) None rising = by_test (sa.spir == spir)
     where
       by_test : (b : Bool) → GoesOn nothing (column_ours c (if b then Some (fresh sa) else None))
-      by_test true = goes_on-first (column_ours c (Some (fresh sa))) (rising-none (five_at sa.starts c))
-      by_test false = goes_on-refl nothing (rising-none 0)
+      by_test true = goes_on-first (column_ours c (Some (fresh sa))) (rising-none (five_at sa.starts c) (end_of sa c))
+      by_test false = goes_on-refl nothing (rising-none 0 0)
   goes_on-ours spir (ask.TakeOver asked member) old rising = by_test (asked == spir) old rising
     where
       by_test : (b : Bool) (old : Option Entry) → IsRising (column_ours c old) → GoesOn (column_ours c old) (column_ours c (if b then option_map (taken_over member) old else old))
@@ -136,8 +138,8 @@ module _ (c : Counter) where
       by_test true None rising = goes_on-refl nothing rising
       by_test true (Some e) rising = goes_on-raised (counter_named kind child) upto e rising
 
-  rising-theirs : (sa : Record) → IsRising (record { bases = start_of sa c ∷ []; high = end_of c })
-  rising-theirs sa = rising-one (start_of sa c) (end_of c) (start_within sa c)
+  rising-theirs : (sa : Record) → IsRising (record { bases = start_of sa c ∷ []; high = end_of sa c; end = end_of sa c })
+  rising-theirs sa = rising-one (start_of sa c) (end_of sa c) (end_of sa c) (start_within sa c)
 
   -- the peer's column goes on
   pub goes_on-theirs : (spir : ℕ) (asked : KeeperAsk) (old : Option Entry) → IsRising (column_theirs c old) → GoesOn (column_theirs c old) (column_theirs c (entry_after spir asked old))
@@ -146,7 +148,7 @@ module _ (c : Counter) where
     where
       by_test : (b : Bool) → GoesOn nothing (column_theirs c (if b then Some (fresh sa) else None))
       by_test true = goes_on-first (column_theirs c (Some (fresh sa))) (rising-theirs sa)
-      by_test false = goes_on-refl nothing (rising-none 0)
+      by_test false = goes_on-refl nothing (rising-none 0 0)
   goes_on-theirs spir (ask.TakeOver asked member) old rising = by_test (asked == spir) old rising
     where
       by_test : (b : Bool) (old : Option Entry) → IsRising (column_theirs c old) → GoesOn (column_theirs c old) (column_theirs c (if b then option_map (taken_over member) old else old))
@@ -178,6 +180,7 @@ module _ (c : Counter) where
           let at : mark (with_epoch was) (length e.bases + 1) ≡ mark was (length e.bases + 1) = mark-with_epoch was (length e.bases + 1) in
           let top : mark was (length e.bases + 1) ≡ was.high = mark-high was (length e.bases + 1) (let b : length was.bases ≡ length e.bases = count in omega arith) in
           omega arith;
+      end = refl;
     };
     unused = refl;
   })
@@ -195,6 +198,6 @@ module _ (c : Counter) where
   pub new-theirs : (sa : Record) → IsNew nothing (column_theirs c (Some (fresh sa))) (begun_theirs c sa)
   new-theirs sa = record {
     next_epoch = refl;
-    of_column = record { some = omega arith; begun = omega arith; base = refl; high = omega arith };
+    of_column = record { some = omega arith; begun = omega arith; base = refl; high = omega arith; end = refl };
     unused = refl;
   }

@@ -40,6 +40,7 @@ holding-goes_on old new h goes of = record {
   begun = let a : h.epoch ≤ length old.bases = of.begun in let b : length old.bases ≤ length new.bases = goes.no_shorter in omega arith;
   base = goes.same_bases (h.epoch - 1) (let a : h.epoch ≤ length old.bases = of.begun in let b : 1 ≤ h.epoch = of.some in omega arith) ∙ of.base;
   high = let a : h.high ≤ mark old h.epoch = of.high in let b : mark old h.epoch ≤ mark new h.epoch = mark-goes_on old new goes h.epoch of.begun in omega arith;
+  end = of.end ∙ sym (goes.same_end (let a : h.epoch ≤ length old.bases = of.begun in let b : 1 ≤ h.epoch = of.some in omega arith));
 }
 
 pub use-goes_on : (old new : Column) (u : Use) → GoesOn old new → IsUseOf old u → IsUseOf new u
@@ -163,13 +164,14 @@ module _ (held : Actor → Option Holding) (uses : List Use) (column : Column) (
         begun = was.begun;
         base = was.base;
         high = let a : h.high ≤ mark column h.epoch = was.high in omega arith;
+        end = was.end;
       }
 
   -- The use of a number from a holding's base on and below its high.
   pub owned-drawn : (n : ℕ) → MayUse h n → IsOwned (changed held uses column owned w (Some (drawn n h))) (record { epoch = h.epoch; number = n } ∷ uses) column
   owned-drawn n may = record {
     rising = owned.rising;
-    holdings = holdings-changed (drawn n h) (record { some = was.some; begun = was.begun; base = was.base; high = was.high });
+    holdings = holdings-changed (drawn n h) (record { some = was.some; begun = was.begun; base = was.base; high = was.high; end = was.end });
     alone = alone-changed (drawn n h) refl;
     within = (of, owned.within);
     known = λ v g e k none. changed_cases held uses column owned w (Some (drawn n h)) v g e

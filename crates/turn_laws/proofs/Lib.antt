@@ -5,7 +5,6 @@ mod Books
 mod Holdings
 mod Safety
 mod Runs
-mod Cases
 mod Names
 mod Uses
 mod Covers

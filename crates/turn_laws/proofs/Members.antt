@@ -1,15 +1,14 @@
 -- Whose turns are a member's, and what a member holds.
-use Rattle.std.proofs.Common.{◌≡◌, ℕ, ◌+◌, ◌-◌, Bool, true, false, Some, List, refl, subst}
+use Rattle.std.proofs.Common.{◌≡◌, ℕ, Bool, true, false, Some, List, refl}
 use Rattle.events.specs.declared.event.Event.{Event}
 use Rattle.events.specs.declared.turn.Turn.{Turn}
 use Rattle.events.specs.declared.verdict.Verdict.{Verdict}
 use Rattle.horizons.specs.declared.stop.Stop.{Stop}
 use Rattle.horizons.specs.declared.stop.Stop.TheVariants as stop
-use Rattle.turn_laws.proofs.Deeds.{performer_at}
 use Rattle.turn_rules.specs.Draws.{refusal_of_stop}
-use Rattle.turn_rules.specs.Ends.{Member, is_of_run, is_refused_by_run, own, performer_of}
+use Rattle.turn_rules.specs.Ends.{Member, is_of_run, is_refused_by_run, own, performer_at, performer_of}
 use Rattle.turn_rules.specs.Held.{Held, held_by, window_by}
-use Rattle.turn_rules.specs.States.{has_ended, held_unless, state_by}
+use Rattle.turn_rules.specs.States.{has_ended, held_unless, told_state}
 
 pub stop-of_member : (why : Stop) → is_of_run (refusal_of_stop why) ≡ false
 stop-of_member stop.Keeper = refl
@@ -24,10 +23,9 @@ member-performs event verdict member by not_run = rw not_run by
 
 module _ (boxes : ℕ) (past : List Turn) where
   -- what a member of a state holds, its own turns say
-  pub own-held : (member spir : ℕ) (held : Held) → (member - 1) + 1 ≡ member → (state_by boxes past).held (member - 1) spir ≡ Some held → held_by (window_by past) (own (Member member) past) spir ≡ Some held
-  own-held member spir held counted is =
-      subst (λ n. held_by (window_by past) (own (Member n) past) spir ≡ Some held) counted (by_test (has_ended ((member - 1) + 1) past) is)
+  pub own-held : (member spir : ℕ) (held : Held) → (told_state boxes past).held member spir ≡ Some held → held_by (window_by past) (own (Member member) past) spir ≡ Some held
+  own-held member spir held is = by_test (has_ended member past) is
     where
-      by_test : (b : Bool) → held_unless b (held_by (window_by past) (own (Member ((member - 1) + 1)) past) spir) ≡ Some held → held_by (window_by past) (own (Member ((member - 1) + 1)) past) spir ≡ Some held
+      by_test : (b : Bool) → held_unless b (held_by (window_by past) (own (Member member) past) spir) ≡ Some held → held_by (window_by past) (own (Member member) past) spir ≡ Some held
       by_test true is = absurd (cc)
       by_test false is = is

@@ -5,7 +5,7 @@ use Rattle.std.proofs.lemmas.Option.{same_Some}
 use Rattle.std.specs.List.{AllByRecursion, filter_map}
 use Rattle.std.specs.Option.{option_map}
 use Rattle.events.specs.declared.turn.Turn.{Turn}
-use Rattle.keeper_book.specs.Counters.{end_of}
+use Rattle.keeper_book.specs.CounterEnds.{end_of}
 use Rattle.keeper_book.specs.declared.counters.Counter.{Counter}
 use Rattle.keeper_book.specs.declared.counters.Counter.TheVariants as counter
 use Rattle.keeper_book.specs.declared.records.Record.{Record}
@@ -20,11 +20,12 @@ use Rattle.turn_laws.specs.Acts.{HoldsFor, held_at}
 use Rattle.turn_laws.specs.Holdings.{End, Holding}
 use Rattle.turn_laws.specs.Places.{Theirs, start_of}
 use Rattle.turn_laws.specs.Turns.{acts_of}
-use Rattle.turn_rules.proofs.SlotTies.{AreApart, Differ, associations-apart, first-has, records-slots_by}
+use Rattle.turn_rules.proofs.SlotTies.{first-has, records-slots_by}
+use Rattle.turn_rules.proofs.StateLaws.{associations-apart}
 use Rattle.turn_rules.specs.Ends.{Peer, own}
 use Rattle.turn_rules.specs.Held.{first_of, found, greatest, window_by}
 use Rattle.turn_rules.specs.Local.{Local}
-use Rattle.turn_rules.specs.Peers.{associations_by, entered_in}
+use Rattle.turn_rules.specs.Peers.{AreDistinct, Differ, associations_by, entered_in}
 use Rattle.turn_rules.specs.Slots.{Slot, first_slot, since_entered, slot_by, slots_by}
 
 -- each association of the peer is found by its responder's SPI
@@ -34,10 +35,10 @@ came-same sa = ap (λ b. if b then Some sa else None) (eq-eqb sa.spir sa.spir re
 came-other : (sa new : Record) → Differ sa new → came sa.spir (Some new) ≡ None
 came-other sa new differ = ap (λ b. if b then Some new else None) (ne_eqb new.spir sa.spir (λ same. differ.spir (sym same)))
 
-apart-before : (xs : List Record) (sa : Record) → AreApart (xs ++ sa ∷ []) → AreApart xs × AllByRecursion (λ x. Differ x sa) xs
+apart-before : (xs : List Record) (sa : Record) → AreDistinct (xs ++ sa ∷ []) → AreDistinct xs × AllByRecursion (λ x. Differ x sa) xs
 apart-before [] sa apart = (tt, tt)
 apart-before (x ∷ xs) sa apart =
-    let rest : AreApart xs × AllByRecursion (λ x. Differ x sa) xs = apart-before xs sa apart.1 in
+    let rest : AreDistinct xs × AllByRecursion (λ x. Differ x sa) xs = apart-before xs sa apart.1 in
     let first : AllByRecursion (Differ x) xs × Differ x sa = split xs apart.0 in
     ((first.0, rest.0), (first.1, rest.1))
   where
@@ -45,19 +46,19 @@ apart-before (x ∷ xs) sa apart =
     split [] all = (tt, all.0)
     split (y ∷ ys) all = let rest : AllByRecursion (Differ x) ys × Differ x sa = split ys all.1 in ((all.0, rest.0), rest.1)
 
-all-found : (past : List Turn) → AreApart (associations_by past) → AllByRecursion (λ sa. found (came_in sa.spir) past ≡ Some sa) (associations_by past)
+all-found : (past : List Turn) → AreDistinct (associations_by past) → AllByRecursion (λ sa. found (came_in sa.spir) past ≡ Some sa) (associations_by past)
 all-found [] apart = tt
 all-found (turn ∷ past) apart = by_entry (all-found past) (entered_in turn) refl apart
   where
-    by_entry : (AreApart (associations_by past) → AllByRecursion (λ sa. found (came_in sa.spir) past ≡ Some sa) (associations_by past))
-        → (x : Option Record) → entered_in turn ≡ x → AreApart (associations_by past ++ option_to_list x)
+    by_entry : (AreDistinct (associations_by past) → AllByRecursion (λ sa. found (came_in sa.spir) past ≡ Some sa) (associations_by past))
+        → (x : Option Record) → entered_in turn ≡ x → AreDistinct (associations_by past ++ option_to_list x)
         → AllByRecursion (λ sa. first_of (came sa.spir (entered_in turn)) (found (came_in sa.spir) past) ≡ Some sa) (associations_by past ++ option_to_list x)
     by_entry before None e apart = all-append (λ sa. first_of (came sa.spir (entered_in turn)) (found (came_in sa.spir) past) ≡ Some sa) (associations_by past) []
         (all-each (associations_by past) (λ sa is. ap (λ (x : Option Record). first_of (came sa.spir x) (found (came_in sa.spir) past)) e ∙ is)
-        (before (subst (λ list. AreApart list) (append-nil (associations_by past)) apart)))
+        (before (subst (λ list. AreDistinct list) (append-nil (associations_by past)) apart)))
         tt
     by_entry before (Some new) e apart =
-        let parts : AreApart (associations_by past) × AllByRecursion (λ x. Differ x new) (associations_by past) = apart-before (associations_by past) new apart in
+        let parts : AreDistinct (associations_by past) × AllByRecursion (λ x. Differ x new) (associations_by past) = apart-before (associations_by past) new apart in
         all-append (λ sa. first_of (came sa.spir (entered_in turn)) (found (came_in sa.spir) past) ≡ Some sa) (associations_by past) (new ∷ [])
         (all-both (associations_by past) (λ sa is differ. ap (λ (x : Option Record). first_of (came sa.spir x) (found (came_in sa.spir) past)) e
         ∙ (ap (λ (x : Option Record). first_of x (found (came_in sa.spir) past)) (came-other sa new differ) ∙ is)) (before parts.0) parts.1)
@@ -82,7 +83,7 @@ module _ (boxes : ℕ) (past : List Turn) (local : Local boxes past) (test : Slo
   numbers c = filter_map (number_theirs_of slot.sa.spir c) (since_entered slot.sa.spir (own Peer past))
 
   abbrev its_holding : Counter → Holding
-  its_holding c = record { epoch = 1; base = start_of slot.sa c; high = end_of c; numbers = numbers c }
+  its_holding c = record { epoch = 1; base = start_of slot.sa c; high = end_of slot.sa c; end = end_of slot.sa c; numbers = numbers c }
 
   its_association : found (came_in slot.sa.spir) (own Peer past) ≡ Some slot.sa
   its_association = first-has (λ sa. found (came_in sa.spir) (own Peer past) ≡ Some sa) test (slots_by (window_by past) (own Peer past)) slot
@@ -93,10 +94,10 @@ module _ (boxes : ℕ) (past : List Turn) (local : Local boxes past) (test : Slo
   holds_it : (c : Counter) → held_at (Theirs slot.sa.spir c) (acts_of past) (End Peer) ≡ Some (its_holding c)
   holds_it c =
       sym (told_theirs-held boxes past local slot.sa.spir c)
-      ∙ ap (option_map (λ (sa : Record). record { epoch = 1; base = start_of sa c; high = end_of c; numbers = numbers c })) its_association
+      ∙ ap (option_map (λ (sa : Record). record { epoch = 1; base = start_of sa c; high = end_of sa c; end = end_of sa c; numbers = numbers c })) its_association
 
   -- the peer may use the number that it sends next
-  peer-may-send : slot.next < 2 ^ 63 → HoldsFor (held_at (Theirs slot.sa.spir counter.EspOut) (acts_of past) (End Peer)) slot.next
+  peer-may-send : slot.next < end_of slot.sa counter.EspOut → HoldsFor (held_at (Theirs slot.sa.spir counter.EspOut) (acts_of past) (End Peer)) slot.next
   peer-may-send below =
       let next : slot.next ≡ greatest slot.sa.starts.esp_in (map (λ n. n + 1) (numbers counter.EspOut)) = ap (λ (s : Slot). s.next) (slot-told (window_by past) (own Peer past) test slot is) in
       record {
@@ -110,7 +111,7 @@ module _ (boxes : ℕ) (past : List Turn) (local : Local boxes past) (test : Slo
       }
 
   -- and each number that its window takes
-  peer-may-take : (n : ℕ) → n < 2 ^ 63 → judged slot.window n ≡ judgement.Fresh → HoldsFor (held_at (Theirs slot.sa.spir counter.EspIn) (acts_of past) (End Peer)) n
+  peer-may-take : (n : ℕ) → n < end_of slot.sa counter.EspIn → judged slot.window n ≡ judgement.Fresh → HoldsFor (held_at (Theirs slot.sa.spir counter.EspIn) (acts_of past) (End Peer)) n
   peer-may-take n below fresh =
       let window = ap (λ (s : Slot). s.window) (slot-told (window_by past) (own Peer past) test slot is) in
       let told : judged (window_of (window_by past) slot.sa.starts.esp_out (numbers counter.EspIn)) n ≡ judgement.Fresh = subst (λ window. judged window n ≡ judgement.Fresh) window fresh in
@@ -128,6 +129,6 @@ module _ (boxes : ℕ) (past : List Turn) (local : Local boxes past) (test : Slo
 pub peer-may : (boxes : ℕ) (past : List Turn) → Local boxes past → PeerMayUse past (acts_of past)
 peer-may boxes past local test slot is_first counter.EspOut n is_open =
     subst (λ k. HoldsFor (held_at (Theirs slot.sa.spir counter.EspOut) (acts_of past) (End Peer)) k) (sym is_open.0)
-    (peer-may-send boxes past local test slot is_first (subst (λ k. k < 2 ^ 63) is_open.0 is_open.1))
+    (peer-may-send boxes past local test slot is_first (subst (λ k. k < end_of slot.sa counter.EspOut) is_open.0 is_open.1))
 peer-may boxes past local test slot is_first counter.EspIn n is_open = peer-may-take boxes past local test slot is_first n is_open.0 is_open.1
 peer-may boxes past local test slot is_first c n is_open = absurd is_open

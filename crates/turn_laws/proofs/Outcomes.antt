@@ -1,5 +1,5 @@
 -- What a turn does beside its calls: nothing, or a member ends, or one number is used.
-use Rattle.std.proofs.Common.{◌≡◌, ℕ, ◌⊎◌, inl, inr, None, List, [], ◌∷◌, ⊎_elim, refl}
+use Rattle.std.proofs.Common.{◌≡◌, ℕ, ◌⊎◌, inl, inr, Option, None, Some, List, [], ◌∷◌, ⊎_elim, refl}
 use Rattle.events.specs.declared.event.Event.{Event}
 use Rattle.events.specs.declared.event.Event.TheVariants as event
 use Rattle.events.specs.declared.event.Party.TheVariants as parties
@@ -15,8 +15,10 @@ use Rattle.turn_laws.proofs.Deeds.{Asked, Deed, Ended, IsIdle, MemberUses, PeerU
 use Rattle.turn_laws.specs.Acts.{Ends}
 use Rattle.turn_laws.specs.Turns.{taken, uses_of}
 use Rattle.turn_rules.specs.Draws.{reach_of}
-use Rattle.turn_rules.specs.Held.{accepted, received, used}
+use Rattle.turn_rules.specs.Datagrams.{Delivery, delivery_of}
+use Rattle.turn_rules.specs.Held.{accepted, received, used, received_in}
 use Rattle.turn_rules.specs.Slots.{sent}
+use Rattle.turn_rules.specs.Tasks.{receipt}
 use Rattle.turn_rules.specs.Steps.{IsQuiet}
 
 pub data Outcome (past : List Turn) (event : Event) (calls : List Call) (step : Step) : Type 0 where
@@ -61,11 +63,11 @@ idle-accepted spir (out.Accepted name n next_header payload) idle = absurd idle
 idle-accepted spir verdict idle = refl
 
 pub idle-received : (spir : ℕ) (event : Event) (verdict : Verdict) → IsIdle verdict → received spir event verdict ≡ None
-idle-received spir (event.Deliver which to) verdict idle = idle-accepted spir verdict idle
-idle-received spir (event.Alter which to place octet) verdict idle = idle-accepted spir verdict idle
-idle-received spir (event.Cut which to keep) verdict idle = idle-accepted spir verdict idle
-idle-received spir (event.Inject to medium octets) verdict idle = idle-accepted spir verdict idle
-idle-received spir event verdict idle = refl
+idle-received spir event verdict idle = go (delivery_of event)
+  where
+    go : (x : Option Delivery) → received_in spir (receipt x) verdict ≡ None
+    go None = refl
+    go (Some delivery) = idle-accepted spir verdict idle
 
 pub idle-sent : (spir : ℕ) (event : Event) (verdict : Verdict) → IsIdle verdict → sent spir event verdict ≡ None
 idle-sent spir (event.Send parties.Peer asked payload) (out.Sent n) idle = absurd idle
@@ -102,8 +104,11 @@ over-used spir counter.EspOut (event.Send (parties.Member member) asked payload)
 over-used spir c event = refl
 
 over-received : (spir : ℕ) (event : Event) → received spir event out.Down ≡ None
-over-received spir (event.Deliver which to) = refl
-over-received spir event = refl
+over-received spir event = go (delivery_of event)
+  where
+    go : (x : Option Delivery) → received_in spir (receipt x) out.Down ≡ None
+    go None = refl
+    go (Some delivery) = refl
 
 pub over-taken : (spir : ℕ) (c : Counter) (event : Event) → taken spir c event out.Down ≡ None
 over-taken spir counter.EspIn event = over-received spir event

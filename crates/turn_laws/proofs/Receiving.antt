@@ -1,5 +1,5 @@
 -- Each delivery of a packet that is explained is a deed.
-use Rattle.std.proofs.Common.{◌≡◌, ℕ, ◌+◌, ◌-◌, ◌==◌, ◌&&◌, true, false, Option, Some, None, MatchOption, List, [], Result, Ok, Err, ⊎_elim, refl, ap, sym, ◌∙◌, subst, length, if◌then◌else◌}
+use Rattle.std.proofs.Common.{◌≡◌, ℕ, ◌==◌, ◌&&◌, true, false, Option, Some, None, MatchOption, List, [], Result, Ok, Err, ⊎_elim, refl, ap, sym, ◌∙◌, subst, length, if◌then◌else◌}
 use Rattle.std.proofs.lemmas.Bool.{cases_lt}
 use Rattle.std.proofs.lemmas.Option.{same_Some}
 use Rattle.esp_packets.specs.Packet.{spi_of}
@@ -39,8 +39,8 @@ use Rattle.turn_rules.specs.MemberPackets.{DropsQuietly, IsReceived, MemberRecei
 use Rattle.turn_rules.specs.Packets.{Drops, IsVerdictOf, Opens}
 use Rattle.turn_rules.specs.Peers.{entered}
 use Rattle.turn_rules.specs.Safe.{Packet, accepted_as}
-use Rattle.turn_rules.specs.States.{state_by}
-use Rattle.turn_rules.specs.Slots.{Slot, SlotReceives, SlotTakes, first_slot, peer_counter, receives_at, sent, slot_inbound, slots_by, with_slot}
+use Rattle.turn_rules.specs.States.{told_state}
+use Rattle.turn_rules.specs.Slots.{Slot, SlotReceives, SlotTakes, first_slot, peer_counter, receives_at, sent, slot_inbound, slots_by}
 use Rattle.turn_rules.specs.Steps.{IsQuiet}
 
 -- an event that brings a packet to an end
@@ -150,7 +150,7 @@ module _ (boxes : ℕ) (past : List Turn) (own_spir : (member spir : ℕ) (held 
           calls takes;
     })
 
-  module _ (member : ℕ) (counted : (member - 1) + 1 ≡ member) (brings : Brings event (parties.Member member)) (octets : List ℕ) where
+  module _ (member : ℕ) (brings : Brings event (parties.Member member)) (octets : List ℕ) where
     opened-deed : (held : Held) → held_by (window_by past) (own (Member member) past) held.sa.spir ≡ Some held → (opened : Result EspOpened EspDrop) → Opens (inbound_of held) octets opened after → TakesPacket held opened calls answer → Deed past event calls step
     opened-deed held is_held (Err why) opens takes = Rested takes.0 (dropped-rests step why answer after quiet takes.1 worded) (brings.no_entry step.verdict)
     opened-deed held is_held (Ok packet) opens takes = takes-deed member brings held is_held packet octets opens takes
@@ -158,13 +158,13 @@ module _ (boxes : ℕ) (past : List Turn) (own_spir : (member spir : ℕ) (held 
     drops-deed : (why : EspDrop) → DropsQuietly why octets calls answer after → Deed past event calls step
     drops-deed why drops = Rested drops.0 (dropped-rests step why answer after quiet drops.1.said worded) (brings.no_entry step.verdict)
 
-    received-deed : IsReceived ((state_by boxes past).held (member - 1)) octets calls answer after → Deed past event calls step
+    received-deed : IsReceived ((told_state boxes past).held member) octets calls answer after → Deed past event calls step
     received-deed r =
-        let is_held : held_by (window_by past) (own (Member member) past) r.spir ≡ Some r.receiver = own-held boxes past member r.spir r.receiver counted r.is_receiver.is_held in
+        let is_held : held_by (window_by past) (own (Member member) past) r.spir ≡ Some r.receiver = own-held boxes past member r.spir r.receiver r.is_receiver.is_held in
         let same : r.receiver.sa.spir ≡ r.spir = own_spir member r.spir r.receiver is_held in
         opened-deed r.receiver (subst (λ n. held_by (window_by past) (own (Member member) past) n ≡ Some r.receiver) (sym same) is_held) r.receives.opened r.receives.opens r.receives.takes
 
-    pub member_takes-deed : MemberReceives ((state_by boxes past).held (member - 1)) octets calls answer after → Deed past event calls step
+    pub member_takes-deed : MemberReceives ((told_state boxes past).held member) octets calls answer after → Deed past event calls step
     member_takes-deed receives = ⊎_elim
         (λ short. drops-deed drop.Short (receives.short short))
         (λ long. ⊎_elim (λ nowhere. drops-deed drop.WrongSpi nowhere.1) received-deed (receives.long long))
@@ -172,10 +172,10 @@ module _ (boxes : ℕ) (past : List Turn) (own_spir : (member spir : ℕ) (held 
 
 -- the peer receives a packet, by its associations
 module _ (past : List Turn) (event : Event) (brings : Brings event parties.Peer) (octets : List ℕ) (calls : List Call) (step : Step) (takes : PeerTakes (slots_by (window_by past) (own Peer past)) octets calls step) where
-  slot_opened-deed : (slot : Slot) → first_slot (receives_at (spi_of octets)) (slots_by (window_by past) (own Peer past)) ≡ Some slot → (opened : Result EspOpened EspDrop) → Opens (slot_inbound slot) octets opened takes.after → (now : Slot) → SlotTakes slot opened takes.answer now → Deed past event calls step
-  slot_opened-deed slot is_first (Err why) opens now slot_takes = Rested takes.no_calls (dropped-rests step why takes.answer takes.after takes.quiet slot_takes.0 takes.worded) (brings.no_entry step.verdict)
-  slot_opened-deed slot is_first (Ok packet) opens now slot_takes =
-      let took : Accepts (peer_counter slot.sa counter.EspIn) packet.number step.verdict = accepts (peer_counter slot.sa counter.EspIn) packet takes.answer takes.after step.verdict slot_takes.0 takes.worded in
+  slot_opened-deed : (slot : Slot) → first_slot (receives_at (spi_of octets)) (slots_by (window_by past) (own Peer past)) ≡ Some slot → (opened : Result EspOpened EspDrop) → Opens (slot_inbound slot) octets opened takes.after → SlotTakes slot opened takes.answer → Deed past event calls step
+  slot_opened-deed slot is_first (Err why) opens slot_takes = Rested takes.no_calls (dropped-rests step why takes.answer takes.after takes.quiet slot_takes takes.worded) (brings.no_entry step.verdict)
+  slot_opened-deed slot is_first (Ok packet) opens slot_takes =
+      let took : Accepts (peer_counter slot.sa counter.EspIn) packet.number step.verdict = accepts (peer_counter slot.sa counter.EspIn) packet takes.answer takes.after step.verdict slot_takes takes.worded in
       Used_theirs (record {
         test = receives_at (spi_of octets);
         slot = slot;
@@ -196,14 +196,14 @@ module _ (past : List Turn) (event : Event) (brings : Brings event parties.Peer)
 
   pub peer_takes-deed : Deed past event calls step
   peer_takes-deed = ⊎_elim
-      (λ short. peer_drops-deed drop.Short (takes.receives.short short).0)
+      (λ short. peer_drops-deed drop.Short (takes.receives.short short))
       (λ long. by_slot (first_slot (receives_at (spi_of octets)) (slots_by (window_by past) (own Peer past))) refl (takes.receives.long long))
       (cases_lt (length octets) 34)
     where
       by_slot : (x : Option Slot) → first_slot (receives_at (spi_of octets)) (slots_by (window_by past) (own Peer past)) ≡ x
           → MatchOption x
-          (Drops drop.WrongSpi octets takes.answer takes.after × (takes.slots_after ≡ slots_by (window_by past) (own Peer past)))
-          (λ slot. (now : Slot) × SlotReceives slot octets takes.answer takes.after now × (takes.slots_after ≡ with_slot (receives_at (spi_of octets)) now (slots_by (window_by past) (own Peer past))))
+          (Drops drop.WrongSpi octets takes.answer takes.after)
+          (λ slot. SlotReceives slot octets takes.answer takes.after)
           → Deed past event calls step
-      by_slot None e receives = peer_drops-deed drop.WrongSpi receives.0
-      by_slot (Some slot) e receives = slot_opened-deed slot e receives.1.opened receives.1.opens receives.0 receives.1.takes
+      by_slot None e receives = peer_drops-deed drop.WrongSpi receives
+      by_slot (Some slot) e receives = slot_opened-deed slot e receives.opened receives.opens receives.takes

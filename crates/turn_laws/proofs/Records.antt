@@ -13,6 +13,7 @@ use Rattle.turn_laws.proofs.Covers.{ready-calls}
 use Rattle.turn_laws.proofs.Deeds.{Asked, Deed, Ended, HasItsRecord, MemberUses, Rested, Rests, Used, Used_theirs, UsesIt}
 use Rattle.turn_laws.proofs.Explained.{fits-deed}
 use Rattle.turn_laws.proofs.Lists.{all-each, all-filter}
+use Rattle.turn_rules.proofs.StateLaws.{does-told}
 use Rattle.turn_rules.specs.Draws.{reach_of}
 use Rattle.turn_rules.specs.Ends.{Member, is_by, own}
 use Rattle.turn_rules.specs.Held.{Held, first_of, found, grant_of, granted, held_by, holding, window_by}
@@ -61,15 +62,15 @@ module _ (past : List Turn) (event : Event) (step : Step) where
   deed-records calls (Used u) = covers-records calls u
   deed-records calls (Used_theirs u) = subst (λ calls. AllByRecursion HasItsRecord calls) (sym u.no_calls) tt
 
-deed-with : (boxes : ℕ) (past : List Turn) (turn : Turn) → HaveTheirRecords past → IsExplained boxes past turn → Deed past turn.event turn.calls turn.step
-deed-with boxes past turn records explained = fits-deed boxes past (own-spir (window_by past) past records) turn.calls turn.step turn.event explained.fits
+deed-with : (boxes : ℕ) (past : List Turn) (turn : Turn) → HaveTheirRecords past → IsExplained boxes past turn → Local boxes past → Deed past turn.event turn.calls turn.step
+deed-with boxes past turn records explained local = fits-deed boxes past (own-spir (window_by past) past records) turn.calls turn.step turn.event (does-told boxes past turn explained local)
 
 local-records : (boxes : ℕ) (past : List Turn) → Local boxes past → HaveTheirRecords past
 local-records boxes [] local = tt
 local-records boxes (turn ∷ past) local =
     let records : HaveTheirRecords past = local-records boxes past local.1 in
-    (deed-records past turn.event turn.step turn.calls (deed-with boxes past turn records local.0), records)
+    (deed-records past turn.event turn.step turn.calls (deed-with boxes past turn records local.0 local.1), records)
 
 -- a turn that is explained is a deed
 pub deed-of : (boxes : ℕ) (past : List Turn) (turn : Turn) → IsExplained boxes past turn → Local boxes past → Deed past turn.event turn.calls turn.step
-deed-of boxes past turn explained local = deed-with boxes past turn (local-records boxes past local) explained
+deed-of boxes past turn explained local = deed-with boxes past turn (local-records boxes past local) explained local

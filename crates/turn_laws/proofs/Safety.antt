@@ -40,7 +40,7 @@ named-counter c None e = absurd (cc)
 named-counter c (Some d) e = ap Some (sym (is_counter-true c d e))
 
 module _ (acts : List Act) (old new : Book) (w : Actor) where
-  module _ (rising : (p : Place) → IsRising (column p old)) where
+  module _ (rising : (p : Place) → IsRising (column p old)) (ends : (p : Place) (h : Holding) → held_at p acts w ≡ Some h → h.end ≡ (column p old).end) where
     -- what a call that was answered so does at a place
     keeps-answered : (p : Place) (asked : KeeperAsk) (answered : KeeperAnswer) → MayAsk acts w asked → Answers old asked answered new → Keeps (effect_of_call p w asked answered) (held_at p acts) (column p old) (column p new)
     keeps-answered (Ours spir c) (ask.TakeOver asked member) (answer.Taken taken) may a = by_test (asked == spir) refl
@@ -60,16 +60,16 @@ module _ (acts : List Act) (old new : Book) (w : Actor) where
         raises t named h holds =
             let same : asked ≡ spir = eqb-true asked spir t in
             let is : counter_named kind child ≡ Some c = named-counter c (counter_named kind child) named in
-            let cover : MayCover (held_at (Ours spir c) acts w) c epoch upto =
-            subst (λ n. MayCover (held_at (Ours n c) acts w) c epoch upto) same
-            (subst (λ o. MatchOption o ⊥ (λ d. MayCover (held_at (Ours asked d) acts w) d epoch upto)) is may) in
+            let cover : MayCover (held_at (Ours spir c) acts w) epoch upto =
+            subst (λ n. MayCover (held_at (Ours n c) acts w) epoch upto) same
+            (subst (λ o. MatchOption o ⊥ (λ d. MayCover (held_at (Ours asked d) acts w) epoch upto)) is may) in
             let held : h ≡ cover.holding = same_Some h cover.holding (sym holds ∙ cover.holds) in
             let at : h.epoch ≡ epoch = ap (λ (x : Holding). x.epoch) held ∙ cover.in_epoch in
             subst (λ e. upto ≤ mark (column (Ours spir c) new) e) (sym at)
             (keeps-covered old new (held_at (Ours spir c) acts) w spir c (ask.Cover asked kind child epoch upto) (counter_named kind child) epoch upto
             (ap (λ n. cover_refusal (entry_of n old.entries) (counter_named kind child) epoch) same) is
             (ap (λ b. if b then option_map (raised_at (counter_named kind child) upto) (entry_of spir old.entries) else entry_of spir old.entries) t)
-            cover.within_end a.0 a.1)
+            (subst (λ n. upto ≤ n) (ends (Ours spir c) cover.holding cover.holds) cover.within_end) a.0 a.1)
 
         by_test : (b : Bool) → ((asked == spir) && is_named c (counter_named kind child)) ≡ b → Keeps (effect_of_call (Ours spir c) w (ask.Cover asked kind child epoch upto) answer.Done) (held_at (Ours spir c) acts) (column (Ours spir c) old) (column (Ours spir c) new)
         by_test true t = rw t (goes, raises (and_parts (asked == spir) (is_named c (counter_named kind child)) t).0 (and_parts (asked == spir) (is_named c (counter_named kind child)) t).1)
@@ -120,7 +120,7 @@ module _ (acts : List Act) (old new : Book) (w : Actor) where
 
     -- what a move does at a place
     pub keeps-move : (p : Place) (move : Move) → MayDo acts w move → Writes old move new → Keeps (effect_of p w move) (held_at p acts) (column p old) (column p new)
-    keeps-move p (Calls call) may writes = keeps-call (λ q. (owned.numbers q).rising) p call may writes
+    keeps-move p (Calls call) may writes = keeps-call (λ q. (owned.numbers q).rising) (λ q h holds. ((owned.numbers q).holdings w h holds).end) p call may writes
     keeps-move p (Uses q n) may writes = keeps-use p q n may (still p writes)
     keeps-move p (Seals key) may writes = keeps-seal p (place_of key.name) key.iv may (still p writes)
     keeps-move p Ends may writes = still p writes
@@ -149,7 +149,7 @@ module _ (acts : List Act) (old new : Book) (w : Actor) where
         no_epoch : asked ≡ spir → (f : Entry) → entry_of spir old.entries ≡ Some f → f.bases ≡ [] → ⊥
         no_epoch same f found none = go (shows-covered (entry_of asked old.entries) (counter_named kind child) epoch granted) (counter_named kind child) may
           where
-            go : ShowsCovered (entry_of asked old.entries) (counter_named kind child) epoch → (named : Option Counter) → MatchOption named ⊥ (λ c. MayCover (held_at (Ours asked c) acts w) c epoch upto) → ⊥
+            go : ShowsCovered (entry_of asked old.entries) (counter_named kind child) epoch → (named : Option Counter) → MatchOption named ⊥ (λ c. MayCover (held_at (Ours asked c) acts w) epoch upto) → ⊥
             go shows None may = may
             go shows (Some c) may =
                 let some : 1 ≤ may.holding.epoch = ((owned.numbers (Ours asked c)).holdings w may.holding may.holds).some in
@@ -193,7 +193,7 @@ module _ (acts : List Act) (old new : Book) (w : Actor) where
 
 owned-none : (held : Actor → Option Holding) → ((w : Actor) → held w ≡ None) → IsOwned held [] nothing
 owned-none held none = record {
-  rising = rising-none 0;
+  rising = rising-none 0 0;
   holdings = λ w h e. let n : held w ≡ None = none w in absurd (cc);
   alone = λ w v h g e f same. let n : held w ≡ None = none w in absurd (cc);
   within = tt;

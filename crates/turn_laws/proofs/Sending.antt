@@ -1,5 +1,5 @@
 -- Each send that is explained is a deed.
-use Rattle.std.proofs.Common.{◌≡◌, ℕ, ◌<◌, ◌^◌, ◌==◌, false, Option, Some, None, List, [], ⊎_elim, refl, ap, sym, ◌∙◌, subst}
+use Rattle.std.proofs.Common.{MatchOption, ◌≡◌, ℕ, ◌<◌, ◌^◌, ◌==◌, false, Option, Some, None, List, [], ⊎_elim, refl, ap, sym, ◌∙◌, subst}
 use Rattle.std.proofs.lemmas.Bool.{cases_lt, eqb-true}
 use Rattle.events.specs.declared.event.Event.{Event}
 use Rattle.events.specs.declared.event.Event.TheVariants as event
@@ -11,6 +11,7 @@ use Rattle.events.specs.declared.verdict.Verdict.{Verdict}
 use Rattle.events.specs.declared.verdict.Verdict.TheVariants as out
 use Rattle.ha_base.specs.Octets.{WithRoom}
 use Rattle.horizons.specs.declared.stop.Stop.{Stop}
+use Rattle.keeper_book.specs.CounterEnds.{end_of}
 use Rattle.keeper_book.specs.Counters.{five_at}
 use Rattle.keeper_book.specs.declared.calls.Call.{Call}
 use Rattle.keeper_book.specs.declared.counters.Counter.{Counter}
@@ -110,13 +111,13 @@ module _ (past : List Turn) (step : Step) (member spir : ℕ) (payload : WithRoo
 
 -- the peer sends, by its associations
 module _ (past : List Turn) (step : Step) (spir : ℕ) (payload : WithRoom) (calls : List Call) (no_calls : calls ≡ []) where
-  slot-deed : (slot now : Slot) → first_slot (has_spir spir) (slots_by (window_by past) (own Peer past)) ≡ Some slot → SlotSends slot payload.octets step now → Deed past (event.Send parties.Peer spir payload) calls step
-  slot-deed slot now is_first sends = ⊎_elim
-      (λ within. sent within (sends.within within).0)
-      (λ ended. Rested no_calls (says-rests step (out.Refused refusal.Exhausted) tt (sends.ended ended).0) refl)
+  slot-deed : (slot : Slot) → first_slot (has_spir spir) (slots_by (window_by past) (own Peer past)) ≡ Some slot → SlotSends slot payload.octets step → Deed past (event.Send parties.Peer spir payload) calls step
+  slot-deed slot is_first sends = ⊎_elim
+      (λ within. sent within (sends.within within))
+      (λ ended. Rested no_calls (says-rests step (out.Refused refusal.Exhausted) tt (sends.ended ended)) refl)
       (cases_lt slot.next (2 ^ 63))
     where
-      sent : slot.next < 2 ^ 63 → Sends (slot_outbound slot) slot.next payload.octets step → Deed past (event.Send parties.Peer spir payload) calls step
+      sent : slot.next < end_of slot.sa counter.EspOut → Sends (slot_outbound slot) slot.next payload.octets step → Deed past (event.Send parties.Peer spir payload) calls step
       sent within s = Used_theirs (record {
         test = has_spir spir;
         slot = slot;
@@ -135,9 +136,10 @@ module _ (past : List Turn) (step : Step) (spir : ℕ) (payload : WithRoom) (cal
         no_entry = refl;
       })
 
-  pub peer_sends-deed : (after : List Slot) → PeerSends spir (slots_by (window_by past) (own Peer past)) payload.octets step after → Deed past (event.Send parties.Peer spir payload) calls step
-  peer_sends-deed after = by_slot (first_slot (has_spir spir) (slots_by (window_by past) (own Peer past))) refl
+  pub peer_sends-deed : PeerSends spir (slots_by (window_by past) (own Peer past)) payload.octets step → Deed past (event.Send parties.Peer spir payload) calls step
+  peer_sends-deed sends = by_slot (first_slot (has_spir spir) (slots_by (window_by past) (own Peer past))) refl sends
     where
-      by_slot : (x : Option Slot) → first_slot (has_spir spir) (slots_by (window_by past) (own Peer past)) ≡ x → PeerSends spir (slots_by (window_by past) (own Peer past)) payload.octets step after → Deed past (event.Send parties.Peer spir payload) calls step
-      by_slot None e sends = Rested no_calls (says-rests step (out.Refused refusal.Unknown) tt (rw e at sends).0) refl
-      by_slot (Some slot) e sends = slot-deed slot (rw e at sends).0 e (rw e at sends).1
+      by_slot : (x : Option Slot) → first_slot (has_spir spir) (slots_by (window_by past) (own Peer past)) ≡ x
+          → MatchOption x (Says (out.Refused refusal.Unknown) step) (λ slot. SlotSends slot payload.octets step) → Deed past (event.Send parties.Peer spir payload) calls step
+      by_slot None e says = Rested no_calls (says-rests step (out.Refused refusal.Unknown) tt says) refl
+      by_slot (Some slot) e sends = slot-deed slot e sends

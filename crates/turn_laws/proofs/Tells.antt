@@ -4,6 +4,7 @@ use Rattle.std.proofs.lemmas.Option.{same_Some}
 use Rattle.std.specs.List.{filter_map}
 use Rattle.std.specs.Option.{option_map}
 use Rattle.events.specs.declared.turn.Turn.{Turn}
+use Rattle.keeper_book.specs.CounterEnds.{end_of}
 use Rattle.keeper_book.specs.Counters.{five_at}
 use Rattle.keeper_book.specs.declared.counters.Counter.{Counter}
 use Rattle.keeper_book.specs.declared.counters.Counter.TheVariants as counter
@@ -21,6 +22,7 @@ pub record Tells (mine : List Turn) (spir : ℕ) (c : Counter) (held : Held) (h 
   pub epoch : h.epoch ≡ held.epoch
   pub base : h.base ≡ five_at held.bases c
   pub high : h.high ≡ five_at held.highs c
+  pub end : h.end ≡ end_of held.sa c
   pub unused : (n : ℕ) → IsOpen held c n → (h.base ≤ n) × IsNotIn n h.numbers
 
 module _ (size spir : ℕ) (mine : List Turn) (taken : Taken) where
@@ -35,7 +37,7 @@ module _ (size spir : ℕ) (mine : List Turn) (taken : Taken) where
   open-unused counter.Answer n is = next-open counter.Answer n is
 
   abbrev as_told : Counter → Taken → Holding
-  as_told c t = record { epoch = t.epoch; base = five_at t.bases c; high = high_of spir c t.bases mine; numbers = filter_map (taken_of spir c) (since spir mine) }
+  as_told c t = record { epoch = t.epoch; base = five_at t.bases c; high = high_of spir c t.bases mine; end = end_of t.sa c; numbers = filter_map (taken_of spir c) (since spir mine) }
 
 pub tells : (size : ℕ) (mine : List Turn) (spir : ℕ) (c : Counter) (held : Held) → held_by size mine spir ≡ Some held → (h : Holding) × Tells mine spir c held h
 tells size mine spir c held is = go (found (grant_of spir) mine) refl is
@@ -49,6 +51,7 @@ tells size mine spir c held is = go (found (grant_of spir) mine) refl is
         epoch = refl;
         base = refl;
         high = sym (five_at-five_of (λ d. high_of spir d taken.bases mine) c);
+        end = refl;
         unused = open-unused size spir mine taken c;
       },
     )

@@ -6,14 +6,14 @@ use Rattle.events.specs.declared.event.Event.{Event}
 use Rattle.events.specs.declared.turn.Step.{Step}
 use Rattle.events.specs.declared.turn.Turn.{Turn}
 use Rattle.events.specs.declared.verdict.Verdict.{Verdict}
-use Rattle.keeper_book.specs.Counters.{end_of}
+use Rattle.keeper_book.specs.CounterEnds.{end_of}
 use Rattle.keeper_book.specs.Told.{seen}
 use Rattle.keeper_book.specs.declared.calls.Call.{Call}
 use Rattle.keeper_book.specs.declared.counters.Counter.{Counter}
 use Rattle.keeper_book.specs.declared.counters.Counter.TheVariants as counter
 use Rattle.keeper_book.specs.declared.records.Record.{Record}
 use Rattle.turn_laws.proofs.Arrivals.{came, came_in, number_theirs, number_theirs_of}
-use Rattle.turn_laws.proofs.Deeds.{Asked, Asks, Deed, Ended, IsIdle, PeerUses, Rested, Rests, Used, Used_theirs, performer_at, rest_of}
+use Rattle.turn_laws.proofs.Deeds.{Asked, Asks, Deed, Ended, IsIdle, PeerUses, Rested, Rests, Used, Used_theirs, rest_of}
 use Rattle.turn_laws.proofs.Holdings.{is_actor-same}
 use Rattle.turn_laws.proofs.Outcomes.{idle-received, idle-sent, rests-rest}
 use Rattle.turn_laws.proofs.Records.{deed-of}
@@ -23,7 +23,7 @@ use Rattle.turn_laws.specs.Acts.{Act, Calls, Move, begun_theirs, effect_theirs, 
 use Rattle.turn_laws.specs.Holdings.{Actor, Draws, End, Holding, Nothing, held_after, is_actor}
 use Rattle.turn_laws.specs.Places.{Theirs, is_place, start_of}
 use Rattle.turn_laws.specs.Turns.{actor_as, actor_of, acts_of, moves_of}
-use Rattle.turn_rules.specs.Ends.{Member, Peer, Performer, is_by, is_end, own, performer}
+use Rattle.turn_rules.specs.Ends.{Member, Peer, Performer, is_by, is_end, own, performer, performer_at}
 use Rattle.turn_rules.specs.Held.{first_of, found}
 use Rattle.turn_rules.specs.Local.{Local}
 use Rattle.turn_rules.specs.Peers.{entered, entered_in}
@@ -34,7 +34,8 @@ abbrev pub told_theirs : ℕ → Counter → List Turn → Option Holding
 told_theirs spir c past = option_map (λ sa. record {
   epoch = 1;
   base = start_of sa c;
-  high = end_of c;
+  high = end_of sa c;
+  end = end_of sa c;
   numbers = filter_map (number_theirs_of spir c) (since_entered spir past);
 }) (found (came_in spir) past)
 
@@ -52,7 +53,7 @@ with_none (Some h) = refl
 
 module _ (spir : ℕ) (c : Counter) (turn : Turn) (past : List Turn) where
   abbrev theirs_as : List Turn → Record → Holding
-  theirs_as turns sa = record { epoch = 1; base = start_of sa c; high = end_of c; numbers = filter_map (number_theirs_of spir c) turns }
+  theirs_as turns sa = record { epoch = 1; base = start_of sa c; high = end_of sa c; end = end_of sa c; numbers = filter_map (number_theirs_of spir c) turns }
 
   no_entry : (x : Option Record) → option_map (theirs_as (turn ∷ since_entered spir past)) x ≡ option_map (with_number (number_theirs_of spir c turn)) (option_map (theirs_as (since_entered spir past)) x)
   no_entry None = refl

@@ -8,13 +8,14 @@ use Rattle.events.specs.declared.turn.Step.{Step}
 use Rattle.events.specs.declared.turn.Turn.{Turn}
 use Rattle.events.specs.declared.verdict.Verdict.{Verdict}
 use Rattle.events.specs.declared.verdict.Verdict.TheVariants as out
+use Rattle.keeper_book.specs.CounterEnds.{end_of}
 use Rattle.keeper_book.specs.Counters.{five_at}
 use Rattle.keeper_book.specs.Told.{seen}
 use Rattle.keeper_book.specs.declared.calls.Call.{Call}
 use Rattle.keeper_book.specs.declared.counters.Counter.{Counter}
 use Rattle.keeper_book.specs.declared.records.Taken.{Taken}
 use Rattle.turn_laws.proofs.Covers.{ready-calls}
-use Rattle.turn_laws.proofs.Deeds.{Asked, Deed, Ended, Rested, Rests, Used, Used_theirs, UsesIt, performer_at, rest_of}
+use Rattle.turn_laws.proofs.Deeds.{Asked, Deed, Ended, Rested, Rests, Used, Used_theirs, UsesIt, rest_of}
 use Rattle.turn_laws.proofs.Holdings.{is_actor-same, is_performer-true}
 use Rattle.turn_laws.proofs.Outcomes.{Idle, Ours_used, Outcome, Over, Theirs_used, idle-taken, outcome-of, over-rest, over-taken, rests-rest}
 use Rattle.turn_laws.proofs.Records.{deed-of}
@@ -26,7 +27,7 @@ use Rattle.turn_laws.specs.Places.{Ours, is_place}
 use Rattle.turn_laws.specs.Turns.{actor_as, actor_of, acts_of, moves_of, taken, taken_of, told}
 use Rattle.turn_rules.proofs.Ties.{greatest-append}
 use Rattle.turn_rules.specs.Draws.{reach_of}
-use Rattle.turn_rules.specs.Ends.{Member, Peer, Performer, is_by, is_end, own, performer}
+use Rattle.turn_rules.specs.Ends.{Member, Peer, Performer, is_by, is_end, own, performer, performer_at}
 use Rattle.turn_rules.specs.Held.{covers_in, covers_of, first_of, found, grant_in, grant_of, granted, greatest, since}
 use Rattle.turn_rules.specs.Local.{Local}
 use Rattle.turn_rules.specs.Steps.{IsQuiet}
@@ -48,6 +49,7 @@ module _ (spir : ℕ) (c : Counter) (turn : Turn) (past : List Turn) where
     epoch = taken.epoch;
     base = five_at taken.bases c;
     high = greatest (five_at taken.bases c) (flat_map (covers_of spir c) turns);
+    end = end_of taken.sa c;
     numbers = filter_map (taken_of spir c) turns;
   }
 
@@ -56,6 +58,7 @@ module _ (spir : ℕ) (c : Counter) (turn : Turn) (past : List Turn) where
     epoch = taken.epoch;
     base = five_at taken.bases c;
     high = greatest-append (five_at taken.bases c) (covers_of spir c turn) (flat_map (covers_of spir c) (since spir past)) i;
+    end = end_of taken.sa c;
     numbers = filter_map (taken_of spir c) (turn ∷ since spir past);
   }
 

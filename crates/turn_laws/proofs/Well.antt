@@ -9,7 +9,7 @@ use Rattle.horizons.specs.Ready.{Answered, Covers, Ready}
 use Rattle.horizons.specs.Stops.{stop_of}
 use Rattle.horizons.specs.declared.stop.Stop.{Stop}
 use Rattle.horizons.specs.declared.stop.Stop.TheVariants as stop
-use Rattle.keeper_book.specs.Counters.{counter_named, end_of}
+use Rattle.keeper_book.specs.Counters.{counter_named}
 use Rattle.keeper_book.specs.Told.{seen}
 use Rattle.keeper_book.specs.declared.calls.Call.{Call}
 use Rattle.keeper_book.specs.declared.calls.KeeperAnswer.{KeeperAnswer}
@@ -17,7 +17,7 @@ use Rattle.keeper_book.specs.declared.calls.KeeperAnswer.TheVariants as answer
 use Rattle.keeper_book.specs.declared.calls.KeeperAsk.TheVariants as ask
 use Rattle.keeper_book.specs.declared.counters.Counter.{Counter}
 use Rattle.keeper_book.specs.declared.counters.Counter.TheVariants as counter
-use Rattle.turn_laws.proofs.Deeds.{Asked, Deed, Ended, IsOpenTo, MemberUses, Rested, Rests, Used, Used_theirs, UsesIt, performer_at, rest_of}
+use Rattle.turn_laws.proofs.Deeds.{Asked, Deed, Ended, IsOpenTo, MemberUses, Rested, Rests, Used, Used_theirs, UsesIt, rest_of}
 use Rattle.turn_laws.proofs.Entries.{is_counter-same}
 use Rattle.turn_laws.proofs.Holdings.{is_actor-same}
 use Rattle.turn_laws.proofs.Names.{counter-named}
@@ -29,7 +29,7 @@ use Rattle.turn_laws.specs.Holdings.{Actor, End, Holding, IsNotIn, is_actor, rai
 use Rattle.turn_laws.specs.Places.{Ours, Theirs}
 use Rattle.turn_laws.specs.Turns.{actor_as, told}
 use Rattle.turn_rules.specs.Draws.{reach_of}
-use Rattle.turn_rules.specs.Ends.{Member, Peer, own}
+use Rattle.turn_rules.specs.Ends.{Member, Peer, own, performer_at}
 use Rattle.turn_rules.specs.Held.{is_named, window_by}
 use Rattle.turn_rules.specs.Slots.{Slot, first_slot, slots_by}
 
@@ -51,22 +51,22 @@ pub record IsReadied (h now : Holding) (at : ℕ) : Type 0 where
 module _ (w : Actor) (R : List Act → List Call → Type 0) (r : Reach) (at : ℕ) (stops : Stop → List Call → Type 0) (goes : ℕ → List Call → Type 0)
     (step : (acts : List Act) (call : Call) (rest : List Call) → MayDo acts w (Calls call) → R (record { by = w; move = Calls call } ∷ acts) rest → R acts (call ∷ rest))
     (stopped : (acts : List Act) (why : Stop) (rest : List Call) → stops why rest → R acts rest)
-    (acts : List Act) (h : Holding) (holds : held_at (Ours r.spir r.counter) acts w ≡ Some h) (epoch : h.epoch ≡ r.epoch) (high : h.high ≡ r.high) (named : counter_named r.name.kind r.name.child ≡ Some r.counter)
+    (acts : List Act) (h : Holding) (holds : held_at (Ours r.spir r.counter) acts w ≡ Some h) (epoch : h.epoch ≡ r.epoch) (high : h.high ≡ r.high) (end : h.end ≡ r.end) (named : counter_named r.name.kind r.name.child ≡ Some r.counter)
     (gone : (acts : List Act) (now : Holding) (high : ℕ) (rest : List Call) → held_at (Ours r.spir r.counter) acts w ≡ Some now → IsReadied h now at → goes high rest → R acts rest) where
-  module _ (call : Call) (asked : call.asked ≡ ask.Cover r.spir r.name.kind r.name.child r.epoch (cover_of r.counter at)) where
+  module _ (call : Call) (asked : call.asked ≡ ask.Cover r.spir r.name.kind r.name.child r.epoch (cover_of r at)) where
     may_cover : MayDo acts w (Calls call)
-    may_cover = rw (asked, named) (record { holding = h; holds = holds; in_epoch = epoch; within_end = omega arith })
+    may_cover = rw (asked, named) (record { holding = h; holds = holds; in_epoch = epoch; within_end = let last : h.end ≡ r.end = end in omega arith })
 
     -- what is held after a cover that was acknowledged
-    held_covered : seen call ≡ answer.Done → held_at (Ours r.spir r.counter) (record { by = w; move = Calls call } ∷ acts) w ≡ Some (raised_to (cover_of r.counter at) h)
+    held_covered : seen call ≡ answer.Done → held_at (Ours r.spir r.counter) (record { by = w; move = Calls call } ∷ acts) w ≡ Some (raised_to (cover_of r at) h)
     held_covered sees =
         let here : (r.spir == r.spir) ≡ true = eq-eqb r.spir r.spir refl in
         let this : is_named r.counter (Some r.counter) ≡ true = is_counter-same r.counter in
         let mine : is_actor w w ≡ true = is_actor-same w in
         rw (asked, sees, here, named, this, mine, holds)
 
-    answered-well : at < end_of r.counter → (answered : KeeperAnswer) (rest : List Call) → seen call ≡ answered → Answered answered (λ why. stops why rest) (goes (cover_of r.counter at) rest) → R (record { by = w; move = Calls call } ∷ acts) rest
-    answered-well below answer.Done rest sees a = gone (record { by = w; move = Calls call } ∷ acts) (raised_to (cover_of r.counter at) h) (cover_of r.counter at) rest (held_covered sees)
+    answered-well : at < r.end → (answered : KeeperAnswer) (rest : List Call) → seen call ≡ answered → Answered answered (λ why. stops why rest) (goes (cover_of r at) rest) → R (record { by = w; move = Calls call } ∷ acts) rest
+    answered-well below answer.Done rest sees a = gone (record { by = w; move = Calls call } ∷ acts) (raised_to (cover_of r at) h) (cover_of r at) rest (held_covered sees)
         (record { epoch = refl; base = refl; numbers = refl; above = let some : 0 < lead_of r.counter = lead_some r.counter in omega arith }) a
     answered-well below (answer.Taken taken) rest sees a = absurd a
     answered-well below (answer.Refused why) rest sees a = go (stop_of why) a
@@ -75,14 +75,14 @@ module _ (w : Actor) (R : List Act → List Call → Type 0) (r : Reach) (at : �
         go None a = absurd a
         go (Some why) a = stopped (record { by = w; move = Calls call } ∷ acts) why rest a
 
-  covers-well : at < end_of r.counter → (calls : List Call) → Covers r at calls stops goes → R acts calls
+  covers-well : at < r.end → (calls : List Call) → Covers r at calls stops goes → R acts calls
   covers-well below [] c = absurd c
   covers-well below (call ∷ rest) c = step acts call rest (may_cover call c.0) (answered-well call c.0 below (seen call) rest refl c.1)
 
   pub ready-well : (calls : List Call) → Ready r at calls stops goes → R acts calls
   ready-well calls ready = ⊎_elim
       (λ l. gone acts h r.high calls holds (record { epoch = refl; base = refl; numbers = refl; above = let e : h.high ≡ r.high = high in omega arith }) (ready.within l))
-      (λ l. ⊎_elim (λ b. covers-well b calls (ready.asked l b)) (λ e. stopped acts stop.Exhausted calls (ready.ended l e)) (cases_lt at (end_of r.counter)))
+      (λ l. ⊎_elim (λ b. covers-well b calls (ready.asked l b)) (λ e. stopped acts stop.Exhausted calls (ready.ended l e)) (cases_lt at r.end))
       (cases_lt at r.high)
 
 -- a member's use of a number of what it holds
@@ -102,7 +102,7 @@ module _ (past : List Turn) (event : Event) (step : Step) (member spir : ℕ) wh
       (λ high rest. (rest ≡ []) × UsesIt u.held.sa.spir u.c u.number event step)
       (λ acts call rest may more. (may, more))
       (λ acts why rest s. rests-well acts rest s.0 s.1)
-      acts h holds tells.epoch tells.high (counter-named u.c)
+      acts h holds tells.epoch tells.high tells.end (counter-named u.c)
       (λ acts now high rest holds readied s. used acts now rest holds readied s.0 s.1)
       calls u.ready
     where

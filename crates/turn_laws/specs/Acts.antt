@@ -1,6 +1,7 @@
 -- What ends do, as data, and what it does to the numbers of each counter. A list of acts has the newest first.
 use Rattle.std.specs.Prelude.{ℕ, ◌≡◌, ◌≤◌, ◌==◌, Option, Some, None, MatchOption, List, [], ◌∷◌, map, if◌then◌else◌}
-use Rattle.keeper_book.specs.Counters.{counter_named, end_of, five_at}
+use Rattle.keeper_book.specs.CounterEnds.{end_of}
+use Rattle.keeper_book.specs.Counters.{counter_named, five_at}
 use Rattle.keeper_book.specs.Told.{seen}
 use Rattle.keeper_book.specs.declared.calls.Call.{Call}
 use Rattle.keeper_book.specs.declared.calls.KeeperAnswer.{KeeperAnswer}
@@ -31,11 +32,11 @@ pub record Act : Type 0 where
 
 -- a holding of an epoch that was granted: of each counter it begins and ends at the base
 abbrev pub begun : Counter → Taken → Holding
-begun c taken = record { epoch = taken.epoch; base = five_at taken.bases c; high = five_at taken.bases c; numbers = [] }
+begun c taken = record { epoch = taken.epoch; base = five_at taken.bases c; high = five_at taken.bases c; end = end_of taken.sa c; numbers = [] }
 
 -- what the peer holds of an association that came to it: all numbers of its counter
 abbrev pub begun_theirs : Counter → Record → Holding
-begun_theirs c sa = record { epoch = 1; base = start_of sa c; high = end_of c; numbers = [] }
+begun_theirs c sa = record { epoch = 1; base = start_of sa c; high = end_of sa c; end = end_of sa c; numbers = [] }
 
 -- by what was granted, and up to where was covered
 abbrev pub effect_ours : Actor → Counter → Option Taken → Option ℕ → Effect
@@ -88,15 +89,15 @@ pub record HoldsFor (held : Option Holding) (n : ℕ) : Type 0 where
   pub may : MayUse holding n
 
 -- a cover is asked in the epoch of a holding, and does not pass the counter's end
-pub record MayCover (held : Option Holding) (c : Counter) (epoch upto : ℕ) : Type 0 where
+pub record MayCover (held : Option Holding) (epoch upto : ℕ) : Type 0 where
   pub holding : Holding
   pub holds : held ≡ Some holding
   pub in_epoch : holding.epoch ≡ epoch
-  pub within_end : upto ≤ end_of c
+  pub within_end : upto ≤ holding.end
 
 -- what a call needs beside the book
 abbrev pub MayAsk : List Act → Actor → KeeperAsk → Type 0
-MayAsk acts w (ask.Cover spir kind child epoch upto) = MatchOption (counter_named kind child) ⊥ (λ c. MayCover (held_at (Ours spir c) acts w) c epoch upto)
+MayAsk acts w (ask.Cover spir kind child epoch upto) = MatchOption (counter_named kind child) ⊥ (λ c. MayCover (held_at (Ours spir c) acts w) epoch upto)
 MayAsk acts w asked = Unit {0}
 
 -- what a move needs beside the book

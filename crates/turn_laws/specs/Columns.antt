@@ -1,14 +1,15 @@
 -- The numbers of one counter, epoch by epoch.
 use Rattle.std.specs.Prelude.{ℕ, ◌<◌, ◌≤◌, ◌≡◌, List, [], length, slice_index_or}
 
--- where each epoch began, and up to where the last one goes
+-- where each epoch began, up to where the last one goes, and the end that no number reaches
 pub record Column : Type 0 where
   pub bases : List ℕ
   pub high : ℕ
+  pub end : ℕ
 
 -- no epoch, and no number
 abbrev pub nothing : Column
-nothing = record { bases = []; high = 0 }
+nothing = record { bases = []; high = 0; end = 0 }
 
 -- where an epoch begins, counted from 0: its base, or the high where it did not begin yet. It is where the one before ends.
 abbrev pub mark : Column → ℕ → ℕ
@@ -24,3 +25,4 @@ pub record GoesOn (old new : Column) : Type 0 where
   pub same_bases : (i : ℕ) → i < length old.bases → mark new i ≡ mark old i
   pub no_lower : old.high ≤ mark new (length old.bases)
   pub rising : IsRising new
+  pub same_end : 0 < length old.bases → new.end ≡ old.end

@@ -18,11 +18,12 @@ is_actor (End a) Run = false
 is_actor (End a) (End b) = is_performer a b
 
 -- The numbers that an end may use: those of an epoch from its base on, below the high that was acknowledged, but for those
--- that it used.
+-- that it used. No number reaches the end.
 pub record Holding : Type 0 where
   pub epoch : ℕ
   pub base : ℕ
   pub high : ℕ
+  pub end : ℕ
   pub numbers : List ℕ
 
 abbrev pub IsNotIn : ℕ → List ℕ → Type 0
@@ -70,12 +71,13 @@ abbrev pub uses_after : Effect → (Actor → Option Holding) → List Use → L
 uses_after (Draws w n) held uses = record { epoch = epoch_of (held w); number = n } ∷ uses
 uses_after effect held uses = uses
 
--- an epoch that began, its base, and no number of the next one
+-- an epoch that began, its base, no number of the next one, and the end of the counter
 pub record IsHoldingOf (column : Column) (h : Holding) : Type 0 where
   pub some : 1 ≤ h.epoch
   pub begun : h.epoch ≤ length column.bases
   pub base : mark column (h.epoch - 1) ≡ h.base
   pub high : h.high ≤ mark column h.epoch
+  pub end : h.end ≡ column.end
 
 -- a number of an epoch that began
 pub record IsUseOf (column : Column) (u : Use) : Type 0 where

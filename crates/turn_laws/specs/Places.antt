@@ -4,7 +4,8 @@ use Rattle.ha_base.specs.declared.counter_names.CounterName.{CounterName}
 use Rattle.ha_base.specs.declared.counter_names.End.{End}
 use Rattle.ha_base.specs.declared.counter_names.End.TheVariants as end
 use Rattle.keeper_book.specs.Book.{Book, Entry, entry_of}
-use Rattle.keeper_book.specs.Counters.{counter_named, end_of, five_at}
+use Rattle.keeper_book.specs.CounterEnds.{end_of}
+use Rattle.keeper_book.specs.Counters.{counter_named, five_at}
 use Rattle.keeper_book.specs.Records.{spir_of_origin}
 use Rattle.keeper_book.specs.declared.counters.Counter.{Counter}
 use Rattle.keeper_book.specs.declared.counters.Counter.TheVariants as counter
@@ -49,19 +50,18 @@ start_of sa c = five_at sa.starts (mirrored c)
 -- the cluster's epochs are those of the book
 abbrev pub column_ours : Counter → Option Entry → Column
 column_ours c None = nothing
-column_ours c (Some e) = record { bases = map (λ five. five_at five c) e.bases; high = five_at e.highs c }
+column_ours c (Some e) = record { bases = map (λ five. five_at five c) e.bases; high = five_at e.highs c; end = end_of e.sa c }
 
 -- the peer has one epoch, which goes to the counter's end
 abbrev pub column_theirs : Counter → Option Entry → Column
 column_theirs c None = nothing
-column_theirs c (Some e) = record { bases = start_of e.sa c ∷ []; high = end_of c }
+column_theirs c (Some e) = record { bases = start_of e.sa c ∷ []; high = end_of e.sa c; end = end_of e.sa c }
 
 -- the numbers of a counter, by the book
 abbrev pub column : Place → Book → Column
 column (Ours spir c) book = column_ours c (entry_of spir book.entries)
 column (Theirs spir c) book = column_theirs c (entry_of spir book.entries)
 
--- no number of a place reaches this end
-abbrev pub end_at : Place → ℕ
-end_at (Ours spir c) = end_of c
-end_at (Theirs spir c) = end_of c
+-- no number of a place reaches this end, which the record of the association gives
+abbrev pub end_at : Place → Book → ℕ
+end_at p book = (column p book).end

@@ -9,6 +9,7 @@ use Rattle.events.specs.declared.turn.Turn.{Turn}
 use Rattle.events.specs.declared.verdict.Verdict.{Verdict}
 use Rattle.events.specs.declared.verdict.Verdict.TheVariants as out
 use Rattle.keeper_book.specs.Book.{Book}
+use Rattle.keeper_book.specs.CounterEnds.{end_of}
 use Rattle.keeper_book.specs.Counters.{five_at}
 use Rattle.keeper_book.specs.declared.counters.Counter.{Counter}
 use Rattle.keeper_book.specs.declared.counters.Counter.TheVariants as counter
@@ -74,5 +75,6 @@ told spir c past = option_map (λ taken. record {
   epoch = taken.epoch;
   base = five_at taken.bases c;
   high = high_of spir c taken.bases past;
+  end = end_of taken.sa c;
   numbers = filter_map (taken_of spir c) (since spir past);
 }) (found (grant_of spir) past)

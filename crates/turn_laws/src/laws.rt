@@ -4,7 +4,7 @@ ghost use Rattle.std.specs.Prelude.{◌≡◌, ◌≢◌, ◌<◌, ◌≤◌, �
 ghost use Rattle.std.specs.List.{AllByRecursion, filter_map};
 ghost use Rattle.events.specs.declared.turn.Turn.{Turn};
 ghost use Rattle.keeper_book.specs.Book.{Book, Enters, after};
-ghost use Rattle.keeper_book.specs.Counters.{end_of, five_at};
+ghost use Rattle.keeper_book.specs.Counters.{five_at};
 ghost use Rattle.keeper_book.specs.declared.calls.Call.{Call};
 ghost use Rattle.keeper_book.specs.declared.calls.KeeperAnswer.TheVariants as answer;
 ghost use Rattle.keeper_book.specs.declared.counters.Counter.{Counter};
@@ -12,6 +12,7 @@ ghost use Rattle.keeper_book.specs.declared.faults.KeeperFault.TheVariants as fa
 ghost use Rattle.turn_laws.specs.Acts.{Act, Calls, Ends, MayAsk, MayDo, MayDoAll, Move, held_at, numbers_at, onto};
 ghost use Rattle.turn_laws.specs.Columns.{Column, GoesOn, mark};
 ghost use Rattle.turn_laws.specs.Holdings.{Actor, Begins, Draws, End, Holding, IsNew, IsOwned, MayUse, Rises, Use, held_after, uses_after};
+ghost use Rattle.turn_laws.specs.OwnTurns.{OwnTurnsTell};
 ghost use Rattle.turn_laws.specs.Owned.{Owned, Writes};
 ghost use Rattle.turn_laws.specs.Places.{Ours, Place, end_at};
 ghost use Rattle.turn_laws.specs.Turns.{AreOwned, actor_of, acts_of, moves_of, told};
@@ -75,6 +76,11 @@ pub fn own_turns_tell_holdings()
         → told spir c (own (Member member) past) ≡ held_at (Ours spir c) (acts_of past) (End (Member member)) }
 {}
 
+/// What the turns of a run make of what its ends hold, each end's own turns tell.
+pub fn own_turns_tell_states()
+    ensures { (boxes : ℕ) (past : List Turn) → Local boxes past → OwnTurnsTell boxes past }
+{}
+
 /// What each event does is a list of moves that may be made one after another.
 pub fn turns_are_moves()
     ensures { (boxes : ℕ) (past : List Turn) (book : Book) (turn : Turn) → Local boxes (turn ∷ past) → Stands past book
@@ -99,9 +105,9 @@ pub fn no_number_twice()
 /// No number reaches its counter's end.
 pub fn no_number_past_its_end()
     ensures places { (boxes : ℕ) (past : List Turn) (book : Book) → Local boxes past → Stands past book
-        → (p : Place) → AllByRecursion (λ n. n < end_at p) (numbers_at p (acts_of past)) }
+        → (p : Place) → AllByRecursion (λ n. n < end_at p book) (numbers_at p (acts_of past)) }
     ensures counters { (boxes : ℕ) (past : List Turn) (book : Book) → Local boxes past → Stands past book
-        → (spir : ℕ) (c : Counter) → AllByRecursion (λ n. n < end_of c) (filter_map (number_of spir c) past) }
+        → (spir : ℕ) (c : Counter) → AllByRecursion (λ n. n < end_at (Ours spir c) book) (filter_map (number_of spir c) past) }
 {}
 
 /// Two members that hold an association, the replaced ones too, hold different epochs, and where an earlier epoch's highs

@@ -13,6 +13,7 @@ use Rattle.keeper_book.specs.Told.{seen}
 use Rattle.keeper_book.specs.declared.calls.Call.{Call}
 use Rattle.keeper_book.specs.declared.calls.KeeperAnswer.{KeeperAnswer}
 use Rattle.keeper_book.specs.declared.calls.KeeperAnswer.TheVariants as answers
+use Rattle.keeper_book.specs.CounterEnds.{end_of}
 use Rattle.keeper_book.specs.declared.counters.Counter.TheVariants as counter
 use Rattle.turn_rules.specs.Draws.{reach_of}
 use Rattle.turn_rules.specs.Genuine.{IsAcknowledged, IsGenuine}
@@ -38,10 +39,10 @@ answered_done P G answered e a = subst (λ k. Answered k P G) e a
 
 covers_done : {X : Type 0} (P : Stop → List Call → Type 0) (G : ℕ → List Call → Type 0) (h : Reach) (at : ℕ) (calls : List Call) → ((high : ℕ) (rest : List Call) → G high rest → X) → AllByRecursion (λ call. seen call ≡ answers.Done) calls → Covers h at calls P G → X
 covers_done P G h at [] f d c = absurd c
-covers_done P G h at (call ∷ rest) f d c = f (cover_of h.counter at) rest (answered_done (λ why. P why rest) (G (cover_of h.counter at) rest) (seen call) d.0 c.1)
+covers_done P G h at (call ∷ rest) f d c = f (cover_of h at) rest (answered_done (λ why. P why rest) (G (cover_of h at) rest) (seen call) d.0 c.1)
 
 -- where the number of a packet is acknowledged, it is ready
-pub ready-goes : {X : Type 0} {P : Stop → List Call → Type 0} {G : ℕ → List Call → Type 0} (held : Held) (at : ℕ) (calls : List Call) → at < 2 ^ 63 → ((high : ℕ) (rest : List Call) → G high rest → X) → IsAcknowledged held at calls → Ready (reach_of held counter.EspIn) at calls P G → X
+pub ready-goes : {X : Type 0} {P : Stop → List Call → Type 0} {G : ℕ → List Call → Type 0} (held : Held) (at : ℕ) (calls : List Call) → at < end_of held.sa counter.EspIn → ((high : ℕ) (rest : List Call) → G high rest → X) → IsAcknowledged held at calls → Ready (reach_of held counter.EspIn) at calls P G → X
 ready-goes {X} {P} {G} held at calls below f allowed r =
     ⊎_elim (λ w. f held.highs.esp_in calls (r.within w))
     (λ l. ⊎_elim (λ w. f held.highs.esp_in calls (r.within w)) (λ d. covers_done P G (reach_of held counter.EspIn) at calls f d (r.asked l below)) allowed)

@@ -1,4 +1,7 @@
 pub mod GenuinePackets
 pub mod KeySizes
+pub mod Readies
+pub mod Refusals
 pub mod SlotTies
+pub mod StateLaws
 pub mod Ties

@@ -1,50 +1,30 @@
 -- What the peer holds after one more turn of its own is what that turn makes of what it held.
-use Rattle.std.proofs.Common.{◌≡◌, ◌≢◌, ℕ, ◌+◌, ◌^◌, ◌<◌, ◌≤◌, ◌==◌, ◌||◌, ◌⊎◌, inl, inr, max, unwrap_or, Bool, true, false, not, Option, Some, None, MatchOption, Result, Ok, Err, List, [], ◌∷◌, ◌++◌, map, length, option_to_list, ⊎_elim, append-nil, refl, ap, ap₂, sym, ◌∙◌, subst, arith, if◌then◌else◌}
-use Rattle.std.proofs.lemmas.Bool.{cases_lt, eqb-false, eqb-true, eq-eqb, ne_eqb}
+use Rattle.std.proofs.Common.{◌≡◌, ◌≢◌, ℕ, ◌+◌, ◌==◌, ◌||◌, ◌⊎◌, inl, inr, unwrap_or, Bool, true, false, not, Option, Some, None, MatchOption, List, [], ◌∷◌, ◌++◌, map, option_to_list, ⊎_elim, refl, ap, ap₂, sym, ◌∙◌, subst, if◌then◌else◌}
+use Rattle.std.proofs.lemmas.Bool.{eqb-false, eq-eqb, ne_eqb}
 use Rattle.std.proofs.lemmas.List.{map-append}
 use Rattle.std.proofs.lemmas.Option.{same_Some}
 use Rattle.std.specs.List.{AllByRecursion, filter_map, list_any}
 use Rattle.std.specs.Option.{option_map}
-use Rattle.esp_packets.specs.Packet.{spi_of}
 use Rattle.events.specs.declared.event.Event.{Event}
 use Rattle.events.specs.declared.event.Event.TheVariants as event
 use Rattle.events.specs.declared.event.Party.TheVariants as parties
 use Rattle.events.specs.declared.turn.Step.{Step}
 use Rattle.events.specs.declared.turn.Turn.{Turn}
-use Rattle.events.specs.declared.verdict.EspVerdict.{EspVerdict}
-use Rattle.events.specs.declared.verdict.EspVerdict.TheVariants as esp
 use Rattle.events.specs.declared.verdict.Refusal.{Refusal}
 use Rattle.events.specs.declared.verdict.Refusal.TheVariants as refusal
 use Rattle.events.specs.declared.verdict.Verdict.{Verdict}
 use Rattle.events.specs.declared.verdict.Verdict.TheVariants as out
-use Rattle.ha_base.specs.Octets.{WithRoom}
-use Rattle.ha_base.specs.declared.esp_outcomes.EspDrop.{EspDrop}
-use Rattle.ha_base.specs.declared.esp_outcomes.EspDrop.TheVariants as drop
-use Rattle.ha_base.specs.declared.esp_outcomes.EspOpened.{EspOpened}
 use Rattle.keeper_book.specs.declared.calls.Call.{Call}
-use Rattle.keeper_book.specs.declared.counters.Counter.TheVariants as counter
 use Rattle.keeper_book.specs.declared.records.Record.{Record}
 use Rattle.replay_set.specs.Window.{window_of}
-use Rattle.turn_rules.proofs.Ties.{greatest-cons_option, window_of-cons_option}
-use Rattle.turn_rules.specs.Ends.{Peer, is_by, is_end, is_refused_by_run, own, performer_of}
-use Rattle.turn_rules.specs.Fits.{Does, Refusing, is_importable}
-use Rattle.turn_rules.specs.Held.{accepted, after_number, after_received, first_of, found, greatest, is_of_spir, received, received_of, window_by, window_in, window_of_turn}
-use Rattle.turn_rules.specs.Local.{IsExplained, Local}
-use Rattle.turn_rules.specs.Packets.{Drops, IsVerdictOf, Sends}
-use Rattle.turn_rules.specs.Peers.{admits, associations_by, clashes, entered, entered_in}
-use Rattle.turn_rules.specs.States.{RunState, state_by}
-use Rattle.turn_rules.specs.Slots.{PeerReceives, PeerSends, Slot, SlotReceives, SlotSends, SlotTakes, entered_slot, first_slot, has_spir, is_entered, peer_counter, receives_at, records, sent, sent_of, since_entered, slot_after, slot_by, slot_outbound, slots_after, slots_by, with_slot}
-use Rattle.turn_rules.specs.Steps.{Says}
-
--- two associations have other responder's SPIs, and the peer receives in them at other SPIs
-pub record Differ (a b : Record) : Type 0 where
-  pub spir : a.spir ≢ b.spir
-  pub spi_out : a.spi_out ≢ b.spi_out
-
--- each two of them do
-abbrev pub AreApart : List Record → Type 0
-AreApart [] = Unit {0}
-AreApart (sa ∷ more) = AllByRecursion (Differ sa) more × AreApart more
+use Rattle.turn_rules.proofs.Ties.{greatest-cons_option, received-peer, window_of-cons_option}
+use Rattle.turn_rules.specs.Ends.{Peer, Performer, is_by, is_end, own, performer_at}
+use Rattle.turn_rules.specs.Fits.{Does, Imports, Refuses, Refusing, run_refusal}
+use Rattle.turn_rules.specs.Held.{after_received, first_of, found, greatest, received_in, received_of, window_by, window_in, window_of_turn}
+use Rattle.turn_rules.specs.Peers.{AreDistinct, Differ, admits, associations_by, clashes, entered, entered_in}
+use Rattle.turn_rules.specs.Slots.{Slot, entered_slot, first_slot, is_entered, records, sent_of, since_entered, slot_after, slot_by, slots_after, slots_by}
+use Rattle.turn_rules.specs.States.{RunState, told_state}
+use Rattle.turn_rules.specs.Tasks.{peer_task}
 
 pub all-each : {X : Type 0} {P : X → Type 0} (xs : List X) → ((x : X) → P x) → AllByRecursion P xs
 all-each [] each = tt
@@ -54,7 +34,7 @@ pub all-weaker : {X : Type 0} {P Q : X → Type 0} (xs : List X) → ((x : X) �
 all-weaker [] f all = tt
 all-weaker (x ∷ xs) f all = (f x all.0, all-weaker xs f all.1)
 
-neither : (a b : Bool) → (a || b) ≡ false → (a ≡ false) × (b ≡ false)
+pub neither : (a b : Bool) → (a || b) ≡ false → (a ≡ false) × (b ≡ false)
 neither false false e = (refl, refl)
 neither false true e = absurd (cc)
 neither true b e = absurd (cc)
@@ -82,7 +62,7 @@ admits-differ slots sa e = go slots (not-true (list_any (clashes sa) slots) e)
         let tests : ((slot.spir == sa.spir) ≡ false) × ((slot.spi_out == sa.spi_out) ≡ false) = neither (slot.spir == sa.spir) (slot.spi_out == sa.spi_out) parts.0 in
         (record { spir = eqb-false slot.spir sa.spir tests.0; spi_out = eqb-false slot.spi_out sa.spi_out tests.1 }, go more parts.1)
 
-pub apart-append : (old : List Record) (sa : Record) → AreApart old → AllByRecursion (λ slot. Differ slot sa) old → AreApart (old ++ sa ∷ [])
+pub apart-append : (old : List Record) (sa : Record) → AreDistinct old → AllByRecursion (λ slot. Differ slot sa) old → AreDistinct (old ++ sa ∷ [])
 apart-append [] sa apart differ = (tt, tt)
 apart-append (slot ∷ more) sa apart differ = (with_one more apart.0, apart-append more sa apart.1 differ.1)
   where
@@ -98,19 +78,24 @@ module _ (size : ℕ) (turn : Turn) (past : List Turn) where
     window = window_of size sa.starts.esp_out (filter_map (received_of sa.spir) mine);
   }
 
-  later : (sa : Record) (mine : List Turn) → slot_as sa (turn ∷ mine) ≡ slot_after turn.event turn.step.verdict (slot_as sa mine)
+  window_later : (sa : Record) (mine : List Turn) → window_of size sa.starts.esp_out (filter_map (received_of sa.spir) (turn ∷ mine)) ≡ after_received (received_in sa.spir (peer_task turn.event) turn.step.verdict) (slot_as sa mine).window
+  window_later sa mine =
+      window_of-cons_option (received_of sa.spir turn) size sa.starts.esp_out (filter_map (received_of sa.spir) mine)
+      ∙ ap (λ n. after_received n (slot_as sa mine).window) (received-peer sa.spir turn.event turn.step.verdict)
+
+  later : (sa : Record) (mine : List Turn) → slot_as sa (turn ∷ mine) ≡ slot_after (peer_task turn.event) turn.step (slot_as sa mine)
   later sa mine i = record {
     sa = sa;
     next = greatest-cons_option (sent_of sa.spir turn) sa.starts.esp_in (filter_map (sent_of sa.spir) mine) i;
-    window = window_of-cons_option (received_of sa.spir turn) size sa.starts.esp_out (filter_map (received_of sa.spir) mine) i;
+    window = window_later sa mine i;
   }
 
   -- what is held of an association that came before
-  earlier : (sa : Record) → is_entered sa.spir (entered_in turn) ≡ false → slot_by size (turn ∷ past) sa ≡ slot_after turn.event turn.step.verdict (slot_by size past sa)
+  earlier : (sa : Record) → is_entered sa.spir (entered_in turn) ≡ false → slot_by size (turn ∷ past) sa ≡ slot_after (peer_task turn.event) turn.step (slot_by size past sa)
   earlier sa other = ap (λ b. slot_as sa (if b then [] else turn ∷ since_entered sa.spir past)) other ∙ later sa (since_entered sa.spir past)
 
   earlier_all : (associations : List Record) → AllByRecursion (λ sa. is_entered sa.spir (entered_in turn) ≡ false) associations
-      → map (slot_by size (turn ∷ past)) associations ≡ map (slot_after turn.event turn.step.verdict) (map (slot_by size past) associations)
+      → map (slot_by size (turn ∷ past)) associations ≡ map (slot_after (peer_task turn.event) turn.step) (map (slot_by size past) associations)
   earlier_all [] all = refl
   earlier_all (sa ∷ more) all = ap₂ (λ slot slots. slot ∷ slots) (earlier sa all.0) (earlier_all more all.1)
 
@@ -129,7 +114,7 @@ module _ (size : ℕ) (turn : Turn) (past : List Turn) where
 
   -- what is held after one more turn
   pub slots_by-cons : ((sa : Record) → entered turn.event turn.step.verdict ≡ Some sa → admits (records (slots_by size past)) sa ≡ true)
-      → slots_by size (turn ∷ past) ≡ slots_after size turn.event turn.step.verdict (slots_by size past)
+      → slots_by size (turn ∷ past) ≡ slots_after size (peer_task turn.event) turn.step (slots_by size past)
   slots_by-cons admitted =
       map-append (slot_by size (turn ∷ past)) (associations_by past) (option_to_list (entered_in turn))
       ∙ ap₂ (λ old new. old ++ new)
@@ -150,55 +135,49 @@ not-false true e = refl
 not-false false e = absurd (cc)
 
 enters-admitted : (state : RunState) (event : Event) (calls : List Call) (step : Step) (sa : Record) → Does state event calls step → entered event step.verdict ≡ Some sa → admits (records state.slots) sa ≡ true
-enters-admitted state (event.Import asked) calls step sa does e =
-    let is : (step.verdict ≡ out.Entered) × (asked ≡ sa) = entered-import asked sa step.verdict e in
-    let said : (why : Refusal) → step.verdict ≢ out.Refused why = λ why refused. let both : out.Entered ≡ out.Refused why = sym is.0 ∙ refused in absurd (cc) in
-    let first = unless_refused (not (is_importable asked)) refusal.SpiRange calls step does (said refusal.SpiRange) in
-    let second = unless_refused (not (admits (records state.slots) asked)) refusal.SpiInUse calls step first.1 (said refusal.SpiInUse) in
-    subst (λ x. admits (records state.slots) x ≡ true) is.1 (not-false (admits (records state.slots) asked) second.0)
+enters-admitted state (event.Import asked) calls step sa does e = by_refusal (run_refusal state (event.Import asked)) does
+  where
+    is : (step.verdict ≡ out.Entered) × (asked ≡ sa)
+    is = entered-import asked sa step.verdict e
+
+    said : (why : Refusal) → step.verdict ≢ out.Refused why
+    said why refused = let both : out.Entered ≡ out.Refused why = sym is.0 ∙ refused in absurd (cc)
+
+    by_refusal : (x : Option Refusal) → MatchOption x (Imports state asked calls step) (λ why. Refuses why calls step) → admits (records state.slots) sa ≡ true
+    by_refusal None imports =
+        let free = unless_refused (not (admits (records state.slots) asked)) refusal.SpiInUse calls step imports (said refusal.SpiInUse) in
+        subst (λ x. admits (records state.slots) x ≡ true) is.1 (not-false (admits (records state.slots) asked) free.0)
+    by_refusal (Some why) refuses = absurd (said why refuses.says.said)
+enters-admitted state (event.Send parties.Peer spir payload) calls step sa does e = absurd (cc)
+enters-admitted state (event.Send (parties.Member member) spir payload) calls step sa does e = absurd (cc)
 enters-admitted state event calls step sa does e = absurd (cc)
 
+-- the turn is one by what own turns tell
+abbrev pub DoesTold : ℕ → List Turn → Turn → Type 0
+DoesTold boxes past turn = Does (told_state boxes past) turn.event turn.calls turn.step
+
 -- what comes to the peer was admitted
-pub import-admits : (boxes : ℕ) (past : List Turn) (turn : Turn) → IsExplained boxes past turn → (sa : Record) → entered turn.event turn.step.verdict ≡ Some sa → admits (associations_by (own Peer past)) sa ≡ true
-import-admits boxes past turn explained sa e =
+pub import-admits : (boxes : ℕ) (past : List Turn) (turn : Turn) → DoesTold boxes past turn → (sa : Record) → entered turn.event turn.step.verdict ≡ Some sa → admits (associations_by (own Peer past)) sa ≡ true
+import-admits boxes past turn does sa e =
     subst (λ slots. admits slots sa ≡ true) (records-slots_by (window_by past) (own Peer past))
-    (enters-admitted (state_by boxes past) turn.event turn.calls turn.step sa explained.fits e)
+    (enters-admitted (told_state boxes past) turn.event turn.calls turn.step sa does e)
 
--- the associations that came to the peer differ
-pub associations-apart : (boxes : ℕ) (past : List Turn) → Local boxes past → AreApart (associations_by (own Peer past))
-associations-apart boxes [] local = tt
-associations-apart boxes (turn ∷ past) local = by_test (associations-apart boxes past local.1) (is_by Peer turn) refl
-  where
-    with_entered : AreApart (associations_by (own Peer past)) → (x : Option Record) → entered_in turn ≡ x → AreApart (associations_by (own Peer past) ++ option_to_list x)
-    with_entered before None e = subst (λ list. AreApart list) (sym (append-nil (associations_by (own Peer past)))) before
-    with_entered before (Some sa) e = apart-append (associations_by (own Peer past)) sa before (admits-differ (associations_by (own Peer past)) sa (import-admits boxes past turn local.0 sa e))
-
-    by_test : AreApart (associations_by (own Peer past)) → (b : Bool) → is_by Peer turn ≡ b → AreApart (associations_by (own Peer (turn ∷ past)))
-    by_test before true t = subst (λ b. AreApart (associations_by (if b then turn ∷ own Peer past else own Peer past))) (sym t) (with_entered before (entered_in turn) refl)
-    by_test before false t = subst (λ b. AreApart (associations_by (if b then turn ∷ own Peer past else own Peer past))) (sym t) before
-
-pub slots-apart : (size boxes : ℕ) (past : List Turn) → Local boxes past → AreApart (records (slots_by size (own Peer past)))
-slots-apart size boxes past local = subst (λ list. AreApart list) (sym (records-slots_by size (own Peer past))) (associations-apart boxes past local)
-
--- what the peer holds after a turn of its own, and after one of another end
-pub own_slots-cons : (size boxes : ℕ) (past : List Turn) (turn : Turn) → IsExplained boxes past turn → is_by Peer turn ≡ true
-    → slots_by size (own Peer (turn ∷ past)) ≡ slots_after size turn.event turn.step.verdict (slots_by size (own Peer past))
-own_slots-cons size boxes past turn explained mine =
+-- what the peer holds after a turn of its own
+own_slots-cons : (size boxes : ℕ) (past : List Turn) (turn : Turn) → DoesTold boxes past turn → is_by Peer turn ≡ true
+    → slots_by size (own Peer (turn ∷ past)) ≡ slots_after size (peer_task turn.event) turn.step (slots_by size (own Peer past))
+own_slots-cons size boxes past turn does mine =
     ap (λ b. slots_by size (if b then turn ∷ own Peer past else own Peer past)) mine
     ∙ slots_by-cons size turn (own Peer past)
-    (λ sa e. subst (λ slots. admits slots sa ≡ true) (sym (records-slots_by size (own Peer past))) (import-admits boxes past turn explained sa e))
+    (λ sa e. subst (λ slots. admits slots sa ≡ true) (sym (records-slots_by size (own Peer past))) (import-admits boxes past turn does sa e))
 
-pub other_slots-cons : (size : ℕ) (past : List Turn) (turn : Turn) → is_by Peer turn ≡ false → slots_by size (own Peer (turn ∷ past)) ≡ slots_by size (own Peer past)
-other_slots-cons size past turn other = ap (λ b. slots_by size (if b then turn ∷ own Peer past else own Peer past)) other
-
--- a turn of the peer's own leaves the size of windows
-window-own : (event : Event) (verdict : Verdict) → is_end Peer (if is_refused_by_run verdict then None else performer_of event verdict) ≡ true → window_in event verdict ≡ None
-window-own (event.Cluster identity lifetime window ticket_key) out.Configured mine = absurd (cc)
-window-own (event.Cluster identity lifetime window ticket_key) verdict mine = refl
-window-own event verdict mine = refl
+-- a turn of an end's own leaves the size of windows
+window-own : (end : Performer) (event : Event) (verdict : Verdict) → is_end end (performer_at event verdict) ≡ true → window_in event verdict ≡ None
+window-own end (event.Cluster identity lifetime window ticket_key) out.Configured mine = absurd (cc)
+window-own end (event.Cluster identity lifetime window ticket_key) verdict mine = refl
+window-own end event verdict mine = refl
 
 -- and a turn that sets it is the first
-sets-first : (boxes : ℕ) (past : List Turn) (event : Event) (calls : List Call) (step : Step) → Does (state_by boxes past) event calls step → (window_in event step.verdict ≡ None) ⊎ (past ≡ [])
+sets-first : (boxes : ℕ) (past : List Turn) (event : Event) (calls : List Call) (step : Step) → Does (told_state boxes past) event calls step → (window_in event step.verdict ≡ None) ⊎ (past ≡ [])
 sets-first boxes [] event calls step does = inr refl
 sets-first boxes (turn ∷ past) (event.Cluster identity lifetime window ticket_key) calls step does = inl (ap (window_in (event.Cluster identity lifetime window ticket_key)) does.says.said)
 sets-first boxes (turn ∷ past) event calls step does = inl refl
@@ -206,20 +185,29 @@ sets-first boxes (turn ∷ past) event calls step does = inl refl
 keeps-window : (turn : Turn) (past : List Turn) → window_of_turn turn ≡ None → window_by (turn ∷ past) ≡ window_by past
 keeps-window turn past none = ap (λ size. unwrap_or (first_of size (found window_of_turn past)) 64) none
 
--- what the ends of a run hold of the peer's associations, after a turn of the peer's own and after one of another end
-pub state_slots-own : (boxes : ℕ) (past : List Turn) (turn : Turn) → IsExplained boxes past turn → is_by Peer turn ≡ true
-    → (state_by boxes (turn ∷ past)).slots ≡ slots_after (window_by past) turn.event turn.step.verdict (state_by boxes past).slots
-state_slots-own boxes past turn explained mine =
-    ap (λ size. slots_by size (own Peer (turn ∷ past))) (keeps-window turn past (window-own turn.event turn.step.verdict mine))
-    ∙ own_slots-cons (window_by past) boxes past turn explained mine
+-- own turns tell the same with the size of windows after a turn as before it
+pub own-window : (end : Performer) (past : List Turn) (turn : Turn) → is_by end turn ≡ true → window_by (turn ∷ past) ≡ window_by past
+own-window end past turn mine = keeps-window turn past (window-own end turn.event turn.step.verdict mine)
 
-pub state_slots-other : (boxes : ℕ) (past : List Turn) (turn : Turn) → IsExplained boxes past turn → is_by Peer turn ≡ false → (state_by boxes (turn ∷ past)).slots ≡ (state_by boxes past).slots
-state_slots-other boxes past turn explained other =
-    other_slots-cons (window_by (turn ∷ past)) past turn other
-    ∙ ⊎_elim
-    (λ none. ap (λ size. slots_by size (own Peer past)) (keeps-window turn past none))
-    (λ empty. subst (λ turns. slots_by (window_by (turn ∷ past)) (own Peer turns) ≡ slots_by (window_by past) (own Peer turns)) (sym empty) refl)
-    (sets-first boxes past turn.event turn.calls turn.step explained.fits)
+pub other-window : {X : Type 0} (f : ℕ → List Turn → X) (end : Performer) (boxes : ℕ) (past : List Turn) (turn : Turn) → DoesTold boxes past turn → ((w v : ℕ) → f w [] ≡ f v [])
+    → f (window_by (turn ∷ past)) (own end past) ≡ f (window_by past) (own end past)
+other-window {X} f end boxes past turn does none = ⊎_elim
+    (λ same. ap (λ size. f size (own end past)) (keeps-window turn past same))
+    (λ empty. subst (λ turns. f (window_by (turn ∷ past)) (own end turns) ≡ f (window_by past) (own end turns)) (sym empty) (none (window_by (turn ∷ past)) (window_by past)))
+    (sets-first boxes past turn.event turn.calls turn.step does)
+
+-- what is held of the peer's associations, after a turn of the peer's own and after one of another end
+pub slots-own : (boxes : ℕ) (past : List Turn) (turn : Turn) → DoesTold boxes past turn → is_by Peer turn ≡ true
+    → slots_by (window_by (turn ∷ past)) (own Peer (turn ∷ past)) ≡ slots_after (window_by past) (peer_task turn.event) turn.step (slots_by (window_by past) (own Peer past))
+slots-own boxes past turn does mine =
+    ap (λ size. slots_by size (own Peer (turn ∷ past))) (own-window Peer past turn mine)
+    ∙ own_slots-cons (window_by past) boxes past turn does mine
+
+pub slots-other : (boxes : ℕ) (past : List Turn) (turn : Turn) → DoesTold boxes past turn → is_by Peer turn ≡ false
+    → slots_by (window_by (turn ∷ past)) (own Peer (turn ∷ past)) ≡ slots_by (window_by past) (own Peer past)
+slots-other boxes past turn does other =
+    ap (λ b. slots_by (window_by (turn ∷ past)) (if b then turn ∷ own Peer past else own Peer past)) other
+    ∙ other-window slots_by Peer boxes past turn does (λ w v. refl)
 
 -- the first slot that passes a test does, and has what all slots have
 pub first-passes : (test : Slot → Bool) (slots : List Slot) (slot : Slot) → first_slot test slots ≡ Some slot → test slot ≡ true
@@ -237,147 +225,3 @@ first-has P test (s ∷ ss) slot all e = by_test (first-has P test ss slot all.1
     by_test : (first_slot test ss ≡ Some slot → P slot.sa) → (b : Bool) → test s ≡ b → P slot.sa
     by_test more true t = subst (λ (x : Slot). P x.sa) (same_Some s slot (ap (λ b. if b then Some s else first_slot test ss) (sym t) ∙ e)) all.0
     by_test more false t = more (ap (λ b. if b then Some s else first_slot test ss) (sym t) ∙ e)
-
-module _ (f : Slot → Slot) where
-  -- a change that leaves these slots
-  kept_all : (slots : List Slot) → ((slot : Slot) → slot ≡ f slot) → slots ≡ map f slots
-  kept_all [] kept = refl
-  kept_all (s ∷ ss) kept = ap₂ (λ slot slots. slot ∷ slots) (kept s) (kept_all ss kept)
-
-  kept_others : (sa : Record) (slots : List Slot) → ((slot : Slot) → Differ sa slot.sa → slot ≡ f slot) → AllByRecursion (Differ sa) (records slots) → slots ≡ map f slots
-  kept_others sa [] kept differ = refl
-  kept_others sa (s ∷ ss) kept differ = ap₂ (λ slot slots. slot ∷ slots) (kept s differ.0) (kept_others sa ss kept differ.1)
-
-  -- one slot is put another in the place of, and the change leaves the others
-  put : (test : Slot → Bool) (slots : List Slot) (slot now : Slot) → AreApart (records slots) → first_slot test slots ≡ Some slot → now ≡ f slot
-      → ((other : Slot) → Differ slot.sa other.sa → other ≡ f other) → with_slot test now slots ≡ map f slots
-  put test [] slot now apart e is kept = refl
-  put test (s ∷ ss) slot now apart e is kept = by_test (λ found. put test ss slot now apart.1 found is kept) (test s) refl
-    where
-      by_test : (first_slot test ss ≡ Some slot → with_slot test now ss ≡ map f ss) → (b : Bool) → test s ≡ b → with_slot test now (s ∷ ss) ≡ map f (s ∷ ss)
-      by_test more true t =
-          let same : s ≡ slot = same_Some s slot (ap (λ b. if b then Some s else first_slot test ss) (sym t) ∙ e) in
-          ap (λ b. if b then now ∷ ss else s ∷ with_slot test now ss) t
-          ∙ ap₂ (λ slot slots. slot ∷ slots) (is ∙ ap f (sym same)) (kept_others s.sa ss (λ other differ. kept other (subst (λ (x : Slot). Differ x.sa other.sa) same differ)) apart.0)
-      by_test more false t =
-          let found : first_slot test ss ≡ Some slot = ap (λ b. if b then Some s else first_slot test ss) (sym t) ∙ e in
-          let differ : Differ s.sa slot.sa = first-has (Differ s.sa) test ss slot apart.0 found in
-          ap (λ b. if b then now ∷ ss else s ∷ with_slot test now ss) t
-          ∙ ap₂ (λ slot slots. slot ∷ slots) (kept s (record { spir = λ same. differ.spir (sym same); spi_out = λ same. differ.spi_out (sym same) })) (more found)
-
--- a turn by which nothing was sent or received leaves a slot
-slot-kept : (event : Event) (verdict : Verdict) (slot : Slot) → sent slot.sa.spir event verdict ≡ None → received slot.sa.spir event verdict ≡ None → slot ≡ slot_after event verdict slot
-slot-kept event verdict slot none_sent none_received i = record {
-  sa = slot.sa;
-  next = after_number (sym none_sent i) slot.next;
-  window = after_received (sym none_received i) slot.window;
-}
-
-module _ (spir : ℕ) (payload : WithRoom) (octets : List ℕ) (old new : List Slot) (step : Step) (apart : AreApart (records old)) where
-  abbrev sending : Event
-  sending = event.Send parties.Peer spir payload
-
-  refused_sends : (why : Refusal) → step.verdict ≡ out.Refused why → (slot : Slot) → slot ≡ slot_after sending step.verdict slot
-  refused_sends why said slot = slot-kept sending step.verdict slot (ap (sent slot.sa.spir sending) said) refl
-
-  slot_sends : (slot now : Slot) → first_slot (has_spir spir) old ≡ Some slot → SlotSends slot octets step now → new ≡ with_slot (has_spir spir) now old → new ≡ map (slot_after sending step.verdict) old
-  slot_sends slot now found sends put_in = put_in ∙ ⊎_elim went stopped (cases_lt slot.next (2 ^ 63))
-    where
-      its : slot.sa.spir ≡ spir
-      its = eqb-true slot.sa.spir spir (first-passes (has_spir spir) old slot found)
-
-      went : slot.next < 2 ^ 63 → with_slot (has_spir spir) now old ≡ map (slot_after sending step.verdict) old
-      went below =
-          let does : Sends (slot_outbound slot) slot.next octets step × (now ≡ record slot { next = slot.next + 1 }) = sends.within below in
-          let here : sent slot.sa.spir sending step.verdict ≡ Some slot.next = ap (sent slot.sa.spir sending) does.0.said ∙ ap (λ b. if b then Some slot.next else None) (eq-eqb spir slot.sa.spir (sym its)) in
-          let more : slot.next + 1 ≡ max (slot.next + 1) slot.next = omega arith in
-          put (slot_after sending step.verdict) (has_spir spir) old slot now apart found
-          (does.1 ∙ (λ i. record { sa = slot.sa; next = more i; window = slot.window }) ∙ (λ i. record { sa = slot.sa; next = after_number (sym here i) slot.next; window = slot.window }))
-          (λ other differ. slot-kept sending step.verdict other (ap (sent other.sa.spir sending) does.0.said ∙ ap (λ b. if b then Some slot.next else None) (ne_eqb spir other.sa.spir (λ same. differ.spir (its ∙ same)))) refl)
-
-      stopped : 2 ^ 63 ≤ slot.next → with_slot (has_spir spir) now old ≡ map (slot_after sending step.verdict) old
-      stopped above =
-          let does : Says (out.Refused refusal.Exhausted) step × (now ≡ slot) = sends.ended above in
-          let same : (slot : Slot) → slot ≡ slot_after sending step.verdict slot = refused_sends refusal.Exhausted does.0.said in
-          put (slot_after sending step.verdict) (has_spir spir) old slot now apart found (does.1 ∙ same slot) (λ other differ. same other)
-
-  -- what the peer holds after a send is what the turn makes of what it held
-  pub peer_sends-after : PeerSends spir old octets step new → new ≡ map (slot_after sending step.verdict) old
-  peer_sends-after sends = by_slot (first_slot (has_spir spir) old) refl sends
-    where
-      by_slot : (x : Option Slot) → first_slot (has_spir spir) old ≡ x
-          → MatchOption x (Says (out.Refused refusal.Unknown) step × (new ≡ old)) (λ slot. (now : Slot) × SlotSends slot octets step now × (new ≡ with_slot (has_spir spir) now old))
-          → new ≡ map (slot_after sending step.verdict) old
-      by_slot None found sends = sends.1 ∙ kept_all (slot_after sending step.verdict) old (refused_sends refusal.Unknown sends.0.said)
-      by_slot (Some slot) found sends = slot_sends slot sends.0 found sends.1 sends.2
-
--- an event by which octets come to an end
-abbrev pub IsArrival : Event → Type 0
-IsArrival (event.Deliver which to) = Unit {0}
-IsArrival (event.Alter which to place octet) = Unit {0}
-IsArrival (event.Cut which to keep) = Unit {0}
-IsArrival (event.Inject to medium octets) = Unit {0}
-IsArrival event = ⊥
-
-pub sent-arrival : (event : Event) → IsArrival event → (spir : ℕ) (verdict : Verdict) → sent spir event verdict ≡ None
-sent-arrival (event.Deliver which to) arrives spir verdict = refl
-sent-arrival (event.Alter which to place octet) arrives spir verdict = refl
-sent-arrival (event.Cut which to keep) arrives spir verdict = refl
-sent-arrival (event.Inject to medium octets) arrives spir verdict = refl
-sent-arrival event arrives spir verdict = absurd arrives
-
-pub received-arrival : (event : Event) → IsArrival event → (spir : ℕ) (verdict : Verdict) → received spir event verdict ≡ accepted spir verdict
-received-arrival (event.Deliver which to) arrives spir verdict = refl
-received-arrival (event.Alter which to place octet) arrives spir verdict = refl
-received-arrival (event.Cut which to keep) arrives spir verdict = refl
-received-arrival (event.Inject to medium octets) arrives spir verdict = refl
-received-arrival event arrives spir verdict = absurd arrives
-
-module _ (event : Event) (arrival : IsArrival event) (octets after : List ℕ) (old new : List Slot) (answer : EspVerdict) (verdict : Verdict) (apart : AreApart (records old)) where
-  drops_all : (why : EspDrop) → answer ≡ esp.Dropped why → IsVerdictOf answer after verdict → (slot : Slot) → slot ≡ slot_after event verdict slot
-  drops_all why said worded slot =
-      let is : verdict ≡ out.DroppedEsp why = subst (λ a. IsVerdictOf a after verdict) said worded in
-      slot-kept event verdict slot (sent-arrival event arrival slot.sa.spir verdict) (received-arrival event arrival slot.sa.spir verdict ∙ ap (accepted slot.sa.spir) is)
-
-  drops : (why : EspDrop) → Drops why octets answer after × (new ≡ old) → IsVerdictOf answer after verdict → new ≡ map (slot_after event verdict) old
-  drops why does worded = does.1 ∙ kept_all (slot_after event verdict) old (drops_all why does.0.said worded)
-
-  slot_takes : (test : Slot → Bool) (slot now : Slot) (opened : Result EspOpened EspDrop) → first_slot test old ≡ Some slot → SlotTakes slot opened answer now → IsVerdictOf answer after verdict
-      → with_slot test now old ≡ map (slot_after event verdict) old
-  slot_takes test slot now (Err why) found takes worded =
-      put (slot_after event verdict) test old slot now apart found
-      (takes.1 ∙ drops_all why takes.0 worded slot)
-      (λ other differ. drops_all why takes.0 worded other)
-  slot_takes test slot now (Ok packet) found takes worded =
-      put (slot_after event verdict) test old slot now apart found
-      (takes.1 ∙ (λ i. record { sa = slot.sa; next = after_number (sym (none_sent slot) i) slot.next; window = after_received (sym here i) slot.window }))
-      (λ other differ. slot-kept event verdict other (none_sent other)
-      (any other ∙ ap (λ b. if b then Some packet.number else None) (ne_eqb slot.sa.spir other.sa.spir differ.spir)))
-    where
-      none_sent : (any : Slot) → sent any.sa.spir event verdict ≡ None
-      none_sent any = sent-arrival event arrival any.sa.spir verdict
-
-      is : IsVerdictOf (esp.Accepted (peer_counter slot.sa counter.EspIn) packet) after verdict
-      is = subst (λ a. IsVerdictOf a after verdict) takes.0 worded
-
-      any : (other : Slot) → received other.sa.spir event verdict ≡ (if slot.sa.spir == other.sa.spir then Some packet.number else None)
-      any other =
-          received-arrival event arrival other.sa.spir verdict
-          ∙ ap (accepted other.sa.spir) is.2
-          ∙ ap (λ (x : Option ℕ). if is_of_spir other.sa.spir x then Some packet.number else None) slot.sa.origin_is_own
-
-      here : received slot.sa.spir event verdict ≡ Some packet.number
-      here = any slot ∙ ap (λ b. if b then Some packet.number else None) (eq-eqb slot.sa.spir slot.sa.spir refl)
-
-  -- what the peer holds after octets came to it is what the turn makes of what it held
-  pub peer_receives-after : PeerReceives old octets answer after new → IsVerdictOf answer after verdict → new ≡ map (slot_after event verdict) old
-  peer_receives-after receives worded = ⊎_elim
-      (λ short. drops drop.Short (receives.short short) worded)
-      (λ long. by_slot (first_slot (receives_at (spi_of octets)) old) refl (receives.long long))
-      (cases_lt (length octets) 34)
-    where
-      by_slot : (x : Option Slot) → first_slot (receives_at (spi_of octets)) old ≡ x
-          → MatchOption x (Drops drop.WrongSpi octets answer after × (new ≡ old)) (λ slot. (now : Slot) × SlotReceives slot octets answer after now × (new ≡ with_slot (receives_at (spi_of octets)) now old))
-          → new ≡ map (slot_after event verdict) old
-      by_slot None found does = drops drop.WrongSpi does worded
-      by_slot (Some slot) found does = does.2 ∙ slot_takes (receives_at (spi_of octets)) slot does.0 does.1.opened found does.1.takes worded

@@ -3,14 +3,22 @@ use Rattle.std.proofs.Common.{◌≡◌, ℕ, ◌+◌, max, Option, Some, None, 
 use Rattle.std.specs.Prelude.{is_some}
 use Rattle.std.specs.List.{filter_map, flat_map, cons_option}
 use Rattle.std.specs.Option.{option_map}
+use Rattle.events.specs.declared.event.Event.{Event}
+use Rattle.events.specs.declared.event.Event.TheVariants as event
+use Rattle.events.specs.declared.event.Party.TheVariants as parties
 use Rattle.events.specs.declared.turn.Turn.{Turn}
+use Rattle.events.specs.declared.verdict.Refusal.{Refusal}
+use Rattle.events.specs.declared.verdict.Verdict.{Verdict}
+use Rattle.events.specs.declared.verdict.Verdict.TheVariants as out
 use Rattle.keeper_book.specs.Counters.{five_at}
 use Rattle.keeper_book.specs.declared.counters.Counter.{Counter}
 use Rattle.keeper_book.specs.declared.counters.Counter.TheVariants as counter
 use Rattle.keeper_book.specs.declared.records.Taken.{Taken}
 use Rattle.replay_set.specs.Window.{window_of}
 use Rattle.replay_set.proofs.Numbers.{noting_adds}
-use Rattle.turn_rules.specs.Held.{Held, found, first_of, five_of, grant_of, covers_of, number_of, greatest, since, next_of, high_of, holding, held_by, begun, after_number, after_received, received_of, advanced, held_after}
+use Rattle.turn_rules.specs.Held.{Held, found, first_of, five_of, grant_of, covers_of, number_of, greatest, since, next_of, high_of, holding, held_by, begun, after_number, after_received, received, received_in, received_of, advanced, held_after, used_in}
+use Rattle.turn_rules.specs.Tasks as task
+use Rattle.turn_rules.specs.Tasks.{Task, member_task, peer_task}
 
 pub five_at-five_of : (f : Counter → ℕ) (c : Counter) → five_at (five_of f) c ≡ f c
 five_at-five_of f counter.EspOut = refl
@@ -36,6 +44,20 @@ pub window_of-cons_option : (number : Option ℕ) (size base : ℕ) (ns : List �
 window_of-cons_option None size base ns = refl
 window_of-cons_option (Some n) size base ns = sym (noting_adds size base ns n)
 
+-- what an end is asked receives what the event delivers
+pub received-member : (spir : ℕ) (event : Event) (verdict : Verdict) → received spir event verdict ≡ received_in spir (member_task event) verdict
+received-member spir (event.Own member asked) verdict = refl
+received-member spir (event.Draw member asked) verdict = refl
+received-member spir (event.Send parties.Peer asked payload) verdict = refl
+received-member spir (event.Send (parties.Member member) asked payload) verdict = refl
+received-member spir event verdict = refl
+
+pub received-peer : (spir : ℕ) (event : Event) (verdict : Verdict) → received spir event verdict ≡ received_in spir (peer_task event) verdict
+received-peer spir (event.Import sa) verdict = refl
+received-peer spir (event.Send parties.Peer asked payload) verdict = refl
+received-peer spir (event.Send (parties.Member member) asked payload) verdict = refl
+received-peer spir event verdict = refl
+
 module _ (size spir : ℕ) (turn : Turn) (past : List Turn) where
   abbrev turns_since : Option Taken → List Turn
   turns_since grant = if is_some grant then [] else turn ∷ since spir past
@@ -60,24 +82,44 @@ module _ (size spir : ℕ) (turn : Turn) (past : List Turn) where
       greatest-append (five_at taken.bases c) (covers_of spir c turn) (flat_map (covers_of spir c) (since spir past))
       ∙ ap (λ least. greatest least (covers_of spir c turn)) (sym (five_at-five_of (λ d. high_of spir d taken.bases past) c))
 
-  later : (taken : Taken) → held_as None taken ≡ advanced spir turn.event turn.calls turn.step.verdict (holding size spir past taken)
+  window_later : (taken : Taken) → window_of size taken.bases.esp_in (filter_map (received_of spir) (turn ∷ since spir past)) ≡ after_received (received_in spir (member_task turn.event) turn.step.verdict) (holding size spir past taken).window
+  window_later taken =
+      window_of-cons_option (received_of spir turn) size taken.bases.esp_in (filter_map (received_of spir) (since spir past))
+      ∙ ap (λ n. after_received n (holding size spir past taken).window) (received-member spir turn.event turn.step.verdict)
+
+  later : (taken : Taken) → held_as None taken ≡ advanced spir (member_task turn.event) turn.calls turn.step (holding size spir past taken)
   later taken i = record {
     sa = taken.sa;
     epoch = taken.epoch;
     bases = taken.bases;
     nexts = five_of-same _ _ (next_later taken) i;
     highs = five_of-same _ _ (high_later taken) i;
-    window = window_of-cons_option (received_of spir turn) size taken.bases.esp_in (filter_map (received_of spir) (since spir past)) i;
+    window = window_later taken i;
   }
 
-  later_found : (taken : Option Taken) → option_map (held_as None) taken ≡ option_map (advanced spir turn.event turn.calls turn.step.verdict) (option_map (holding size spir past) taken)
+  later_found : (taken : Option Taken) → option_map (held_as None) taken ≡ option_map (advanced spir (member_task turn.event) turn.calls turn.step) (option_map (holding size spir past) taken)
   later_found None = refl
   later_found (Some taken) = ap Some (later taken)
 
-  granted_first : (grant : Option Taken) → option_map (held_as grant) (first_of grant (found (grant_of spir) past)) ≡ first_of (option_map (begun size) grant) (option_map (advanced spir turn.event turn.calls turn.step.verdict) (held_by size past spir))
+  granted_first : (grant : Option Taken) → option_map (held_as grant) (first_of grant (found (grant_of spir) past)) ≡ first_of (option_map (begun size) grant) (option_map (advanced spir (member_task turn.event) turn.calls turn.step) (held_by size past spir))
   granted_first None = later_found (found (grant_of spir) past)
   granted_first (Some taken) = refl
 
 -- what is held after one more turn
-pub held_by-cons : (size spir : ℕ) (turn : Turn) (past : List Turn) → held_by size (turn ∷ past) spir ≡ held_after size spir turn.event turn.calls turn.step.verdict (held_by size past spir)
+pub held_by-cons : (size spir : ℕ) (turn : Turn) (past : List Turn) → held_by size (turn ∷ past) spir ≡ held_after size spir (member_task turn.event) turn.calls turn.step (held_by size past spir)
 held_by-cons size spir turn past = granted_first size spir turn past (grant_of spir turn)
+
+-- what is refused uses and receives nothing
+pub used-refused : (spir : ℕ) (c : Counter) (asked : Task) (why : Refusal) → used_in spir c asked (out.Refused why) ≡ None
+used-refused spir counter.EspOut (task.Draw other) why = refl
+used-refused spir counter.EspOut (task.Send other payload) why = refl
+used-refused spir c asked why = refl
+
+pub received-refused : (spir : ℕ) (asked : Task) (why : Refusal) → received_in spir asked (out.Refused why) ≡ None
+received-refused spir task.Receive why = refl
+received-refused spir asked why = refl
+
+-- what is received uses no number that is counted up
+pub used-receiving : (spir : ℕ) (c : Counter) (verdict : Verdict) → used_in spir c task.Receive verdict ≡ None
+used-receiving spir counter.EspOut verdict = refl
+used-receiving spir c verdict = refl

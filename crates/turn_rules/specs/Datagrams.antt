@@ -4,6 +4,7 @@ use Rattle.std.specs.Int.Bits.{bit_xor}
 use Rattle.std.specs.Option.{option_map}
 use Rattle.events.specs.declared.event.Event.{Event}
 use Rattle.events.specs.declared.event.Event.TheVariants as event
+use Rattle.events.specs.declared.event.Party.{Party}
 use Rattle.events.specs.declared.event.Which.{Which}
 use Rattle.events.specs.declared.event.Which.TheVariants as which
 use Rattle.events.specs.declared.turn.Datagram.{Datagram}
@@ -51,10 +52,26 @@ changed (Some datagram) change = with_octets datagram.medium (change datagram.oc
     with_octets medium None = Err refusal.NoOctet
     with_octets medium (Some octets) = Ok (record { medium = medium; octets = octets })
 
--- what an event delivers of these datagrams, which stay as they are, or why it does not
+-- what is delivered, and to whom: one of the datagrams that there are, changed or not, or octets of the event's own
+pub record Delivery : Type 0 where
+  pub to : Party
+  pub made : List PlainDatagram → Result PlainDatagram Refusal
+
+-- the delivery that an event is, where it is one
+abbrev pub delivery_of : Event → Option Delivery
+delivery_of (event.Deliver which to) = Some (record { to = to; made = λ datagrams. changed (datagram_at which datagrams) Some })
+delivery_of (event.Alter which to place octet) =
+    Some (record { to = to; made = λ datagrams. changed (datagram_at which datagrams) (altered place octet) })
+delivery_of (event.Cut which to keep) = Some (record { to = to; made = λ datagrams. changed (datagram_at which datagrams) (cut keep) })
+delivery_of (event.Inject to medium octets) =
+    Some (record { to = to; made = λ datagrams. Ok (record { medium = medium; octets = octets.octets }) })
+delivery_of event = None
+
+-- what is delivered of these datagrams, which stay as they are, or why nothing is
+abbrev pub made_of : List PlainDatagram → Option Delivery → Result PlainDatagram Refusal
+made_of datagrams None = Err refusal.NoDatagram
+made_of datagrams (Some delivery) = delivery.made datagrams
+
+-- what an event delivers
 abbrev pub arrives : List PlainDatagram → Event → Result PlainDatagram Refusal
-arrives datagrams (event.Deliver which to) = changed (datagram_at which datagrams) Some
-arrives datagrams (event.Alter which to place octet) = changed (datagram_at which datagrams) (altered place octet)
-arrives datagrams (event.Cut which to keep) = changed (datagram_at which datagrams) (cut keep)
-arrives datagrams (event.Inject to medium octets) = Ok (record { medium = medium; octets = octets.octets })
-arrives datagrams event = Err refusal.NoDatagram
+arrives datagrams event = made_of datagrams (delivery_of event)

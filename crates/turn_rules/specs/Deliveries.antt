@@ -21,8 +21,7 @@ pub record MemberTakes (held : ℕ → Option Held) (octets : List ℕ) (calls :
 pub record PeerTakes (slots : List Slot) (octets : List ℕ) (calls : List Call) (step : Step) : Type 0 where
   pub answer : EspVerdict
   pub after : List ℕ
-  pub slots_after : List Slot
-  pub receives : PeerReceives slots octets answer after slots_after
+  pub receives : PeerReceives slots octets answer after
   pub worded : IsVerdictOf answer after step.verdict
   pub quiet : IsQuiet step
   pub no_calls : calls ≡ []

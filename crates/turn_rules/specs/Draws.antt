@@ -1,5 +1,5 @@
 -- What a member does with the counters that it holds.
-use Rattle.std.specs.Prelude.{ℕ, ◌+◌, ◌≡◌, MatchOption, Option, Some, None, List, [], ◌∷◌}
+use Rattle.std.specs.Prelude.{ℕ, ◌≡◌, MatchOption, Option, Some, None, List, [], ◌∷◌}
 use Rattle.events.specs.declared.verdict.Refusal.{Refusal}
 use Rattle.events.specs.declared.verdict.Refusal.TheVariants as refusal
 use Rattle.events.specs.declared.verdict.Verdict.{Verdict}
@@ -12,7 +12,8 @@ use Rattle.horizons.specs.Ready.{Ready}
 use Rattle.horizons.specs.Reaches.{Reach}
 use Rattle.horizons.specs.declared.stop.Stop.{Stop}
 use Rattle.horizons.specs.declared.stop.Stop.TheVariants as stop
-use Rattle.keeper_book.specs.Counters.{five_at, with_five}
+use Rattle.keeper_book.specs.CounterEnds.{end_of}
+use Rattle.keeper_book.specs.Counters.{five_at}
 use Rattle.keeper_book.specs.Told.{seen}
 use Rattle.keeper_book.specs.declared.calls.Call.{Call}
 use Rattle.keeper_book.specs.declared.calls.KeeperAnswer.{KeeperAnswer}
@@ -51,6 +52,7 @@ reach_of held c = record {
   base = five_at held.bases c;
   next = five_at held.nexts c;
   high = five_at held.highs c;
+  end = end_of held.sa c;
 }
 
 -- the refusal that a stop is
@@ -61,25 +63,25 @@ refusal_of_stop stop.Exhausted = refusal.Exhausted
 refusal_of_stop stop.Closed = refusal.Closed
 refusal_of_stop stop.Unknown = refusal.Unknown
 
--- the refusal that a keeper's answer is, to a call other than a cover
-abbrev pub refusal_of_fault : KeeperFault → Option Refusal
-refusal_of_fault fault.Failed = Some refusal.KeeperFault
-refusal_of_fault fault.Unknown = Some refusal.Unknown
-refusal_of_fault fault.Closed = Some refusal.Closed
-refusal_of_fault (fault.Full limit) = Some (refusal.Full limit)
-refusal_of_fault fault.SpiInUse = Some refusal.SpiInUse
-refusal_of_fault why = None
+-- the refusal of a takeover that a keeper's answer is
+abbrev pub refusal_of_takeover : KeeperFault → Option Refusal
+refusal_of_takeover fault.Failed = Some refusal.KeeperFault
+refusal_of_takeover fault.Unknown = Some refusal.Unknown
+refusal_of_takeover fault.Closed = Some refusal.Closed
+refusal_of_takeover (fault.Full limit) = Some (refusal.Full limit)
+refusal_of_takeover why = None
+
+-- and of an import
+abbrev pub refusal_of_import : KeeperFault → Option Refusal
+refusal_of_import fault.Failed = Some refusal.KeeperFault
+refusal_of_import fault.SpiInUse = Some refusal.SpiInUse
+refusal_of_import (fault.Full limit) = Some (refusal.Full limit)
+refusal_of_import why = None
 
 -- no call is left, and the event came out so
 pub record Concludes (calls : List Call) (verdict is : Verdict) : Type 0 where
   pub no_more : calls ≡ []
   pub said : verdict ≡ is
-
--- the same, and this is held then
-pub record ConcludesWith (calls : List Call) (verdict is : Verdict) (held now : Held) : Type 0 where
-  pub no_more : calls ≡ []
-  pub said : verdict ≡ is
-  pub holds : held ≡ now
 
 -- the next ESP number is drawn, once it is ready
 abbrev pub Draws : Held → List Call → Verdict → Type 0
@@ -87,20 +89,11 @@ Draws held calls verdict = Ready (reach_of held counter.EspOut) (five_at held.ne
     (λ why rest. Concludes rest verdict (out.Refused (refusal_of_stop why)))
     (λ high rest. Concludes rest verdict (out.Number (five_at held.nexts counter.EspOut)))
 
--- the same, and what is held then
-abbrev pub DrawsTo : Held → List Call → Verdict → Held → Type 0
-DrawsTo held calls verdict now = Ready (reach_of held counter.EspOut) (five_at held.nexts counter.EspOut) calls
-    (λ why rest. ConcludesWith rest verdict (out.Refused (refusal_of_stop why)) now held)
-    (λ high rest. ConcludesWith rest verdict (out.Number (five_at held.nexts counter.EspOut)) now (record held {
-      nexts = with_five counter.EspOut (five_at held.nexts counter.EspOut + 1) held.nexts;
-      highs = with_five counter.EspOut high held.highs;
-    }))
-
 -- what a takeover comes out as; what is granted is the record of the association
 abbrev pub Grants : ℕ → KeeperAnswer → Verdict → Type 0
 Grants spir answer.Done verdict = ⊥
 Grants spir (answer.Taken taken) verdict = (taken.sa.spir ≡ spir) × (verdict ≡ out.Owned taken.epoch taken.bases)
-Grants spir (answer.Refused why) verdict = MatchOption (refusal_of_fault why) ⊥ (λ r. verdict ≡ out.Refused r)
+Grants spir (answer.Refused why) verdict = MatchOption (refusal_of_takeover why) ⊥ (λ r. verdict ≡ out.Refused r)
 
 -- an association is taken over by one call
 abbrev pub TakesOver : ℕ → ℕ → List Call → Verdict → Type 0
@@ -112,7 +105,7 @@ TakesOver spir member (call ∷ other ∷ more) verdict = ⊥
 abbrev pub Admits : KeeperAnswer → Verdict → Type 0
 Admits answer.Done verdict = verdict ≡ out.Entered
 Admits (answer.Taken taken) verdict = ⊥
-Admits (answer.Refused why) verdict = MatchOption (refusal_of_fault why) ⊥ (λ r. verdict ≡ out.Refused r)
+Admits (answer.Refused why) verdict = MatchOption (refusal_of_import why) ⊥ (λ r. verdict ≡ out.Refused r)
 
 -- an association is entered by one call
 abbrev pub Enters : Record → List Call → Verdict → Type 0

@@ -10,6 +10,7 @@ use Rattle.events.specs.declared.verdict.Refusal.{Refusal}
 use Rattle.events.specs.declared.verdict.Refusal.TheVariants as refusal
 use Rattle.events.specs.declared.verdict.Verdict.{Verdict}
 use Rattle.events.specs.declared.verdict.Verdict.TheVariants as out
+use Rattle.turn_rules.specs.Datagrams.{Delivery, delivery_of}
 
 -- an end of a run
 pub data Performer : Type 0 where
@@ -43,6 +44,11 @@ abbrev pub end_of_party : Party → Performer
 end_of_party parties.Peer = Peer
 end_of_party (parties.Member number) = Member number
 
+-- the end that a delivery comes to
+abbrev pub receiver_of : Option Delivery → Option Performer
+receiver_of None = None
+receiver_of (Some delivery) = Some (end_of_party delivery.to)
+
 -- who performs an event that the run does not refuse
 abbrev pub performer_of : Event → Verdict → Option Performer
 performer_of (event.Cluster identity lifetime window ticket_key) verdict = None
@@ -53,13 +59,14 @@ performer_of (event.Own member spir) verdict = Some (Member member)
 performer_of (event.Draw member spir) verdict = Some (Member member)
 performer_of (event.Crash member) verdict = Some (Member member)
 performer_of (event.Send from spir payload) verdict = Some (end_of_party from)
-performer_of (event.Deliver which to) verdict = Some (end_of_party to)
-performer_of (event.Alter which to place octet) verdict = Some (end_of_party to)
-performer_of (event.Cut which to keep) verdict = Some (end_of_party to)
-performer_of (event.Inject to medium octets) verdict = Some (end_of_party to)
+performer_of event verdict = receiver_of (delivery_of event)
+
+-- who performs an event, where it came out so
+abbrev pub performer_at : Event → Verdict → Option Performer
+performer_at event verdict = if is_refused_by_run verdict then None else performer_of event verdict
 
 abbrev pub performer : Turn → Option Performer
-performer turn = if is_refused_by_run turn.step.verdict then None else performer_of turn.event turn.step.verdict
+performer turn = performer_at turn.event turn.step.verdict
 
 abbrev pub is_end : Performer → Option Performer → Bool
 is_end end None = false

@@ -1,5 +1,5 @@
 -- What each event does, by what the ends hold.
-use Rattle.std.specs.Prelude.{ℕ, ◌+◌, ◌-◌, ◌^◌, ◌≡◌, ◌||◌, ◌&&◌, Bool, true, false, not, nat_le, nat_lt, MatchOption, MatchResult, List, [], length}
+use Rattle.std.specs.Prelude.{ℕ, ◌+◌, ◌^◌, ◌≡◌, ◌||◌, ◌&&◌, Bool, true, false, not, nat_le, nat_lt, is_some, MatchOption, Option, Some, None, Result, Ok, Err, List, [], length}
 use Rattle.events.specs.declared.event.Event.{Event}
 use Rattle.events.specs.declared.event.Event.TheVariants as event
 use Rattle.events.specs.declared.event.Party.{Party}
@@ -14,13 +14,14 @@ use Rattle.events.specs.declared.verdict.Verdict.{Verdict}
 use Rattle.events.specs.declared.verdict.Verdict.TheVariants as out
 use Rattle.keeper_book.specs.declared.calls.Call.{Call}
 use Rattle.keeper_book.specs.declared.records.Record.{Record}
-use Rattle.turn_rules.specs.Datagrams.{MAX_DATAGRAMS, arrives}
+use Rattle.turn_rules.specs.Datagrams.{Delivery, MAX_DATAGRAMS, PlainDatagram, delivery_of}
 use Rattle.turn_rules.specs.Deliveries.{MemberTakes, PeerTakes}
 use Rattle.turn_rules.specs.Draws.{Draws, Enters, TakesOver}
+use Rattle.turn_rules.specs.Held.{Held}
 use Rattle.turn_rules.specs.MemberPackets.{SendsData}
 use Rattle.turn_rules.specs.Peers.{admits}
 use Rattle.turn_rules.specs.States.{RunState, state_by}
-use Rattle.turn_rules.specs.Slots.{PeerSends, Slot, records}
+use Rattle.turn_rules.specs.Slots.{PeerSends, records}
 use Rattle.turn_rules.specs.Steps.{IsQuiet, Says}
 
 -- the most members of a run
@@ -56,74 +57,111 @@ pub record Quietly (rule : List Call → Verdict → Type 0) (calls : List Call)
 abbrev pub has_joined : ℕ → RunState → Bool
 has_joined member state = nat_lt 0 member && nat_le member state.joined
 
+-- an event that may give a datagram, or brings one that was given
+abbrev pub is_of_datagrams : Event → Bool
+is_of_datagrams (event.Send from spir payload) = true
+is_of_datagrams event = is_some (delivery_of event)
+
+abbrev pub member_of : Party → Option ℕ
+member_of parties.Peer = None
+member_of (parties.Member member) = Some member
+
+abbrev pub member_reached : Option Delivery → Option ℕ
+member_reached None = None
+member_reached (Some delivery) = member_of delivery.to
+
+-- the member that an event names
+abbrev pub named_in : Event → Option ℕ
+named_in (event.Own member spir) = Some member
+named_in (event.Draw member spir) = Some member
+named_in (event.Crash member) = Some member
+named_in (event.Send from spir payload) = member_of from
+named_in event = member_reached (delivery_of event)
+
+-- this refusal where the test holds, and else another one or none
+abbrev pub refused_where : Bool → Refusal → Option Refusal → Option Refusal
+refused_where true why otherwise = Some why
+refused_where false why otherwise = otherwise
+
 -- a member that never joined, or ended, does nothing
-abbrev pub WhereUp : RunState → ℕ → List Call → Step → Type 0 → Type 0
-WhereUp state member calls step otherwise =
-    Refusing (not (has_joined member state)) refusal.NoMember calls step
-    (Refusing (state.ended (member - 1)) refusal.Down calls step otherwise)
+abbrev pub refused_absent : RunState → Option ℕ → Option Refusal → Option Refusal
+refused_absent state None otherwise = otherwise
+refused_absent state (Some member) otherwise =
+    refused_where (not (has_joined member state)) refusal.NoMember (refused_where (state.ended member) refusal.Down otherwise)
 
--- the peer is always there
-abbrev pub WherePresent : RunState → Party → List Call → Step → Type 0 → Type 0
-WherePresent state parties.Peer calls step otherwise = otherwise
-WherePresent state (parties.Member member) calls step otherwise = WhereUp state member calls step otherwise
+-- no end receives an IKE message yet
+abbrev pub refused_medium : Medium → Option Refusal
+refused_medium medium.Ike = Some refusal.NotBuilt
+refused_medium medium.Esp = None
 
-abbrev pub WhereRoom : RunState → List Call → Step → Type 0 → Type 0
-WhereRoom state calls step otherwise = Refusing (nat_le MAX_DATAGRAMS (length state.datagrams)) refusal.DatagramsFull calls step otherwise
+-- nothing arrives, or what no end receives
+abbrev pub refused_arrival : Result PlainDatagram Refusal → Option Refusal
+refused_arrival (Err why) = Some why
+refused_arrival (Ok datagram) = refused_medium datagram.medium
 
--- the cluster is configured before anything else
-abbrev pub Configures : RunState → List Call → Step → Type 0
-Configures state calls step = Refusing state.started refusal.Late calls step (Yields out.Configured calls step)
+abbrev pub refused_delivery : RunState → Option Delivery → Option Refusal
+refused_delivery state None = None
+refused_delivery state (Some delivery) = refused_arrival (delivery.made state.datagrams)
 
+-- what some events ask besides: that nothing was played before, that the SPIs may be imported, that there is room for one
+-- more member, and that something arrives
+abbrev pub refused_besides : RunState → Event → Option Refusal
+refused_besides state (event.Cluster identity lifetime window ticket_key) = refused_where state.started refusal.Late None
+refused_besides state (event.Import sa) = refused_where (not (is_importable sa)) refusal.SpiRange None
+refused_besides state (event.Join fresh) =
+    refused_where (nat_le MAX_MEMBERS state.joined || nat_le state.boxes state.joined) (refusal.NoRoom state.joined) None
+refused_besides state event = refused_delivery state (delivery_of event)
+
+-- why the run itself refuses an event, before any end sees it
+abbrev pub run_refusal : RunState → Event → Option Refusal
+run_refusal state event =
+    refused_where (is_of_datagrams event && nat_le MAX_DATAGRAMS (length state.datagrams)) refusal.DatagramsFull
+    (refused_absent state (named_in event) (refused_besides state event))
+
+-- the peer has no association that stands in the way, or the import is refused
 abbrev pub Imports : RunState → Record → List Call → Step → Type 0
 Imports state sa calls step =
-    Refusing (not (is_importable sa)) refusal.SpiRange calls step
-    (Refusing (not (admits (records state.slots) sa)) refusal.SpiInUse calls step
-    (Quietly (Enters sa) calls step))
-
-abbrev pub Joins : RunState → List Call → Step → Type 0
-Joins state calls step =
-    Refusing (nat_le MAX_MEMBERS state.joined || nat_le state.boxes state.joined) (refusal.NoRoom state.joined) calls step
-    (Yields (out.Member (state.joined + 1)) calls step)
+    Refusing (not (admits (records state.slots) sa)) refusal.SpiInUse calls step
+    (Quietly (Enters sa) calls step)
 
 -- a member draws a number of what it holds
-abbrev pub DrawsOf : RunState → ℕ → ℕ → List Call → Step → Type 0
-DrawsOf state member spir calls step = MatchOption (state.held (member - 1) spir)
-    (Refuses refusal.NotOwner calls step)
-    (λ held. Quietly (Draws held) calls step)
+abbrev pub DrawsOf : Option Held → List Call → Step → Type 0
+DrawsOf None calls step = Refuses refusal.NotOwner calls step
+DrawsOf (Some held) calls step = Quietly (Draws held) calls step
 
--- the peer sends by its associations, and a member by what it holds
-abbrev pub SendsAs : RunState → Party → ℕ → List ℕ → List Call → Step → Type 0
-SendsAs state parties.Peer spir payload calls step = (calls ≡ []) × ((after : List Slot) × PeerSends spir state.slots payload step after)
-SendsAs state (parties.Member member) spir payload calls step = MatchOption (state.held (member - 1) spir)
-    (Refuses refusal.NotOwner calls step)
-    (λ held. SendsData held payload calls step)
+-- a member sends a payload by what it holds
+abbrev pub SendsOf : Option Held → List ℕ → List Call → Step → Type 0
+SendsOf None payload calls step = Refuses refusal.NotOwner calls step
+SendsOf (Some held) payload calls step = SendsData held payload calls step
 
--- an end receives a datagram; none receives an IKE message yet
-abbrev pub Receives : RunState → Party → Medium → List ℕ → List Call → Step → Type 0
-Receives state to medium.Ike octets calls step = Refuses refusal.NotBuilt calls step
-Receives state parties.Peer medium.Esp octets calls step = PeerTakes state.slots octets calls step
-Receives state (parties.Member member) medium.Esp octets calls step = MemberTakes (state.held (member - 1)) octets calls step
+-- an end receives what arrives
+abbrev pub Receives : RunState → Party → Result PlainDatagram Refusal → List Call → Step → Type 0
+Receives state to (Err why) calls step = ⊥
+Receives state parties.Peer (Ok datagram) calls step = PeerTakes state.slots datagram.octets calls step
+Receives state (parties.Member member) (Ok datagram) calls step = MemberTakes (state.held member) datagram.octets calls step
 
--- what an event delivers comes to an end
-abbrev pub Delivers : RunState → Party → Event → List Call → Step → Type 0
-Delivers state to event calls step =
-    WhereRoom state calls step
-    (WherePresent state to calls step
-    (MatchResult (arrives state.datagrams event) (λ datagram. Receives state to datagram.medium datagram.octets calls step) (λ why. Refuses why calls step)))
+abbrev pub Delivers : RunState → Option Delivery → List Call → Step → Type 0
+Delivers state None calls step = ⊥
+Delivers state (Some delivery) calls step = Receives state delivery.to (delivery.made state.datagrams) calls step
 
--- the calls of an event and what the ends do, by what they hold
+-- the calls of an event that the run does not refuse, and what the end does that performs it, by what the ends hold
+abbrev pub Performs : RunState → Event → List Call → Step → Type 0
+Performs state (event.Cluster identity lifetime window ticket_key) calls step = Yields out.Configured calls step
+Performs state (event.Import sa) calls step = Imports state sa calls step
+Performs state (event.Join fresh) calls step = Yields (out.Member (state.joined + 1)) calls step
+Performs state (event.Own member spir) calls step = Quietly (TakesOver spir member) calls step
+Performs state (event.Draw member spir) calls step = DrawsOf (state.held member spir) calls step
+Performs state (event.Crash member) calls step = Yields out.Down calls step
+Performs state (event.Send parties.Peer spir payload) calls step = (calls ≡ []) × PeerSends spir state.slots payload.octets step
+Performs state (event.Send (parties.Member member) spir payload) calls step =
+    SendsOf (state.held member spir) payload.octets calls step
+Performs state event calls step = Delivers state (delivery_of event) calls step
+
+-- the calls of an event and what is done: the run refuses it, or its end performs it
 abbrev pub Does : RunState → Event → List Call → Step → Type 0
-Does state (event.Cluster identity lifetime window ticket_key) calls step = Configures state calls step
-Does state (event.Import sa) calls step = Imports state sa calls step
-Does state (event.Join fresh) calls step = Joins state calls step
-Does state (event.Own member spir) calls step = WhereUp state member calls step (Quietly (TakesOver spir member) calls step)
-Does state (event.Draw member spir) calls step = WhereUp state member calls step (DrawsOf state member spir calls step)
-Does state (event.Crash member) calls step = WhereUp state member calls step (Yields out.Down calls step)
-Does state (event.Send from spir payload) calls step = WhereRoom state calls step (WherePresent state from calls step (SendsAs state from spir payload.octets calls step))
-Does state (event.Deliver which to) calls step = Delivers state to (event.Deliver which to) calls step
-Does state (event.Alter which to place octet) calls step = Delivers state to (event.Alter which to place octet) calls step
-Does state (event.Cut which to keep) calls step = Delivers state to (event.Cut which to keep) calls step
-Does state (event.Inject to medium octets) calls step = Delivers state to (event.Inject to medium octets) calls step
+Does state event calls step = MatchOption (run_refusal state event)
+    (Performs state event calls step)
+    (λ why. Refuses why calls step)
 
 -- the same, after these turns
 abbrev pub Fits : ℕ → List Turn → Event → List Call → Step → Type 0

@@ -4,7 +4,7 @@ use Rattle.std.specs.List.{filter_map, flat_map}
 use Rattle.std.specs.Option.{option_map}
 use Rattle.events.specs.declared.event.Event.{Event}
 use Rattle.events.specs.declared.event.Event.TheVariants as event
-use Rattle.events.specs.declared.event.Party.TheVariants as parties
+use Rattle.events.specs.declared.turn.Step.{Step}
 use Rattle.events.specs.declared.turn.Turn.{Turn}
 use Rattle.events.specs.declared.verdict.Verdict.{Verdict}
 use Rattle.events.specs.declared.verdict.Verdict.TheVariants as out
@@ -22,6 +22,9 @@ use Rattle.keeper_book.specs.declared.records.Record.{Record}
 use Rattle.keeper_book.specs.declared.records.Taken.{Taken}
 use Rattle.keeper_book.specs.Records.{spir_of_origin}
 use Rattle.replay_set.specs.Window.{Window, window_of, with_noted}
+use Rattle.turn_rules.specs.Datagrams.{delivery_of}
+use Rattle.turn_rules.specs.Tasks as task
+use Rattle.turn_rules.specs.Tasks.{Task, member_task, receipt}
 
 -- What a member holds of an association: the record and the epoch that it was granted, of each counter where the epoch
 -- began, the next number, and the high below which numbers may be used, and which ESP numbers were received in it.
@@ -71,11 +74,15 @@ abbrev pub covered : ℕ → Counter → KeeperAsk → KeeperAnswer → Option �
 covered spir c (ask.Cover asked kind child epoch upto) answer.Done = if (asked == spir) && is_named c (counter_named kind child) then Some upto else None
 covered spir c asked answered = None
 
--- the number of the counter of the association that an event used
+-- the number of the counter of the association that was used at a task
+abbrev pub used_in : ℕ → Counter → Task → Verdict → Option ℕ
+used_in spir counter.EspOut (task.Draw asked) (out.Number n) = if asked == spir then Some n else None
+used_in spir counter.EspOut (task.Send asked payload) (out.Sent n) = if asked == spir then Some n else None
+used_in spir c asked verdict = None
+
+-- the number that a member used at an event
 abbrev pub used : ℕ → Counter → Event → Verdict → Option ℕ
-used spir counter.EspOut (event.Draw member asked) (out.Number n) = if asked == spir then Some n else None
-used spir counter.EspOut (event.Send (parties.Member member) asked payload) (out.Sent n) = if asked == spir then Some n else None
-used spir c event verdict = None
+used spir c event verdict = used_in spir c (member_task event) verdict
 
 abbrev pub is_of_spir : ℕ → Option ℕ → Bool
 is_of_spir spir None = false
@@ -86,13 +93,14 @@ abbrev pub accepted : ℕ → Verdict → Option ℕ
 accepted spir (out.Accepted name number next_header payload) = if is_of_spir spir (spir_of_origin name.origin) then Some number else None
 accepted spir verdict = None
 
--- the number of the association's ESP packet that an event received
+-- the number of the association's ESP packet that was received at a task
+abbrev pub received_in : ℕ → Task → Verdict → Option ℕ
+received_in spir task.Receive verdict = accepted spir verdict
+received_in spir asked verdict = None
+
+-- the number that was received at an event
 abbrev pub received : ℕ → Event → Verdict → Option ℕ
-received spir (event.Deliver which to) verdict = accepted spir verdict
-received spir (event.Alter which to place octet) verdict = accepted spir verdict
-received spir (event.Cut which to keep) verdict = accepted spir verdict
-received spir (event.Inject to medium octets) verdict = accepted spir verdict
-received spir event verdict = None
+received spir event verdict = received_in spir (receipt (delivery_of event)) verdict
 
 abbrev pub grant_in : ℕ → List Call → Option Taken
 grant_in spir calls = found (λ call. granted spir call.asked (seen call)) calls
@@ -164,16 +172,17 @@ after_received None window = window
 after_received (Some n) window = with_noted window n
 
 -- what is held after a turn that grants nothing
-abbrev pub advanced : ℕ → Event → List Call → Verdict → Held → Held
-advanced spir event calls verdict held = record held {
-  nexts = five_of (λ c. after_number (used spir c event verdict) (five_at held.nexts c));
+abbrev pub advanced : ℕ → Task → List Call → Step → Held → Held
+advanced spir asked calls step held = record held {
+  nexts = five_of (λ c. after_number (used_in spir c asked step.verdict) (five_at held.nexts c));
   highs = five_of (λ c. greatest (five_at held.highs c) (covers_in spir c calls));
-  window = after_received (received spir event verdict) held.window;
+  window = after_received (received_in spir asked step.verdict) held.window;
 }
 
 -- what is held of the association after one more turn
-abbrev pub held_after : ℕ → ℕ → Event → List Call → Verdict → Option Held → Option Held
-held_after size spir event calls verdict held = first_of (option_map (begun size) (grant_in spir calls)) (option_map (advanced spir event calls verdict) held)
+abbrev pub held_after : ℕ → ℕ → Task → List Call → Step → Option Held → Option Held
+held_after size spir asked calls step held =
+    first_of (option_map (begun size) (grant_in spir calls)) (option_map (advanced spir asked calls step) held)
 
 -- what is held of the association, of what is held
 abbrev pub held_at : List Held → ℕ → Option Held

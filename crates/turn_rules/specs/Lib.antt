@@ -10,7 +10,8 @@ pub mod MemberPackets
 pub mod Packets
 pub mod Peers
 pub mod Safe
-pub mod States
 pub mod Services
 pub mod Slots
+pub mod States
 pub mod Steps
+pub mod Tasks

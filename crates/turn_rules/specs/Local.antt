@@ -3,6 +3,7 @@ use Rattle.std.specs.Prelude.{ℕ, ◌≡◌, false, List, [], ◌∷◌, ◌++�
 use Rattle.std.specs.List.{AllByRecursion}
 use Rattle.events.specs.declared.turn.Turn.{Turn}
 use Rattle.keeper_book.specs.Book.{Book, StandsFor}
+use Rattle.keeper_book.specs.Told.{AreAnswers}
 use Rattle.keeper_book.specs.declared.calls.Call.{Call}
 use Rattle.turn_rules.specs.Fits.{Fits}
 
@@ -14,6 +15,8 @@ AreShown calls = AllByRecursion (λ call. call.hidden ≡ false) calls
 pub record IsExplained (boxes : ℕ) (past : List Turn) (turn : Turn) : Type 0 where
   pub fits : Fits boxes past turn.event turn.calls turn.step
   pub shown : AreShown turn.calls
+  -- each answer is one that its call has, whatever the keeper's book is
+  pub answers : AreAnswers turn.calls
 
 -- each turn is explained by those before it; the newest turn comes first
 abbrev pub Local : ℕ → List Turn → Type 0

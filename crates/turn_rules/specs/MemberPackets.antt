@@ -1,5 +1,5 @@
 -- What a member does with ESP packets.
-use Rattle.std.specs.Prelude.{ℕ, ◌+◌, ◌≡◌, ◌≢◌, ◌<◌, ◌≤◌, ◌⊎◌, Option, Some, List, [], length, Result, Ok, Err}
+use Rattle.std.specs.Prelude.{ℕ, ◌≡◌, ◌≢◌, ◌<◌, ◌≤◌, ◌⊎◌, Option, Some, List, [], length, Result, Ok, Err}
 use Rattle.esp_packets.specs.Packet.{spi_of}
 use Rattle.events.specs.declared.turn.Step.{Step}
 use Rattle.events.specs.declared.verdict.EspVerdict.{EspVerdict}
@@ -9,12 +9,12 @@ use Rattle.ha_base.specs.declared.esp_outcomes.EspDrop.{EspDrop}
 use Rattle.ha_base.specs.declared.esp_outcomes.EspDrop.TheVariants as drop
 use Rattle.ha_base.specs.declared.esp_outcomes.EspOpened.{EspOpened}
 use Rattle.horizons.specs.Ready.{Ready}
-use Rattle.keeper_book.specs.Counters.{five_at, with_five}
+use Rattle.keeper_book.specs.Counters.{five_at}
 use Rattle.keeper_book.specs.declared.calls.Call.{Call}
 use Rattle.keeper_book.specs.declared.counters.Counter.TheVariants as counter
 use Rattle.turn_rules.specs.Draws.{counter_name, reach_of, refusal_of_stop}
 use Rattle.turn_rules.specs.Held.{Held}
-use Rattle.turn_rules.specs.Packets.{Drops, Inbound, Opens, Outbound, Sends, noted}
+use Rattle.turn_rules.specs.Packets.{Drops, Inbound, Opens, Outbound, Sends}
 use Rattle.turn_rules.specs.Steps.{Says}
 
 abbrev pub outbound_of : Held → Outbound
@@ -26,31 +26,11 @@ outbound_of held = record {
 abbrev pub inbound_of : Held → Inbound
 inbound_of held = record { counter = counter_name held.sa counter.EspIn; key = held.sa.child.to_cluster; spi = held.sa.spi_in; window = held.window }
 
--- what is held once the next ESP number was used below this high
-abbrev pub sent_below : ℕ → Held → Held
-sent_below high held = record held {
-  nexts = with_five counter.EspOut (five_at held.nexts counter.EspOut + 1) held.nexts;
-  highs = with_five counter.EspOut high held.highs;
-}
-
 -- a payload is sent under the next ESP number, once it is ready
 abbrev pub SendsData : Held → List ℕ → List Call → Step → Type 0
 SendsData held payload calls step = Ready (reach_of held counter.EspOut) (five_at held.nexts counter.EspOut) calls
     (λ why rest. (rest ≡ []) × Says (out.Refused (refusal_of_stop why)) step)
     (λ high rest. (rest ≡ []) × Sends (outbound_of held) (five_at held.nexts counter.EspOut) payload step)
-
--- the same, and what is held then
-abbrev pub SendsDataTo : Held → List ℕ → List Call → Step → Held → Type 0
-SendsDataTo held payload calls step now = Ready (reach_of held counter.EspOut) (five_at held.nexts counter.EspOut) calls
-    (λ why rest. (rest ≡ []) × Says (out.Refused (refusal_of_stop why)) step × (now ≡ held))
-    (λ high rest. (rest ≡ []) × Sends (outbound_of held) (five_at held.nexts counter.EspOut) payload step × (now ≡ sent_below high held))
-
--- what is held once the number of a packet was noted below this high
-abbrev pub received_below : ℕ → ℕ → Held → Held
-received_below number high held = record held {
-  highs = with_five counter.EspIn high held.highs;
-  window = (noted number (inbound_of held)).window;
-}
 
 -- a packet that was opened is accepted once its number is ready
 abbrev pub TakesPacket : Held → Result EspOpened EspDrop → List Call → EspVerdict → Type 0
@@ -59,24 +39,11 @@ TakesPacket held (Ok packet) calls answer = Ready (reach_of held counter.EspIn) 
     (λ why rest. (rest ≡ []) × (answer ≡ esp.Refused (refusal_of_stop why)))
     (λ high rest. (rest ≡ []) × (answer ≡ esp.Accepted (counter_name held.sa counter.EspIn) packet))
 
--- the same, and what is held then
-abbrev pub TakesPacketTo : Held → Result EspOpened EspDrop → List Call → EspVerdict → Held → Type 0
-TakesPacketTo held (Err why) calls answer now = (calls ≡ []) × (answer ≡ esp.Dropped why) × (now ≡ held)
-TakesPacketTo held (Ok packet) calls answer now = Ready (reach_of held counter.EspIn) packet.number calls
-    (λ why rest. (rest ≡ []) × (answer ≡ esp.Refused (refusal_of_stop why)) × (now ≡ held))
-    (λ high rest. (rest ≡ []) × (answer ≡ esp.Accepted (counter_name held.sa counter.EspIn) packet) × (now ≡ received_below packet.number high held))
-
 -- what is done with the octets of a packet where this is held
 pub record ReceivesPacket (held : Held) (octets : List ℕ) (calls : List Call) (answer : EspVerdict) (after : List ℕ) : Type 0 where
   pub opened : Result EspOpened EspDrop
   pub opens : Opens (inbound_of held) octets opened after
   pub takes : TakesPacket held opened calls answer
-
--- the same, and what is held then
-pub record ReceivesPacketTo (held : Held) (octets : List ℕ) (calls : List Call) (answer : EspVerdict) (after : List ℕ) (now : Held) : Type 0 where
-  pub opened : Result EspOpened EspDrop
-  pub opens : Opens (inbound_of held) octets opened after
-  pub takes : TakesPacketTo held opened calls answer now
 
 -- of what is held by responder's SPI, nothing receives at this SPI
 abbrev pub ReceivesNowhere : (ℕ → Option Held) → ℕ → Type 0

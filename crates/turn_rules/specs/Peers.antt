@@ -1,17 +1,22 @@
 -- What the peer's own turns say that it holds.
-use Rattle.std.specs.Prelude.{◌==◌, ◌||◌, Bool, not, Option, Some, None, option_to_list, List, [], ◌∷◌, ◌++◌}
-use Rattle.std.specs.List.{list_any}
+use Rattle.std.specs.Prelude.{◌≢◌, ◌==◌, ◌||◌, Bool, not, Option, Some, None, option_to_list, List, [], ◌∷◌, ◌++◌}
+use Rattle.std.specs.List.{AllByRecursion, list_any}
 use Rattle.events.specs.declared.event.Event.{Event}
-use Rattle.events.specs.declared.event.Event.TheVariants as event
 use Rattle.events.specs.declared.turn.Turn.{Turn}
 use Rattle.events.specs.declared.verdict.Verdict.{Verdict}
 use Rattle.events.specs.declared.verdict.Verdict.TheVariants as out
 use Rattle.keeper_book.specs.declared.records.Record.{Record}
+use Rattle.turn_rules.specs.Tasks as task
+use Rattle.turn_rules.specs.Tasks.{Task, peer_task}
+
+-- the association that came to the peer at a task
+abbrev pub entered_at_task : Task → Verdict → Option Record
+entered_at_task (task.Enter sa) out.Entered = Some sa
+entered_at_task asked verdict = None
 
 -- the association that came to the peer, where the event is an import that was entered
 abbrev pub entered : Event → Verdict → Option Record
-entered (event.Import sa) out.Entered = Some sa
-entered event verdict = None
+entered event verdict = entered_at_task (peer_task event) verdict
 
 abbrev pub entered_in : Turn → Option Record
 entered_in turn = entered turn.event turn.step.verdict
@@ -28,3 +33,13 @@ clashes sa slot = (slot.spir == sa.spir) || (slot.spi_out == sa.spi_out)
 -- no association of the peer stands in the way
 abbrev pub admits : List Record → Record → Bool
 admits slots sa = not (list_any (clashes sa) slots)
+
+-- two associations have other responder's SPIs, and the peer receives in them at other SPIs
+pub record Differ (a b : Record) : Type 0 where
+  pub spir : a.spir ≢ b.spir
+  pub spi_out : a.spi_out ≢ b.spi_out
+
+-- each two of them do
+abbrev pub AreDistinct : List Record → Type 0
+AreDistinct [] = Unit {0}
+AreDistinct (sa ∷ more) = AllByRecursion (Differ sa) more × AreDistinct more

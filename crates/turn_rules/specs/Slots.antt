@@ -4,8 +4,6 @@ use Rattle.std.specs.Prelude.{ℕ, ◌+◌, ◌^◌, ◌≡◌, ◌<◌, ◌≤�
 use Rattle.std.specs.Option.{option_map}
 use Rattle.esp_packets.specs.Packet.{spi_of}
 use Rattle.events.specs.declared.event.Event.{Event}
-use Rattle.events.specs.declared.event.Event.TheVariants as event
-use Rattle.events.specs.declared.event.Party.TheVariants as parties
 use Rattle.events.specs.declared.turn.Step.{Step}
 use Rattle.events.specs.declared.turn.Turn.{Turn}
 use Rattle.events.specs.declared.verdict.EspVerdict.{EspVerdict}
@@ -19,14 +17,16 @@ use Rattle.ha_base.specs.declared.esp_outcomes.EspDrop.{EspDrop}
 use Rattle.ha_base.specs.declared.esp_outcomes.EspDrop.TheVariants as drop
 use Rattle.ha_base.specs.declared.esp_outcomes.EspOpened.{EspOpened}
 use Rattle.keeper_book.specs.declared.counters.Counter.{Counter}
+use Rattle.keeper_book.specs.CounterEnds.{end_of}
 use Rattle.keeper_book.specs.declared.counters.Counter.TheVariants as counter
 use Rattle.keeper_book.specs.declared.records.Record.{Record}
 use Rattle.replay_set.specs.Window.{Window, window_of}
 use Rattle.turn_rules.specs.Draws.{child_of, kind_of}
-use Rattle.turn_rules.specs.Held.{after_number, after_received, greatest, received, received_of}
-use Rattle.turn_rules.specs.Packets.{Drops, Inbound, Opens, Outbound, Sends, noted}
-use Rattle.turn_rules.specs.Peers.{associations_by, entered, entered_in}
+use Rattle.turn_rules.specs.Held.{after_number, after_received, greatest, received_in, received_of, used_in}
+use Rattle.turn_rules.specs.Packets.{Drops, Inbound, Opens, Outbound, Sends}
+use Rattle.turn_rules.specs.Peers.{associations_by, entered_at_task, entered_in}
 use Rattle.turn_rules.specs.Steps.{Says}
+use Rattle.turn_rules.specs.Tasks.{Task, peer_task}
 
 -- What the peer holds of an association: the record, the ESP number that it sends next, and which numbers it received.
 pub record Slot : Type 0 where
@@ -56,8 +56,7 @@ records slots = map (λ slot. slot.sa) slots
 
 -- the ESP number under which the peer sent in the association
 abbrev pub sent : ℕ → Event → Verdict → Option ℕ
-sent spir (event.Send parties.Peer asked payload) (out.Sent n) = if asked == spir then Some n else None
-sent spir event verdict = None
+sent spir event verdict = used_in spir counter.EspOut (peer_task event) verdict
 
 abbrev pub sent_of : ℕ → Turn → Option ℕ
 sent_of spir turn = sent spir turn.event turn.step.verdict
@@ -96,50 +95,45 @@ abbrev pub first_slot : (Slot → Bool) → List Slot → Option Slot
 first_slot test [] = None
 first_slot test (slot ∷ slots) = if test slot then Some slot else first_slot test slots
 
--- the slots with this one in the place of the first that passes a test
-abbrev pub with_slot : (Slot → Bool) → Slot → List Slot → List Slot
-with_slot test now [] = []
-with_slot test now (slot ∷ slots) = if test slot then now ∷ slots else slot ∷ with_slot test now slots
-
 -- what the peer holds of an association after one more turn of its own
-abbrev pub slot_after : Event → Verdict → Slot → Slot
-slot_after event verdict slot = record {
+abbrev pub slot_after : Task → Step → Slot → Slot
+slot_after asked step slot = record {
   sa = slot.sa;
-  next = after_number (sent slot.sa.spir event verdict) slot.next;
-  window = after_received (received slot.sa.spir event verdict) slot.window;
+  next = after_number (used_in slot.sa.spir counter.EspOut asked step.verdict) slot.next;
+  window = after_received (received_in slot.sa.spir asked step.verdict) slot.window;
 }
 
 -- and what it holds of all of them
-abbrev pub slots_after : ℕ → Event → Verdict → List Slot → List Slot
-slots_after size event verdict slots = map (slot_after event verdict) slots ++ option_to_list (option_map (entered_slot size) (entered event verdict))
+abbrev pub slots_after : ℕ → Task → Step → List Slot → List Slot
+slots_after size asked step slots =
+    map (slot_after asked step) slots ++ option_to_list (option_map (entered_slot size) (entered_at_task asked step.verdict))
 
--- a payload is sent under the next number, unless the counter is at its end, and what is held then
-pub record SlotSends (slot : Slot) (payload : List ℕ) (step : Step) (now : Slot) : Type 0 where
-  pub within : slot.next < 2 ^ 63 → Sends (slot_outbound slot) slot.next payload step × (now ≡ record slot { next = slot.next + 1 })
-  pub ended : 2 ^ 63 ≤ slot.next → Says (out.Refused refusal.Exhausted) step × (now ≡ slot)
+-- a payload is sent under the next number, unless the counter is at its end
+pub record SlotSends (slot : Slot) (payload : List ℕ) (step : Step) : Type 0 where
+  pub within : slot.next < 2 ^ 63 → Sends (slot_outbound slot) slot.next payload step
+  pub ended : 2 ^ 63 ≤ slot.next → Says (out.Refused refusal.Exhausted) step
 
--- the peer sends a payload in an association, and what it holds then
-abbrev pub PeerSends : ℕ → List Slot → List ℕ → Step → List Slot → Type 0
-PeerSends spir old payload step new = MatchOption (first_slot (has_spir spir) old)
-    (Says (out.Refused refusal.Unknown) step × (new ≡ old))
-    (λ slot. (now : Slot) × SlotSends slot payload step now × (new ≡ with_slot (has_spir spir) now old))
+-- the peer sends a payload in an association
+abbrev pub PeerSends : ℕ → List Slot → List ℕ → Step → Type 0
+PeerSends spir slots payload step = MatchOption (first_slot (has_spir spir) slots)
+    (Says (out.Refused refusal.Unknown) step)
+    (λ slot. SlotSends slot payload step)
 
--- what a slot does with a packet that was opened or dropped, and what is held then
-abbrev pub SlotTakes : Slot → Result EspOpened EspDrop → EspVerdict → Slot → Type 0
-SlotTakes slot (Err why) answer now = (answer ≡ esp.Dropped why) × (now ≡ slot)
-SlotTakes slot (Ok packet) answer now =
-    (answer ≡ esp.Accepted (peer_counter slot.sa counter.EspIn) packet) × (now ≡ record slot { window = (noted packet.number (slot_inbound slot)).window })
+-- what a slot answers to a packet that was opened or dropped
+abbrev pub SlotTakes : Slot → Result EspOpened EspDrop → EspVerdict → Type 0
+SlotTakes slot (Err why) answer = answer ≡ esp.Dropped why
+SlotTakes slot (Ok packet) answer = answer ≡ esp.Accepted (peer_counter slot.sa counter.EspIn) packet
 
--- what a slot does with the octets of a packet
-pub record SlotReceives (slot : Slot) (octets : List ℕ) (answer : EspVerdict) (after : List ℕ) (now : Slot) : Type 0 where
+-- what a slot answers to the octets of a packet
+pub record SlotReceives (slot : Slot) (octets : List ℕ) (answer : EspVerdict) (after : List ℕ) : Type 0 where
   pub opened : Result EspOpened EspDrop
   pub opens : Opens (slot_inbound slot) octets opened after
-  pub takes : SlotTakes slot opened answer now
+  pub takes : SlotTakes slot opened answer
 
--- What the peer does with the octets of a packet, what they are then, and what it holds then: they are too short, or
--- nothing receives at their SPI, or the slot answers that does.
-pub record PeerReceives (old : List Slot) (octets : List ℕ) (answer : EspVerdict) (after : List ℕ) (new : List Slot) : Type 0 where
-  pub short : length octets < 34 → Drops drop.Short octets answer after × (new ≡ old)
-  pub long : 34 ≤ length octets → MatchOption (first_slot (receives_at (spi_of octets)) old)
-      (Drops drop.WrongSpi octets answer after × (new ≡ old))
-      (λ slot. (now : Slot) × SlotReceives slot octets answer after now × (new ≡ with_slot (receives_at (spi_of octets)) now old))
+-- What the peer answers to the octets of a packet, and what they are then: they are too short, or nothing receives at
+-- their SPI, or the slot answers that does.
+pub record PeerReceives (slots : List Slot) (octets : List ℕ) (answer : EspVerdict) (after : List ℕ) : Type 0 where
+  pub short : length octets < 34 → Drops drop.Short octets answer after
+  pub long : 34 ≤ length octets → MatchOption (first_slot (receives_at (spi_of octets)) slots)
+      (Drops drop.WrongSpi octets answer after)
+      (λ slot. SlotReceives slot octets answer after)

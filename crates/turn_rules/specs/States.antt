@@ -1,21 +1,26 @@
--- What the ends of a run hold before an event, as it decides what the event does.
-use Rattle.std.specs.Prelude.{ℕ, ◌+◌, ◌==◌, Bool, true, false, Option, None, List, [], ◌∷◌, length}
+-- What the ends of a run hold before an event, as it decides what the event does, and what a turn makes of that.
+use Rattle.std.specs.Prelude.{ℕ, suc, ◌==◌, ◌||◌, ◌++◌, Bool, true, false, unwrap_or, Option, Some, None, option_to_list, List, [], ◌∷◌, length, if◌then◌else◌}
 use Rattle.std.specs.List.{filter, list_any}
+use Rattle.std.specs.Option.{option_map}
 use Rattle.events.specs.declared.event.Event.{Event}
 use Rattle.events.specs.declared.event.Event.TheVariants as event
+use Rattle.events.specs.declared.turn.Step.{Step}
 use Rattle.events.specs.declared.turn.Turn.{Turn}
 use Rattle.events.specs.declared.verdict.Verdict.{Verdict}
 use Rattle.events.specs.declared.verdict.Verdict.TheVariants as out
-use Rattle.turn_rules.specs.Datagrams.{PlainDatagram, datagrams_of}
-use Rattle.turn_rules.specs.Ends.{Member, Peer, own}
-use Rattle.turn_rules.specs.Held.{Held, held_by, window_by}
-use Rattle.turn_rules.specs.Slots.{Slot, slots_by}
+use Rattle.keeper_book.specs.declared.calls.Call.{Call}
+use Rattle.turn_rules.specs.Datagrams.{PlainDatagram, datagrams_of, plain_datagram}
+use Rattle.turn_rules.specs.Ends.{Member, Peer, is_end, own, performer_at}
+use Rattle.turn_rules.specs.Held.{Held, held_after, held_by, window_by, window_in}
+use Rattle.turn_rules.specs.Slots.{Slot, slots_after, slots_by}
+use Rattle.turn_rules.specs.Tasks.{member_task, peer_task}
 
--- boxes: how many services were handed in for members; joined: how many members joined. Members are counted from 1, and
--- `ended` and `held` have the place of a member, counted from 0.
+-- boxes: how many services were handed in for members; window: the size of receive windows of what comes; joined: how many
+-- members joined. `ended` and `held` are by the number of a member: they are counted from 1.
 pub record RunState : Type 0 where
   pub boxes : ℕ
   pub started : Bool
+  pub window : ℕ
   pub joined : ℕ
   pub ended : ℕ → Bool
   pub datagrams : List PlainDatagram
@@ -26,36 +31,84 @@ abbrev pub is_join : Verdict → Bool
 is_join (out.Member number) = true
 is_join verdict = false
 
--- how many members have joined
-abbrev pub joins : List Turn → ℕ
-joins past = length (filter (λ turn. is_join turn.step.verdict) past)
+abbrev pub joined_after : Bool → ℕ → ℕ
+joined_after true joined = suc joined
+joined_after false joined = joined
+
+-- the member that an event ended
+abbrev pub ended_by : Event → Verdict → Option ℕ
+ended_by (event.Crash member) out.Down = Some member
+ended_by event verdict = None
+
+abbrev pub is_number : ℕ → Option ℕ → Bool
+is_number member None = false
+is_number member (Some other) = other == member
 
 -- the event ended this member
 abbrev pub ends : ℕ → Event → Verdict → Bool
-ends member (event.Crash asked) out.Down = asked == member
-ends member event verdict = false
+ends member event verdict = is_number member (ended_by event verdict)
 
--- this member ended
-abbrev pub has_ended : ℕ → List Turn → Bool
-has_ended member past = list_any (λ turn. ends member turn.event turn.step.verdict) past
-
--- what a member's own turns say that it holds; once it ended it holds nothing
+-- what a member holds; once it ended that is nothing
 abbrev pub held_unless : Bool → Option Held → Option Held
 held_unless true held = None
 held_unless false held = held
+
+-- before the first turn nobody holds anything
+abbrev pub at_first : ℕ → RunState
+at_first boxes = record {
+  boxes = boxes;
+  started = false;
+  window = 64;
+  joined = 0;
+  ended = λ member. false;
+  datagrams = [];
+  slots = [];
+  held = λ member spir. None;
+}
+
+-- what a turn makes of what the ends hold: the end that performs it goes on, and the others stay as they are
+abbrev pub state_after : Event → List Call → Step → RunState → RunState
+state_after event calls step state = record {
+  boxes = state.boxes;
+  started = true;
+  window = unwrap_or (window_in event step.verdict) state.window;
+  joined = joined_after (is_join step.verdict) state.joined;
+  ended = λ member. ends member event step.verdict || state.ended member;
+  datagrams = state.datagrams ++ option_to_list (option_map plain_datagram step.gives);
+  slots = if is_end Peer (performer_at event step.verdict) then slots_after state.window (peer_task event) step state.slots else state.slots;
+  held = λ member spir. held_unless (ends member event step.verdict || state.ended member)
+      (if is_end (Member member) (performer_at event step.verdict)
+      then held_after state.window spir (member_task event) calls step (state.held member spir)
+      else state.held member spir);
+}
+
+-- what the turns of a run make of what its ends hold; the newest turn comes first
+abbrev pub state_by : ℕ → List Turn → RunState
+state_by boxes [] = at_first boxes
+state_by boxes (turn ∷ past) = state_after turn.event turn.calls turn.step (state_by boxes past)
 
 abbrev pub has_turns : List Turn → Bool
 has_turns [] = false
 has_turns (turn ∷ past) = true
 
--- what the turns of a run say that its ends hold, each by its own turns
-abbrev pub state_by : ℕ → List Turn → RunState
-state_by boxes past = record {
+-- how many members have joined
+abbrev pub joins : List Turn → ℕ
+joins past = length (filter (λ turn. is_join turn.step.verdict) past)
+
+-- this member ended
+abbrev pub has_ended : ℕ → List Turn → Bool
+has_ended member past = list_any (λ turn. ends member turn.event turn.step.verdict) past
+
+-- The same, as each end's own turns tell it: with the greatest numbers that it used and saw acknowledged, and the sets of
+-- those that it received. The laws say that it is the same where each turn is explained.
+abbrev pub told_state : ℕ → List Turn → RunState
+told_state boxes past = record {
   boxes = boxes;
   started = has_turns past;
+  window = window_by past;
   joined = joins past;
-  ended = λ place. has_ended (place + 1) past;
+  ended = λ member. has_ended member past;
   datagrams = datagrams_of past;
   slots = slots_by (window_by past) (own Peer past);
-  held = λ place spir. held_unless (has_ended (place + 1) past) (held_by (window_by past) (own (Member (place + 1)) past) spir);
+  held = λ member spir. held_unless (has_ended member past) (held_by (window_by past) (own (Member member) past) spir);
 }

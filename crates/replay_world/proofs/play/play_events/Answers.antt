@@ -20,7 +20,6 @@ loop-moment-preserved-in-Continue-branch-2 g c =
     record {
       held = search rules;
       told = search rules;
-      empty = search rules;
       events = i.events
           ∙ ap (prefixed (titles past)) read
           ∙ prefixed-turn past grown.turn (c.in-Ok-Some.moment, plain c.in-Ok-Some.event) rest (λ k. (grown.at_moment k, plain (grown.of_event k)))

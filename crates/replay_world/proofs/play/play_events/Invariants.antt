@@ -1,6 +1,7 @@
-use Rattle.std.proofs.Common.{◌≡◌, ℕ, false, List, [], ◌++◌, length}
+use Rattle.std.proofs.Common.{◌≡◌, ℕ, Some, List, [], ◌++◌, length}
 use Rattle.event_text.specs.Input.{left_contents}
 use Rattle.report_text.specs.Report.{turns_text}
+use Rattle.keeper_book.specs.Gates.{told_calls}
 use Rattle.replay_world.specs.Played.{prefixed, titles}
 use Rattle.run_ends.specs.Asked.{AsksAsSeen}
 use Rattle.run_ends.specs.Runs.{CausedSince, StandsTold}
@@ -10,8 +11,7 @@ use Rattle.replay_world.proofs.play.play_events.Given as goal
 abbrev pub invariant-loop-moment : goal.invariant-loop-moment
 invariant-loop-moment g l = record {
   held : g.K.Keeper.held l.keeper.keeper ≡ g.K.Keeper.held l.fn.keeper.keeper;
-  told : l.keeper.missed ≡ false;
-  empty : l.keeper.calls ≡ [];
+  told : told_calls l.keeper ≡ Some [];
   events : prefixed (titles l.fn.world.ends.past) (left_contents l.fn.reader) ≡ prefixed (titles l.world.ends.past) (left_contents l.reader);
   text : (head : List ℕ) → l.fn.report.octets ≡ head ++ turns_text l.fn.world.ends.past → l.report.octets ≡ head ++ turns_text l.world.ends.past;
   boxes : l.world.ends.boxes ≡ l.fn.world.ends.boxes;

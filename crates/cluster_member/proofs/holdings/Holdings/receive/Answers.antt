@@ -1,15 +1,27 @@
 -- A packet that is long enough has an SPI.
-use Rattle.std.proofs.Common.{arith, subst}
-use Rattle.cluster_member.specs.Members.{ReceivesAt}
+use Rattle.std.proofs.Common.{[], refl, arith}
+use Rattle.keeper_book.proofs.Asking.{asks_none}
+use Rattle.ha_base.specs.declared.esp_outcomes.EspDrop.TheVariants as drop
+use Rattle.cluster_member.proofs.Placed.{dropped-holds}
 use Rattle.cluster_member.proofs.holdings.Holdings.receive.Goals as goal
 
 pub returns-in-Some-clause-receives : goal.returns-in-Some-clause-receives
 returns-in-Some-clause-receives g c =
-    let received = c.receive_at.ensures.receives in (
-      received.0,
-      record {
-        short = λ l. absurd (omega (arith, l, c.in-Some.ensures.0));
-        long = λ l. subst (λ spi. ReceivesAt spi c.args.self.now.held c.args.bytes.now received.0 c.receive_at.result c.receive_at.new.bytes c.receive_at.new.self.held) c.in-Some.ensures.1 received.1;
-      },
-      received.2,
-    )
+    let it = c.receive_at.ensures.receives in
+    record {
+      calls = it.calls;
+      follows = (record { short = λ l. absurd (omega (arith, l, c.in-Some.ensures.0)); long = λ l. it.follows.0 }, it.follows.1);
+      asked = it.asked;
+      held = it.held;
+    }
+
+pub returns-in-None-clause-receives : goal.returns-in-None-clause-receives
+returns-in-None-clause-receives g c = record {
+  calls = [];
+  follows = (
+    record { short = λ l. (refl, record { said = refl; same = refl }); long = λ l. absurd (omega (arith, l, c.in-None.ensures)) },
+    λ step worded. dropped-holds step drop.Short c.args.bytes.now c.args.self.now.held worded,
+  );
+  asked = asks_none c.args.keeper.now;
+  held = refl;
+}

@@ -9,5 +9,5 @@ use Rattle.keeper_book.proofs.gates.GateKeeper.enter.Goals as goal
 pub returns-clause-call : goal.returns-clause-call
 returns-clause-call g c =
     let call = c.enter-result.ensures.call in
-    passed (λ h. h.keeper) (λ h. h.calls) (λ h. h.missed) c.args.self.now c.record.new.self (ask.Enter c.args.sa.now) (done c.enter-result.result) _ call.0 _
+    passed c.self.inside.keeper c.self.inside.calls c.self.inside.missed c.args.self.now c.record.new.self c.self.view_is (ask.Enter c.args.sa.now) (done c.enter-result.result) _ call.0 _
     call.1 call.2 c.record.ensures.keeper (ap (λ (sa : Record). recorded (ask.Enter sa) c.of_done.result) c.copied.ensures ∙ ap (recorded (ask.Enter c.args.sa.now)) c.of_done.ensures) c.record.ensures.calls c.record.ensures.missed

@@ -8,5 +8,5 @@ use Rattle.keeper_book.proofs.gates.GateKeeper.take_over.Goals as goal
 pub returns-clause-call : goal.returns-clause-call
 returns-clause-call g c =
     let call = c.take_over-result.ensures.call in
-    passed (λ h. h.keeper) (λ h. h.calls) (λ h. h.missed) c.args.self.now c.record.new.self (ask.TakeOver c.args.spir c.args.member) (taken c.take_over-result.result) _ call.0 _
+    passed c.self.inside.keeper c.self.inside.calls c.self.inside.missed c.args.self.now c.record.new.self c.self.view_is (ask.TakeOver c.args.spir c.args.member) (taken c.take_over-result.result) _ call.0 _
     call.1 call.2 c.record.ensures.keeper (ap (recorded (ask.TakeOver c.args.spir c.args.member)) c.of_taken.ensures) c.record.ensures.calls c.record.ensures.missed

@@ -1,6 +1,7 @@
 -- Before and after a turn all is owned, by the law of whole runs, and what holds across the ends holds.
 use Rattle.std.proofs.Common.{subst}
 use Rattle.run_ends.specs.Runs.{Run}
+use Rattle.turn_rules.proofs.StateLaws.{states-told}
 use Rattle.turn_rules.specs.Local.{Local}
 use Rattle.replay_world.proofs.OwnedLaws.{local_before, owned_told, safe_told}
 use Rattle.replay_world.proofs.world.World.turn.Goals as goal
@@ -31,3 +32,9 @@ returns-clause-safe g c stands =
 
 pub returns-clause-caused : goal.returns-clause-caused
 returns-clause-caused g c start caused = c.in_ok-turn.ensures.caused start caused
+
+pub returns-clause-own_turns : goal.returns-clause-own_turns
+returns-clause-own_turns g c = states-told c.turn.new.self.boxes c.turn.new.self.past c.in_ok-turn.ensures.local
+
+pub returns-in_err-turn-clause-own_turns : goal.returns-in_err-turn-clause-own_turns
+returns-in_err-turn-clause-own_turns g c = states-told c.turn.new.self.boxes c.turn.new.self.past c.in_err-turn.ensures.local

@@ -1,24 +1,53 @@
--- A draw by a member that has not joined, or that ended.
-use Rattle.std.proofs.Common.{◌≡◌, false, List, [], Option, ap, ◌∙◌, rules}
+-- A draw by a member that has not joined, or that ended, or that is up.
+use Rattle.std.proofs.Common.{◌≡◌, ◌∙◌, Option, Some, List, [], refl, ap, rules}
+use Rattle.std.proofs.Math.ListN.{set}
+use Rattle.std.specs.Prelude.{false}
+use Rattle.events.specs.declared.event.Event.TheVariants as event
 use Rattle.keeper_book.proofs.Asking.{asks_none}
 use Rattle.cluster_member.specs.Members.{Holder}
-use Rattle.run_ends.proofs.Refusing.{down, no_member, put_back}
-use Rattle.run_ends.specs.Parties.{EndsHeld, has_member}
+use Rattle.run_ends.proofs.Acting.{absent-plays, down-plays}
+use Rattle.run_ends.proofs.Plays.{asked-as, draws}
+use Rattle.run_ends.proofs.Seats.{put_back}
 use Rattle.run_ends.proofs.parties.Parties.draw.Goals as goal
+use Rattle.run_ends.specs.Parties.{EndsHeld, has_member}
 
-pub returns-in_default-clause-draws : goal.returns-in_default-clause-draws
-returns-in_default-clause-draws g c =
+pub returns-in_default : goal.returns-in_default
+returns-in_default g c =
     let none : has_member c.args.member c.args.self.now.members ≡ false = search rules in
-    ([], no_member _ c.args.self.now c.args.member c.refused.result none c.refused.ensures, asks_none c.args.keeper.now)
+    record {
+      draws = record {
+        calls = [];
+        follows = λ past. absent-plays past c.args.self.now (event.Draw c.args.member c.args.spir) c.args.member refl refl c.requires.in_place c.refused.result none c.refused.ensures;
+        asked = asks_none c.args.keeper.now;
+        held = refl;
+      };
+    }
 
-pub returns-in-None-clause-draws : goal.returns-in-None-clause-draws
-returns-in-None-clause-draws g c =
+pub returns-in-None : goal.returns-in-None
+returns-in-None g c =
     let members : List (Option Holder) = c.self.inside.members.items in
     let members_are : members ≡ c.args.self.now.members = ap (λ (s : EndsHeld). s.members) c.self.view_is in
-    let with_members : List (Option Holder) → EndsHeld = λ ms. record { boxes = c.self.inside.boxes; window = c.self.inside.settings.window; slots = c.self.inside.peer.slots; members = ms } in (
-      [],
-      down _ c.args.self.now c.args.member c.in-Some.place c.index_mut.result.now c.refused-in-None.result _ c.in-Some.ensures
-          (rw members_are at c.index_mut.ensures.value) c.in-None.is c.refused-in-None.ensures
-          (ap with_members (put_back members c.in-Some.place c.index_mut.result.now c.index_mut.ensures.value) ∙ c.self.view_is),
-      asks_none c.args.keeper.now,
-    )
+    let with_members : List (Option Holder) → EndsHeld = λ ms. record { boxes = c.self.inside.boxes; window = c.self.inside.settings.window; slots = c.self.inside.peer.slots; members = ms } in
+    record {
+      draws = record {
+        calls = [];
+        follows = λ past. down-plays past c.args.self.now (event.Draw c.args.member c.args.spir) c.args.member refl refl c.requires.in_place c.in-Some.place c.index_mut.result.now c.in-Some.ensures
+            (rw members_are at c.index_mut.ensures.value) c.refused-in-None.result _ c.in-None.is c.refused-in-None.ensures
+            (ap with_members (put_back members c.in-Some.place c.index_mut.result.now c.index_mut.ensures.value) ∙ c.self.view_is);
+        asked = asks_none c.args.keeper.now;
+        held = refl;
+      };
+    }
+
+pub returns-in-Some-index_mut : goal.returns-in-Some-index_mut
+returns-in-Some-index_mut g c =
+    let members : List (Option Holder) = c.self.inside.members.items in
+    let members_are : members ≡ c.args.self.now.members = ap (λ (s : EndsHeld). s.members) c.self.view_is in
+    let now = c.draw.new.self in
+    let leaves = ap (λ (v : EndsHeld). record v { members = set v.members c.in-Some.place (Some now) }) c.self.view_is in
+    record {
+      draws = asked-as
+          (λ calls it past. draws past c.args.self.now c.args.member c.in-Some.place c.index_mut.result.now c.requires.in_place c.in-Some.ensures (rw members_are at c.index_mut.ensures.value)
+          c.in-Some-index_mut.member now c.in-Some-index_mut.is _ leaves c.args.spir calls c.draw.result it.0 it.1)
+          c.draw.ensures.draws;
+    }

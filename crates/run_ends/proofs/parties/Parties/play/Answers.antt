@@ -1,21 +1,63 @@
 -- Each event is played as its kind says.
-use Rattle.std.proofs.Common.{[], sym}
+use Rattle.std.proofs.Common.{[], refl, sym}
 use Rattle.keeper_book.proofs.Asking.{asks_none}
 use Rattle.turn_rules.specs.Datagrams.{datagrams_of}
 use Rattle.run_ends.proofs.Bounds.{arrives-short}
+use Rattle.run_ends.proofs.Plays.{asked-as, if_ok-as}
 use Rattle.run_ends.proofs.parties.Parties.play.Goals as goal
 
 pub returns-in-Cluster-clause-plays : goal.returns-in-Cluster-clause-plays
-returns-in-Cluster-clause-plays g c = ([], rw (c.in-Cluster.is, sym c.of-settings.ensures) c.configure.ensures, asks_none c.args.keeper.now)
+returns-in-Cluster-clause-plays g c = record {
+  calls = [];
+  follows = rw (c.in-Cluster.is, sym c.of-settings.ensures) (c.configure.ensures.configures _ _ _);
+  asked = asks_none c.args.keeper.now;
+  held = refl;
+}
+
+pub returns-in-Import-clause-plays : goal.returns-in-Import-clause-plays
+returns-in-Import-clause-plays g c = if_ok-as c.import.result (λ step. asked-as (λ calls it. rw c.in-Import.is (it c.args.trace.now.past))) c.import.ensures.imports
+
+pub returns-in-Join-clause-plays : goal.returns-in-Join-clause-plays
+returns-in-Join-clause-plays g c = if_ok-as c.join.result
+    (λ step it. record { calls = []; follows = rw c.in-Join.is (it c.args.trace.now.past _); asked = asks_none c.args.keeper.now; held = refl }) c.join.ensures.joins
+
+pub returns-in-Own-clause-plays : goal.returns-in-Own-clause-plays
+returns-in-Own-clause-plays g c = if_ok-as c.own.result (λ step. asked-as (λ calls it. rw c.in-Own.is (it c.args.trace.now.past))) c.own.ensures.owns
+
+pub returns-in-Draw-clause-plays : goal.returns-in-Draw-clause-plays
+returns-in-Draw-clause-plays g c = asked-as (λ calls it. rw c.in-Draw.is (it c.args.trace.now.past)) c.draw.ensures.draws
 
 pub returns-in-Crash-clause-plays : goal.returns-in-Crash-clause-plays
-returns-in-Crash-clause-plays g c = ([], rw c.in-Crash.is c.crash.ensures, asks_none c.args.keeper.now)
+returns-in-Crash-clause-plays g c = record {
+  calls = [];
+  follows = rw c.in-Crash.is (c.crash.ensures.crashes c.args.trace.now.past);
+  asked = asks_none c.args.keeper.now;
+  held = refl;
+}
 
-pub deliver-requires : goal.deliver-requires
-deliver-requires g c = λ datagram. arrives-short (datagrams_of c.args.trace.now.past) c.args.event.now datagram c.requires.short c.requires.fits
+pub returns-in-Send-clause-plays : goal.returns-in-Send-clause-plays
+returns-in-Send-clause-plays g c = if_ok-as c.send.result (λ step. asked-as (λ calls it. rw c.in-Send.is (it c.in-Send.payload (sym c.as_slice.ensures.value)))) c.send.ensures.sends
 
-pub deliver-requires-in-Alter : goal.deliver-requires-in-Alter
-deliver-requires-in-Alter g c = λ datagram. arrives-short (datagrams_of c.args.trace.now.past) c.args.event.now datagram c.requires.short c.requires.fits
+pub deliver-requires-clause-to : goal.deliver-requires-clause-to
+deliver-requires-clause-to g c = rw c.in-Deliver.is (_, refl)
 
-pub deliver-requires-in-Cut : goal.deliver-requires-in-Cut
-deliver-requires-in-Cut g c = λ datagram. arrives-short (datagrams_of c.args.trace.now.past) c.args.event.now datagram c.requires.short c.requires.fits
+pub deliver-requires-in-Alter-clause-to : goal.deliver-requires-in-Alter-clause-to
+deliver-requires-in-Alter-clause-to g c = rw c.in-Alter.is (_, refl)
+
+pub deliver-requires-in-Cut-clause-to : goal.deliver-requires-in-Cut-clause-to
+deliver-requires-in-Cut-clause-to g c = rw c.in-Cut.is (_, refl)
+
+pub deliver-requires-in-Inject-clause-to : goal.deliver-requires-in-Inject-clause-to
+deliver-requires-in-Inject-clause-to g c = rw c.in-Inject.is (_, refl)
+
+pub deliver-requires-clause-short : goal.deliver-requires-clause-short
+deliver-requires-clause-short g c = λ datagram. arrives-short (datagrams_of c.args.trace.now.past) c.args.event.now datagram c.requires.short c.requires.fits
+
+pub deliver-requires-in-Alter-clause-short : goal.deliver-requires-in-Alter-clause-short
+deliver-requires-in-Alter-clause-short g c = λ datagram. arrives-short (datagrams_of c.args.trace.now.past) c.args.event.now datagram c.requires.short c.requires.fits
+
+pub deliver-requires-in-Cut-clause-short : goal.deliver-requires-in-Cut-clause-short
+deliver-requires-in-Cut-clause-short g c = λ datagram. arrives-short (datagrams_of c.args.trace.now.past) c.args.event.now datagram c.requires.short c.requires.fits
+
+pub deliver-requires-in-Inject-clause-short : goal.deliver-requires-in-Inject-clause-short
+deliver-requires-in-Inject-clause-short g c = λ datagram. arrives-short (datagrams_of c.args.trace.now.past) c.args.event.now datagram c.requires.short c.requires.fits

@@ -1,13 +1,16 @@
 -- The peer sends, and nothing else changes.
-use Rattle.std.proofs.Common.{refl, ap, subst}
-use Rattle.turn_rules.specs.Slots.{PeerSends}
-use Rattle.run_ends.specs.Parties.{EndsHeld}
+use Rattle.std.proofs.Common.{ap, ◌∙◌, subst}
+use Rattle.turn_rules.specs.Slots.{PeerSends, slots_after}
+use Rattle.turn_rules.specs.Tasks as task
+use Rattle.run_ends.proofs.Plays.{peer_sends}
 use Rattle.run_ends.proofs.parties.Parties.send_as_peer.Goals as goal
+use Rattle.run_ends.specs.Parties.{EndsHeld}
 
 pub returns-clause-sends : goal.returns-clause-sends
-returns-clause-sends c = record {
-  slots = c.send_data.new.self.slots;
-  no_calls = refl;
-  acts = subst (λ (s : EndsHeld). PeerSends c.args.spir s.slots c.args.payload.now c.in_ok-step.step c.send_data.new.self.slots) c.self.view_is c.in_ok-step.ensures.sends;
-  leaves = ap (λ (s : EndsHeld). record s { slots = c.send_data.new.self.slots }) c.self.view_is;
-}
+returns-clause-sends c = λ past given room same.
+    let asked = task.Send c.args.spir c.args.payload.now in
+    let step = c.in_ok-step.step in
+    let slots = c.in_ok-step.ensures.after.slots ∙ ap (λ w. slots_after w asked step c.self.inside.peer.slots) c.self.invariant.1 ∙ ap (λ (s : EndsHeld). slots_after s.window asked step s.slots) c.self.view_is in
+    peer_sends past c.args.self.now c.requires.in_place step _ c.args.spir given c.args.payload.now same c.requires.size room
+    (subst (λ (s : EndsHeld). PeerSends c.args.spir s.slots c.args.payload.now step) c.self.view_is c.in_ok-step.ensures.sends)
+    (ap (λ (s : EndsHeld). record s { slots = c.send_data.new.self.slots }) c.self.view_is ∙ ap (λ later. record c.args.self.now { slots = later }) slots)

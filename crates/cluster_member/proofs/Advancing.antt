@@ -1,0 +1,174 @@
+-- What a holding is after a task, by the calls that were made and the step.
+use Rattle.std.proofs.Common.{◌≡◌, ℕ, ◌+◌, ◌==◌, max, false, Option, Some, None, List, [], refl, ap, sym, ◌∙◌, subst, arith, if◌then◌else◌, Result, Ok, Err}
+use Rattle.std.proofs.lemmas.Bool.{eq-eqb}
+use Rattle.events.specs.declared.turn.Step.{Step}
+use Rattle.events.specs.declared.verdict.EspVerdict.{EspVerdict}
+use Rattle.events.specs.declared.verdict.EspVerdict.TheVariants as esp
+use Rattle.events.specs.declared.verdict.Refusal.{Refusal}
+use Rattle.events.specs.declared.verdict.Verdict.TheVariants as out
+use Rattle.ha_base.specs.declared.esp_outcomes.EspDrop.{EspDrop}
+use Rattle.ha_base.specs.declared.esp_outcomes.EspOpened.{EspOpened}
+use Rattle.horizons.specs.declared.stop.Stop.{Stop}
+use Rattle.keeper_book.specs.Counters.{five_at}
+use Rattle.keeper_book.specs.declared.calls.Call.{Call}
+use Rattle.keeper_book.specs.declared.counters.Counter.{Counter}
+use Rattle.keeper_book.specs.declared.counters.Counter.TheVariants as counter
+use Rattle.turn_rules.proofs.Readies.{AreCovers, AreVain, none-vain, ready-elim, ready-map}
+use Rattle.turn_rules.proofs.Ties.{received-refused, used-receiving, used-refused}
+use Rattle.turn_rules.specs.Draws.{Draws, counter_name, refusal_of_stop}
+use Rattle.turn_rules.specs.Fits.{Quietly}
+use Rattle.turn_rules.specs.Held.{Held, accepted, advanced, after_number, after_received, five_of, grant_in, greatest, is_of_spir, received_in, used_in}
+use Rattle.turn_rules.specs.MemberPackets.{SendsData, TakesPacket, outbound_of}
+use Rattle.turn_rules.specs.Packets.{IsVerdictOf, Sends}
+use Rattle.turn_rules.specs.Steps.{Says}
+use Rattle.turn_rules.specs.Tasks as task
+use Rattle.turn_rules.specs.Tasks.{Task}
+use Rattle.cluster_member.specs.Uses.{DrawsNext, Notes, SendsNext, received_below, sent_below}
+
+-- its association is held as the turn makes it, and the turn makes nothing of others
+pub record Advances (old : Held) (asked : Task) (calls : List Call) (step : Step) (new : Held) : Type 0 where
+  pub no_grant : (spir : ℕ) → grant_in spir calls ≡ None
+  pub now : new ≡ advanced old.sa.spir asked calls step old
+  pub elsewhere : (spir : ℕ) → (old.sa.spir == spir) ≡ false → (held : Held) → advanced spir asked calls step held ≡ held
+
+module _ (asked : Task) (calls : List Call) (step : Step) where
+  -- a turn by which nothing was covered, used or received
+  pub unmoved : AreVain calls → ((spir : ℕ) (c : Counter) → used_in spir c asked step.verdict ≡ None) → ((spir : ℕ) → received_in spir asked step.verdict ≡ None)
+      → (spir : ℕ) (held : Held) → advanced spir asked calls step held ≡ held
+  unmoved vain unused unreceived spir held i = record held {
+    nexts = five_of (λ c. after_number (unused spir c i) (five_at held.nexts c));
+    highs = five_of (λ c. greatest (five_at held.highs c) (vain.no_cover spir c i));
+    window = after_received (unreceived spir i) held.window;
+  }
+
+  pub refused-unmoved : (why : Refusal) → AreVain calls → step.verdict ≡ out.Refused why → (spir : ℕ) (held : Held) → advanced spir asked calls step held ≡ held
+  refused-unmoved why vain said = unmoved vain (λ spir c. ap (used_in spir c asked) said ∙ used-refused spir c asked why) (λ spir. ap (received_in spir asked) said ∙ received-refused spir asked why)
+
+  module _ (held now : Held) where
+    vain-advances : AreVain calls → ((spir : ℕ) (other : Held) → advanced spir asked calls step other ≡ other) → now ≡ held → Advances held asked calls step now
+    vain-advances vain stays same = record {
+      no_grant = vain.no_grant;
+      now = same ∙ sym (stays held.sa.spir held);
+      elsewhere = λ spir other. stays spir;
+    }
+
+    refused-advances : (why : Refusal) → AreVain calls → step.verdict ≡ out.Refused why → now ≡ held → Advances held asked calls step now
+    refused-advances why vain said = vain-advances vain (refused-unmoved why vain said)
+
+    -- the next ESP number was used
+    number-advances : (high : ℕ) → AreCovers held counter.EspOut calls high → ((spir : ℕ) → used_in spir counter.EspOut asked step.verdict ≡ (if held.sa.spir == spir then Some held.nexts.esp_out else None))
+        → ((spir : ℕ) → received_in spir asked step.verdict ≡ None) → now ≡ sent_below high held → Advances held asked calls step now
+    number-advances high covers uses unreceived same = record {
+      no_grant = covers.no_grant;
+      now = same ∙ sym (λ i. record held {
+        nexts = record held.nexts { esp_out = own_next i };
+        highs = covers.here i;
+        window = after_received (unreceived held.sa.spir i) held.window;
+      });
+      elsewhere = λ spir other there i. record there {
+        nexts = record there.nexts { esp_out = after_number (unused spir other i) there.nexts.esp_out };
+        highs = five_of (λ c. greatest (five_at there.highs c) (covers.elsewhere spir other c i));
+        window = after_received (unreceived spir i) there.window;
+      };
+    }
+      where
+        unused : (spir : ℕ) → (held.sa.spir == spir) ≡ false → used_in spir counter.EspOut asked step.verdict ≡ None
+        unused spir other = uses spir ∙ ap (λ b. if b then Some held.nexts.esp_out else None) other
+
+        own_next : after_number (used_in held.sa.spir counter.EspOut asked step.verdict) held.nexts.esp_out ≡ held.nexts.esp_out + 1
+        own_next =
+            let more : max (held.nexts.esp_out + 1) held.nexts.esp_out ≡ held.nexts.esp_out + 1 = omega arith in
+            ap (λ n. after_number n held.nexts.esp_out) (uses held.sa.spir ∙ ap (λ b. if b then Some held.nexts.esp_out else None) (eq-eqb held.sa.spir held.sa.spir refl)) ∙ more
+
+-- the number of a packet was noted
+packet-advances : (calls : List Call) (step : Step) (held now : Held) (number high : ℕ) → AreCovers held counter.EspIn calls high
+    → ((spir : ℕ) → accepted spir step.verdict ≡ (if held.sa.spir == spir then Some number else None)) → now ≡ received_below number high held → Advances held task.Receive calls step now
+packet-advances calls step held now number high covers takes same = record {
+  no_grant = covers.no_grant;
+  now = same ∙ sym (λ i. record held {
+    nexts = five_of (λ c. after_number (used-receiving held.sa.spir c step.verdict i) (five_at held.nexts c));
+    highs = covers.here i;
+    window = after_received (here i) held.window;
+  });
+  elsewhere = λ spir other there i. record there {
+    nexts = five_of (λ c. after_number (used-receiving spir c step.verdict i) (five_at there.nexts c));
+    highs = five_of (λ c. greatest (five_at there.highs c) (covers.elsewhere spir other c i));
+    window = after_received (none spir other i) there.window;
+  };
+}
+  where
+    here : accepted held.sa.spir step.verdict ≡ Some number
+    here = takes held.sa.spir ∙ ap (λ b. if b then Some number else None) (eq-eqb held.sa.spir held.sa.spir refl)
+
+    none : (spir : ℕ) → (held.sa.spir == spir) ≡ false → accepted spir step.verdict ≡ None
+    none spir other = takes spir ∙ ap (λ b. if b then Some number else None) other
+
+module _ (held now : Held) (calls : List Call) (step : Step) where
+  abbrev next : ℕ
+  next = five_at held.nexts counter.EspOut
+
+  abbrev Stops : Stop → List Call → Type 0
+  Stops why rest = (rest ≡ []) × Says (out.Refused (refusal_of_stop why)) step × (now ≡ held)
+
+  -- a draw is one by the rule
+  abbrev Draws_it : ℕ → List Call → Type 0
+  Draws_it high rest = (rest ≡ []) × Says (out.Number next) step × (now ≡ sent_below high held)
+
+  pub draws-rule : DrawsNext held calls step now → Quietly (Draws held) calls step
+  draws-rule draws = record {
+    follows = ready-map {P = Stops} {G = Draws_it} (λ why rest s. record { no_more = s.0; said = s.1.said }) (λ high rest g. record { no_more = g.0; said = g.1.said }) _ _ calls draws;
+    quiet = ready-elim held counter.EspOut next Stops Draws_it (λ why rest s. s.0) (λ high rest g. g.0) calls (λ why rest vain s. s.1.quiet) (λ high rest covers g. g.1.quiet) draws;
+  }
+
+  pub draws-advances : DrawsNext held calls step now → Advances held (task.Draw held.sa.spir) calls step now
+  draws-advances draws = ready-elim held counter.EspOut next Stops Draws_it (λ why rest s. s.0) (λ high rest g. g.0) calls
+      (λ why rest vain s. refused-advances (task.Draw held.sa.spir) calls step held now (refusal_of_stop why) vain s.1.said s.2)
+      (λ high rest covers g. number-advances (task.Draw held.sa.spir) calls step held now high covers
+      (λ spir. ap (used_in spir counter.EspOut (task.Draw held.sa.spir)) g.1.said) (λ spir. refl) g.2)
+      draws
+
+  module _ (payload : List ℕ) where
+    abbrev Sends_it : ℕ → List Call → Type 0
+    Sends_it high rest = (rest ≡ []) × Sends (outbound_of held) next payload step × (now ≡ sent_below high held)
+
+    pub sends-rule : SendsNext held payload calls step now → SendsData held payload calls step
+    sends-rule sends = ready-map {P = Stops} {G = Sends_it} (λ why rest s. (s.0, s.1)) (λ high rest g. (g.0, g.1)) _ _ calls sends
+
+    pub sends-advances : SendsNext held payload calls step now → Advances held (task.Send held.sa.spir payload) calls step now
+    sends-advances sends = ready-elim held counter.EspOut next Stops Sends_it (λ why rest s. s.0) (λ high rest g. g.0) calls
+        (λ why rest vain s. refused-advances (task.Send held.sa.spir payload) calls step held now (refusal_of_stop why) vain s.1.said s.2)
+        (λ high rest covers g. number-advances (task.Send held.sa.spir payload) calls step held now high covers
+        (λ spir. ap (used_in spir counter.EspOut (task.Send held.sa.spir payload)) g.1.said) (λ spir. refl) g.2)
+        sends
+
+module _ (held now : Held) (calls : List Call) (answer : EspVerdict) where
+  abbrev Halts : Stop → List Call → Type 0
+  Halts why rest = (rest ≡ []) × (answer ≡ esp.Refused (refusal_of_stop why)) × (now ≡ held)
+
+  abbrev Takes_it : EspOpened → ℕ → List Call → Type 0
+  Takes_it packet high rest = (rest ≡ []) × (answer ≡ esp.Accepted (counter_name held.sa counter.EspIn) packet) × (now ≡ received_below packet.number high held)
+
+  -- a packet is taken by the rule
+  pub notes-rule : (opened : Result EspOpened EspDrop) → Notes held opened calls answer now → TakesPacket held opened calls answer
+  notes-rule (Err why) notes = (notes.0, notes.1)
+  notes-rule (Ok packet) notes = ready-map {P = Halts} {G = Takes_it packet} (λ why rest s. (s.0, s.1)) (λ high rest g. (g.0, g.1)) _ _ calls notes
+
+  module _ (after : List ℕ) (step : Step) (worded : IsVerdictOf answer after step.verdict) where
+    as_said : (said : EspVerdict) → answer ≡ said → IsVerdictOf said after step.verdict
+    as_said said e = subst (λ a. IsVerdictOf a after step.verdict) e worded
+
+    takes_number : (packet : EspOpened) → answer ≡ esp.Accepted (counter_name held.sa counter.EspIn) packet → (spir : ℕ) → accepted spir step.verdict ≡ (if held.sa.spir == spir then Some packet.number else None)
+    takes_number packet e spir =
+        ap (accepted spir) (as_said (esp.Accepted (counter_name held.sa counter.EspIn) packet) e).2
+        ∙ ap (λ (x : Option ℕ). if is_of_spir spir x then Some packet.number else None) held.sa.origin_is_own
+
+    pub notes-advances : (opened : Result EspOpened EspDrop) → Notes held opened calls answer now → Advances held task.Receive calls step now
+    notes-advances (Err why) notes =
+        let said : step.verdict ≡ out.DroppedEsp why = as_said (esp.Dropped why) notes.1 in
+        let vain : AreVain calls = none-vain calls notes.0 in
+        vain-advances task.Receive calls step held now vain
+        (unmoved task.Receive calls step vain (λ spir c. used-receiving spir c step.verdict) (λ spir. ap (accepted spir) said)) notes.2
+    notes-advances (Ok packet) notes = ready-elim held counter.EspIn packet.number Halts (Takes_it packet) (λ why rest s. s.0) (λ high rest g. g.0) calls
+        (λ why rest vain s. refused-advances task.Receive calls step held now (refusal_of_stop why) vain (as_said (esp.Refused (refusal_of_stop why)) s.1) s.2)
+        (λ high rest covers g. packet-advances calls step held now packet.number high covers (takes_number packet g.1) g.2)
+        notes

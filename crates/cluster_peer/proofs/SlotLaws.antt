@@ -1,0 +1,145 @@
+-- What the peer holds after a task, by what one of its associations is then.
+use Rattle.std.proofs.Common.{◌≡◌, ℕ, zero, suc, ◌+◌, ◌^◌, ◌<◌, ◌≤◌, ◌==◌, max, true, Option, Some, None, Result, Ok, Err, List, [], ◌∷◌, ◌++◌, map, length, get_or, append-nil, ⊎_elim, refl, ap, ap₂, sym, ◌∙◌, subst, arith, if◌then◌else◌}
+use Rattle.std.proofs.Math.ListN.{set}
+use Rattle.std.proofs.lemmas.Bool.{cases_lt, eq-eqb, ne_eqb}
+use Rattle.std.specs.List.{AllByRecursion}
+use Rattle.events.specs.declared.turn.Step.{Step}
+use Rattle.events.specs.declared.verdict.EspVerdict.{EspVerdict}
+use Rattle.events.specs.declared.verdict.EspVerdict.TheVariants as esp
+use Rattle.events.specs.declared.verdict.Refusal.{Refusal}
+use Rattle.events.specs.declared.verdict.Refusal.TheVariants as refusal
+use Rattle.events.specs.declared.verdict.Verdict.TheVariants as out
+use Rattle.ha_base.specs.declared.esp_outcomes.EspDrop.{EspDrop}
+use Rattle.ha_base.specs.declared.esp_outcomes.EspOpened.{EspOpened}
+use Rattle.keeper_book.specs.declared.counters.Counter.TheVariants as counter
+use Rattle.keeper_book.specs.declared.records.Record.{Record}
+use Rattle.turn_rules.proofs.SlotTies.{admits-differ, apart-append}
+use Rattle.turn_rules.proofs.Ties.{received-refused, used-refused}
+use Rattle.turn_rules.specs.Held.{accepted, after_number, after_received, is_of_spir, received_in, used_in}
+use Rattle.turn_rules.specs.Packets.{IsVerdictOf}
+use Rattle.turn_rules.specs.Peers.{AreDistinct, Differ, admits}
+use Rattle.turn_rules.specs.Slots.{Slot, SlotReceives, SlotSends, SlotTakes, entered_slot, peer_counter, records, slot_after}
+use Rattle.turn_rules.specs.Tasks as task
+use Rattle.turn_rules.specs.Tasks.{Task}
+use Rattle.cluster_peer.specs.Slots.{slot_noted}
+
+differ-sym : (a b : Record) → Differ a b → Differ b a
+differ-sym a b differ = record { spir = λ same. differ.spir (sym same); spi_out = λ same. differ.spi_out (sym same) }
+
+all-at : (sa : Record) (place : ℕ) (slots : List Slot) (slot : Slot) → place < length slots → slot ≡ get_or slots place slot → AllByRecursion (Differ sa) (records slots) → Differ sa slot.sa
+all-at sa place [] slot within is all = absurd (omega arith)
+all-at sa zero (x ∷ xs) slot within is all = subst (λ (s : Slot). Differ sa s.sa) (sym is) all.0
+all-at sa (suc place) (x ∷ xs) slot within is all = all-at sa place xs slot (omega arith) is all.1
+
+-- another state of the same association, in its place
+pub records-set : (place : ℕ) (slots : List Slot) (slot now : Slot) → place < length slots → slot ≡ get_or slots place slot → now.sa ≡ slot.sa → records (set slots place now) ≡ records slots
+records-set place [] slot now within is same = absurd (omega arith)
+records-set zero (x ∷ xs) slot now within is same = ap (λ sa. sa ∷ records xs) (same ∙ ap (λ (s : Slot). s.sa) is)
+records-set (suc place) (x ∷ xs) slot now within is same = ap (λ rest. x.sa ∷ rest) (records-set place xs slot now (omega arith) is same)
+
+pub distinct-set : (place : ℕ) (slots : List Slot) (slot now : Slot) → place < length slots → slot ≡ get_or slots place slot → now.sa ≡ slot.sa → AreDistinct (records slots) → AreDistinct (records (set slots place now))
+distinct-set place slots slot now within is same apart = subst AreDistinct (sym (records-set place slots slot now within is same)) apart
+
+records-append : (slots : List Slot) (slot : Slot) → records (slots ++ slot ∷ []) ≡ records slots ++ slot.sa ∷ []
+records-append [] slot = refl
+records-append (x ∷ xs) slot = ap (λ rest. x.sa ∷ rest) (records-append xs slot)
+
+-- an association that is admitted
+pub distinct-more : (slots : List Slot) (size : ℕ) (sa : Record) → admits (records slots) sa ≡ true → AreDistinct (records slots) → AreDistinct (records (slots ++ entered_slot size sa ∷ []))
+distinct-more slots size sa admitted apart =
+    subst AreDistinct (sym (records-append slots (entered_slot size sa))) (apart-append (records slots) sa apart (admits-differ (records slots) sa admitted))
+
+module _ (f : Slot → Slot) where
+  -- a change that leaves these slots
+  pub kept_all : (slots : List Slot) → ((slot : Slot) → slot ≡ f slot) → slots ≡ map f slots
+  kept_all [] kept = refl
+  kept_all (s ∷ ss) kept = ap₂ (λ slot slots. slot ∷ slots) (kept s) (kept_all ss kept)
+
+  kept_others : (sa : Record) (slots : List Slot) → ((slot : Slot) → Differ sa slot.sa → slot ≡ f slot) → AllByRecursion (Differ sa) (records slots) → slots ≡ map f slots
+  kept_others sa [] kept differ = refl
+  kept_others sa (s ∷ ss) kept differ = ap₂ (λ slot slots. slot ∷ slots) (kept s differ.0) (kept_others sa ss kept differ.1)
+
+  -- one slot becomes another, and the change leaves the others
+  put : (place : ℕ) (slots : List Slot) (slot now : Slot) → place < length slots → slot ≡ get_or slots place slot → AreDistinct (records slots) → now ≡ f slot
+      → ((other : Slot) → Differ slot.sa other.sa → other ≡ f other) → set slots place now ≡ map f slots
+  put place [] slot now within is apart now_is kept = absurd (omega arith)
+  put zero (x ∷ xs) slot now within is apart now_is kept =
+      ap₂ (λ slot slots. slot ∷ slots) (now_is ∙ ap f is) (kept_others x.sa xs (λ other differ. kept other (subst (λ (s : Slot). Differ s.sa other.sa) (sym is) differ)) apart.0)
+  put (suc place) (x ∷ xs) slot now within is apart now_is kept =
+      ap₂ (λ slot slots. slot ∷ slots) (kept x (differ-sym x.sa slot.sa (all-at x.sa place xs slot (omega arith) is apart.0))) (put place xs slot now (omega arith) is apart.1 now_is kept)
+
+module _ (asked : Task) (step : Step) where
+  -- a turn by which nothing was sent or received leaves a slot
+  slot-kept : (slot : Slot) → used_in slot.sa.spir counter.EspOut asked step.verdict ≡ None → received_in slot.sa.spir asked step.verdict ≡ None → slot ≡ slot_after asked step slot
+  slot-kept slot unused unreceived i = record {
+    sa = slot.sa;
+    next = after_number (sym unused i) slot.next;
+    window = after_received (sym unreceived i) slot.window;
+  }
+
+  pub refused-kept : (why : Refusal) → step.verdict ≡ out.Refused why → (slot : Slot) → slot ≡ slot_after asked step slot
+  refused-kept why said slot = slot-kept slot
+      (ap (used_in slot.sa.spir counter.EspOut asked) said ∙ used-refused slot.sa.spir counter.EspOut asked why)
+      (ap (received_in slot.sa.spir asked) said ∙ received-refused slot.sa.spir asked why)
+
+module _ (spir : ℕ) (payload : List ℕ) (step : Step) (place : ℕ) (slots : List Slot) (slot now : Slot) (within : place < length slots) (is : slot ≡ get_or slots place slot) (apart : AreDistinct (records slots)) where
+  -- what the peer holds after it sent in an association
+  pub sent-after : slot.sa.spir ≡ spir → SlotSends slot payload step → (slot.next < 2 ^ 63 → now ≡ record slot { next = slot.next + 1 }) → (2 ^ 63 ≤ slot.next → now ≡ slot)
+      → set slots place now ≡ map (slot_after (task.Send spir payload) step) slots
+  sent-after its sends goes stays = ⊎_elim went stopped (cases_lt slot.next (2 ^ 63))
+    where
+      asked : Task
+      asked = task.Send spir payload
+
+      went : slot.next < 2 ^ 63 → set slots place now ≡ map (slot_after (task.Send spir payload) step) slots
+      went below =
+          let said = (sends.within below).said in
+          let here : used_in slot.sa.spir counter.EspOut (task.Send spir payload) step.verdict ≡ Some slot.next =
+          ap (used_in slot.sa.spir counter.EspOut (task.Send spir payload)) said ∙ ap (λ b. if b then Some slot.next else None) (eq-eqb spir slot.sa.spir (sym its)) in
+          let more : slot.next + 1 ≡ max (slot.next + 1) slot.next = omega arith in
+          put (slot_after (task.Send spir payload) step) place slots slot now within is apart
+          (goes below ∙ (λ i. record slot { next = more i }) ∙ (λ i. record slot { next = after_number (sym here i) slot.next }))
+          (λ other differ. slot-kept (task.Send spir payload) step other
+          (ap (used_in other.sa.spir counter.EspOut (task.Send spir payload)) said ∙ ap (λ b. if b then Some slot.next else None) (ne_eqb spir other.sa.spir (λ same. differ.spir (its ∙ same)))) refl)
+
+      stopped : 2 ^ 63 ≤ slot.next → set slots place now ≡ map (slot_after (task.Send spir payload) step) slots
+      stopped above =
+          let kept : (any : Slot) → any ≡ slot_after (task.Send spir payload) step any = refused-kept (task.Send spir payload) step refusal.Exhausted (sends.ended above).said in
+          put (slot_after (task.Send spir payload) step) place slots slot now within is apart (stays above ∙ kept slot) (λ other differ. kept other)
+
+module _ (answer : EspVerdict) (after : List ℕ) (step : Step) (worded : IsVerdictOf answer after step.verdict) where
+  -- a packet that is dropped leaves a slot
+  pub dropped-kept : (why : EspDrop) → answer ≡ esp.Dropped why → (slot : Slot) → slot ≡ slot_after task.Receive step slot
+  dropped-kept why e slot =
+      let said : step.verdict ≡ out.DroppedEsp why = subst (λ a. IsVerdictOf a after step.verdict) e worded in
+      slot-kept task.Receive step slot refl (ap (accepted slot.sa.spir) said)
+
+  module _ (place : ℕ) (slots : List Slot) (slot now : Slot) (within : place < length slots) (is : slot ≡ get_or slots place slot) (apart : AreDistinct (records slots)) (noted : now ≡ slot_noted answer slot) where
+    -- what the peer holds after an association answered a packet
+    received-after : (opened : Result EspOpened EspDrop) → SlotTakes slot opened answer → set slots place now ≡ map (slot_after task.Receive step) slots
+    received-after (Err why) takes =
+        put (slot_after task.Receive step) place slots slot now within is apart
+        (noted ∙ ap (λ a. slot_noted a slot) takes ∙ dropped-kept why takes slot)
+        (λ other differ. dropped-kept why takes other)
+    received-after (Ok packet) takes =
+        put (slot_after task.Receive step) place slots slot now within is apart
+        (noted ∙ ap (λ a. slot_noted a slot) takes ∙ (λ i. record slot { window = after_received (sym here i) slot.window }))
+        (λ other differ. slot-kept task.Receive step other refl (any other ∙ ap (λ b. if b then Some packet.number else None) (ne_eqb slot.sa.spir other.sa.spir differ.spir)))
+      where
+        as_said : IsVerdictOf (esp.Accepted (peer_counter slot.sa counter.EspIn) packet) after step.verdict
+        as_said = subst (λ a. IsVerdictOf a after step.verdict) takes worded
+
+        any : (other : Slot) → accepted other.sa.spir step.verdict ≡ (if slot.sa.spir == other.sa.spir then Some packet.number else None)
+        any other =
+            ap (accepted other.sa.spir) as_said.2
+            ∙ ap (λ (x : Option ℕ). if is_of_spir other.sa.spir x then Some packet.number else None) slot.sa.origin_is_own
+
+        here : accepted slot.sa.spir step.verdict ≡ Some packet.number
+        here = any slot ∙ ap (λ b. if b then Some packet.number else None) (eq-eqb slot.sa.spir slot.sa.spir refl)
+
+    pub packet-after : (octets : List ℕ) → SlotReceives slot octets answer after → set slots place now ≡ map (slot_after task.Receive step) slots
+    packet-after octets receives = received-after receives.opened receives.takes
+
+-- what is sent or received lets no association in
+pub no-entry : (slots : List Slot) → slots ++ [] ≡ slots
+no-entry slots = append-nil slots

@@ -1,0 +1,26 @@
+-- A member that is up ends.
+use Rattle.std.proofs.Common.{◌≡◌, false, List, Option, None, Some, refl, ap, rules}
+use Rattle.std.proofs.Math.ListN.{set}
+use Rattle.std.specs.Prelude.{is_none}
+use Rattle.events.specs.declared.verdict.Verdict.TheVariants as out
+use Rattle.cluster_member.specs.Members.{Holder}
+use Rattle.turn_rules.specs.Steps.{Says}
+use Rattle.run_ends.proofs.Plays.{crashes}
+use Rattle.run_ends.proofs.parties.Parties.crash.Goals as goal
+use Rattle.run_ends.specs.Parties.{EndsHeld}
+
+some-is : (x : Option Holder) → is_none x ≡ false → (was : Holder) × (x ≡ Some was)
+some-is None e = absurd (cc)
+some-is (Some was) e = (was, refl)
+
+pub returns : goal.returns
+returns c = record {
+  crashes = λ past.
+      let members : List (Option Holder) = c.self.inside.members.items in
+      let members_are : members ≡ c.args.self.now.members = ap (λ (s : EndsHeld). s.members) c.self.view_is in
+      let says : Says out.Down c.quiet.result = record { said = c.quiet.ensures.verdict; quiet = record { served = c.quiet.ensures.served; seals = c.quiet.ensures.seals; gives = c.quiet.ensures.gives } } in
+      let up : is_none c.index.result.now ≡ false = search rules in
+      let was = some-is c.index.result.now up in
+      crashes past c.args.self.now c.args.member c.in-Some.place c.index.result.now c.requires.in_place c.in-Some.ensures (rw members_are at c.index.ensures) was.0 was.1 c.quiet.result says _
+      (ap (λ (v : EndsHeld). record v { members = set v.members c.in-Some.place None }) c.self.view_is);
+}

@@ -1,0 +1,89 @@
+-- What the run itself refuses, and what it does not.
+use Rattle.std.proofs.Common.{◌≡◌, ℕ, ◌&&◌, ◌||◌, Bool, true, false, not, Option, Some, None, Result, Ok, Err, List, refl, ap, sym, ◌∙◌, subst}
+use Rattle.std.specs.Prelude.{nat_le, length}
+use Rattle.std.proofs.lemmas.Option.{same_Some}
+use Rattle.events.specs.declared.event.Event.{Event}
+use Rattle.events.specs.declared.event.Event.TheVariants as event
+use Rattle.events.specs.declared.turn.Medium.{Medium}
+use Rattle.events.specs.declared.turn.Medium.TheVariants as medium
+use Rattle.events.specs.declared.verdict.Refusal.{Refusal}
+use Rattle.events.specs.declared.verdict.Refusal.TheVariants as refusal
+use Rattle.turn_rules.specs.Datagrams.{MAX_DATAGRAMS, PlainDatagram, altered, changed, cut, datagram_at}
+use Rattle.turn_rules.specs.Ends.{is_of_run}
+use Rattle.turn_rules.specs.Fits.{MAX_MEMBERS, has_joined, is_importable, is_of_datagrams, named_in, refused_absent, refused_arrival, refused_besides, refused_medium, refused_where, run_refusal}
+use Rattle.turn_rules.specs.States.{RunState}
+
+abbrev AreOfRun : Option Refusal → Type 0
+AreOfRun x = (why : Refusal) → x ≡ Some why → is_of_run why ≡ true
+
+where-run : (test : Bool) (why : Refusal) (otherwise : Option Refusal) → is_of_run why ≡ true → AreOfRun otherwise → AreOfRun (refused_where test why otherwise)
+where-run true why otherwise own others is e = subst (λ r. is_of_run r ≡ true) (same_Some why is e) own
+where-run false why otherwise own others is e = others is e
+
+none-run : AreOfRun None
+none-run why e = absurd (cc)
+
+abbrev Found : Type 0
+Found = Result PlainDatagram Refusal
+
+changed-run : (given : Option PlainDatagram) (change : List ℕ → Option (List ℕ)) (why : Refusal) → changed given change ≡ Err why → is_of_run why ≡ true
+changed-run None change why e = ap err_run (sym e)
+  where
+    err_run : Found → Bool
+    err_run (Ok datagram) = true
+    err_run (Err why) = is_of_run why
+changed-run (Some given) change why e = go (change given.octets) refl
+  where
+    err_run : Found → Bool
+    err_run (Ok datagram) = true
+    err_run (Err why) = is_of_run why
+
+    go : (made : Option (List ℕ)) → change given.octets ≡ made → is_of_run why ≡ true
+    go None m = let is : changed (Some given) change ≡ Err refusal.NoOctet = rw m in ap err_run (sym e ∙ is)
+    go (Some made) m = let is : changed (Some given) change ≡ Ok (record { medium = given.medium; octets = made }) = rw m in ap err_run (sym e ∙ is)
+
+medium-run : (m : Medium) → AreOfRun (refused_medium m)
+medium-run medium.Ike why e = subst (λ r. is_of_run r ≡ true) (same_Some refusal.NotBuilt why e) refl
+medium-run medium.Esp why e = absurd (cc)
+
+arrival-run : (found : Found) → ((why : Refusal) → found ≡ Err why → is_of_run why ≡ true) → AreOfRun (refused_arrival found)
+arrival-run (Err why) own is e = subst (λ r. is_of_run r ≡ true) (same_Some why is e) (own why refl)
+arrival-run (Ok datagram) own is e = medium-run datagram.medium is e
+
+absent-run : (state : RunState) (member : Option ℕ) (otherwise : Option Refusal) → AreOfRun otherwise → AreOfRun (refused_absent state member otherwise)
+absent-run state None otherwise others = others
+absent-run state (Some member) otherwise others =
+    where-run (not (has_joined member state)) refusal.NoMember (refused_where (state.ended member) refusal.Down otherwise) refl
+    (where-run (state.ended member) refusal.Down otherwise refl others)
+
+besides-run : (state : RunState) (event : Event) → AreOfRun (refused_besides state event)
+besides-run state (event.Cluster identity lifetime window ticket_key) = where-run state.started refusal.Late None refl none-run
+besides-run state (event.Import sa) = where-run (not (is_importable sa)) refusal.SpiRange None refl none-run
+besides-run state (event.Join fresh) = where-run (nat_le MAX_MEMBERS state.joined || nat_le state.boxes state.joined) (refusal.NoRoom state.joined) None refl none-run
+besides-run state (event.Deliver which to) = arrival-run (changed (datagram_at which state.datagrams) Some) (changed-run (datagram_at which state.datagrams) Some)
+besides-run state (event.Alter which to place octet) = arrival-run (changed (datagram_at which state.datagrams) (altered place octet)) (changed-run (datagram_at which state.datagrams) (altered place octet))
+besides-run state (event.Cut which to keep) = arrival-run (changed (datagram_at which state.datagrams) (cut keep)) (changed-run (datagram_at which state.datagrams) (cut keep))
+besides-run state (event.Inject to medium octets) = medium-run medium
+besides-run state event = none-run
+
+-- the run refuses with refusals of its own
+pub refusal-of_run : (state : RunState) (event : Event) (why : Refusal) → run_refusal state event ≡ Some why → is_of_run why ≡ true
+refusal-of_run state event = where-run (is_of_datagrams event && nat_le MAX_DATAGRAMS (length state.datagrams)) refusal.DatagramsFull
+    (refused_absent state (named_in event) (refused_besides state event)) refl (absent-run state (named_in event) (refused_besides state event) (besides-run state event))
+
+where-none : (test : Bool) (why : Refusal) (otherwise : Option Refusal) → refused_where test why otherwise ≡ None → (test ≡ false) × (otherwise ≡ None)
+where-none true why otherwise e = absurd (cc)
+where-none false why otherwise e = (refl, e)
+
+not-false : (b : Bool) → not b ≡ false → b ≡ true
+not-false true e = refl
+not-false false e = absurd (cc)
+
+-- where it does not refuse an event, the member that is named joined and did not end
+pub named-present : (state : RunState) (event : Event) (member : ℕ) → run_refusal state event ≡ None → named_in event ≡ Some member → (has_joined member state ≡ true) × (state.ended member ≡ false)
+named-present state event member none named =
+    let room = where-none (is_of_datagrams event && nat_le MAX_DATAGRAMS (length state.datagrams)) refusal.DatagramsFull (refused_absent state (named_in event) (refused_besides state event)) none in
+    let absent : refused_absent state (Some member) (refused_besides state event) ≡ None = subst (λ m. refused_absent state m (refused_besides state event) ≡ None) named room.1 in
+    let joined = where-none (not (has_joined member state)) refusal.NoMember (refused_where (state.ended member) refusal.Down (refused_besides state event)) absent in
+    let up = where-none (state.ended member) refusal.Down (refused_besides state event) joined.1 in
+    (not-false (has_joined member state) joined.0, up.0)

@@ -1,0 +1,33 @@
+-- What an event asks of the end that performs it, whoever that is.
+use Rattle.std.specs.Prelude.{ℕ, Option, Some, None, List}
+use Rattle.events.specs.declared.event.Event.{Event}
+use Rattle.events.specs.declared.event.Event.TheVariants as event
+use Rattle.events.specs.declared.event.Party.TheVariants as parties
+use Rattle.keeper_book.specs.declared.records.Record.{Record}
+use Rattle.turn_rules.specs.Datagrams.{Delivery, delivery_of}
+
+pub data Task : Type 0 where
+  Nothing : Task
+  Enter : (sa : Record) → Task
+  TakeOver : (spir : ℕ) → Task
+  Draw : (spir : ℕ) → Task
+  Send : (spir : ℕ) → (payload : List ℕ) → Task
+  Receive : Task
+
+-- whoever a delivery comes to receives it
+abbrev pub receipt : Option Delivery → Task
+receipt None = Nothing
+receipt (Some delivery) = Receive
+
+-- what a member is asked
+abbrev pub member_task : Event → Task
+member_task (event.Own member spir) = TakeOver spir
+member_task (event.Draw member spir) = Draw spir
+member_task (event.Send (parties.Member member) spir payload) = Send spir payload.octets
+member_task event = receipt (delivery_of event)
+
+-- and what the peer is asked
+abbrev pub peer_task : Event → Task
+peer_task (event.Import sa) = Enter sa
+peer_task (event.Send parties.Peer spir payload) = Send spir payload.octets
+peer_task event = receipt (delivery_of event)
