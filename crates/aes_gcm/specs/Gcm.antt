@@ -30,8 +30,8 @@ unfoldable pub block_count : ℕ → ℕ
 block_count n = (n + 15) / 16
 
 -- octets followed by as many zeros as complete their last block
-unfoldable pub padded : List ℕ → List ℕ
-padded xs = xs ++ replicate (16 * block_count (length xs) - length xs) 0
+unfoldable pub padded_to_blocks : List ℕ → List ℕ
+padded_to_blocks xs = xs ++ replicate (16 * block_count (length xs) - length xs) 0
 
 -- the first n blocks hashed onto y under the hash subkey h
 unfoldable pub hashed_from : ℕ → ℕ → List ℕ → ℕ → ℕ
@@ -62,7 +62,7 @@ hash_subkey f = element (f (replicate 16 0))
 -- what the tag hashes: the associated data, the ciphertext and their lengths in bits
 unfoldable pub hashed_text : List ℕ → List ℕ → List ℕ
 hashed_text aad ciphertext =
-    padded aad ++ padded ciphertext ++ (to_be_bytes w64 (8 * length aad) ++ to_be_bytes w64 (8 * length ciphertext))
+    padded_to_blocks aad ++ padded_to_blocks ciphertext ++ (to_be_bytes w64 (8 * length aad) ++ to_be_bytes w64 (8 * length ciphertext))
 
 -- the tag of a ciphertext (SP 800-38D, 7.1)
 unfoldable pub tag_under : (List ℕ → List ℕ) → List ℕ → List ℕ → List ℕ → List ℕ

@@ -4,7 +4,7 @@
 ghost use Rattle.std.specs.Prelude.{◌≡◌, ◌*◌, ◌/◌, ◌%◌, ◌^◌, ◌<◌, ◌≤◌, ◌++◌, ◌∷◌, [], slice_index};
 ghost use Rattle.std.specs.Int.{w32, to_le_bytes};
 ghost use Rattle.aes_gcm.specs.Aes.{cipher, mix_column, mix_columns, round_key, shift_rows, sub_byte, sub_bytes, word, xored};
-ghost use Rattle.aes_gcm.specs.Columns.{octets_of};
+ghost use Rattle.aes_gcm.specs.Columns.{column_octets};
 
 use crate::cipher::S_BOX;
 use crate::rows::{ROW_0, ROW_1, ROW_2, ROW_3};
@@ -26,7 +26,7 @@ fn key_word(words: &[u8; 240], i: usize) -> u32
 /// The columns of a block.
 #[inline(always)]
 fn load(block: &[u8; 16]) -> [u32; 4]
-    ensures { octets_of result ≡ block.now }
+    ensures { column_octets result ≡ block.now }
 {
     [
         u32::from_le_bytes([block[0], block[1], block[2], block[3]]),
@@ -40,7 +40,7 @@ fn load(block: &[u8; 16]) -> [u32; 4]
 #[inline(always)]
 fn add_round_key(s: &[u32; 4], round_keys: &[u8; 240], round: usize) -> [u32; 4]
     requires { round ≤ 14 }
-    ensures { octets_of result ≡ xored (octets_of s.now) (round_key round_keys.now round) }
+    ensures { column_octets result ≡ xored (column_octets s.now) (round_key round_keys.now round) }
 {
     [
         s[0] ^ key_word(round_keys, 4 * round),
@@ -65,7 +65,7 @@ fn mixed_column(a: u32, b: u32, c: u32, d: u32) -> u32
 #[inline(always)]
 fn middle_round(s: &[u32; 4], round_keys: &[u8; 240], round: usize) -> [u32; 4]
     requires { round ≤ 14 }
-    ensures { octets_of result ≡ xored (mix_columns (shift_rows (sub_bytes (octets_of s.now)))) (round_key round_keys.now round) }
+    ensures { column_octets result ≡ xored (mix_columns (shift_rows (sub_bytes (column_octets s.now)))) (round_key round_keys.now round) }
 {
     let mixed = [
         mixed_column(s[0], s[1], s[2], s[3]),
@@ -92,7 +92,7 @@ fn column(a: u32, b: u32, c: u32, d: u32) -> u32
 #[inline(always)]
 fn last_round(s: &[u32; 4], round_keys: &[u8; 240], round: usize) -> [u32; 4]
     requires { round ≤ 14 }
-    ensures { octets_of result ≡ xored (shift_rows (sub_bytes (octets_of s.now))) (round_key round_keys.now round) }
+    ensures { column_octets result ≡ xored (shift_rows (sub_bytes (column_octets s.now))) (round_key round_keys.now round) }
 {
     let shifted = [
         column(s[0], s[1], s[2], s[3]),
@@ -106,7 +106,7 @@ fn last_round(s: &[u32; 4], round_keys: &[u8; 240], round: usize) -> [u32; 4]
 /// The block of a state.
 #[inline(always)]
 fn store(s: &[u32; 4]) -> [u8; 16]
-    ensures { result ≡ octets_of s.now }
+    ensures { result ≡ column_octets s.now }
 {
     let (a, b) = (s[0].to_le_bytes(), s[1].to_le_bytes());
     let (c, d) = (s[2].to_le_bytes(), s[3].to_le_bytes());

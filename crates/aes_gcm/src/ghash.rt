@@ -1,8 +1,8 @@
 //! GHASH (NIST SP 800-38D, section 6.4), multiplying by tables of the hash subkey.
 
 ghost use Rattle.std.specs.Prelude.{◌≡◌, ◌+◌, ◌-◌, ◌*◌, ◌/◌, ◌<◌, ◌≤◌, ◌++◌, length, replicate, slice_index};
-ghost use Rattle.aes_gcm.specs.Gcm.{block_count, element, hashed_from, next_power, padded, product, product_low};
-ghost use Rattle.aes_gcm.specs.HashTables.{IsHashTable, raised, windows};
+ghost use Rattle.aes_gcm.specs.Gcm.{block_count, element, hashed_from, next_power, padded_to_blocks, product, product_low};
+ghost use Rattle.aes_gcm.specs.HashTables.{IsHashTable, times_power, windows};
 
 /// What x^128 is modulo the field's polynomial: 1 + x + x^2 + x^7, whose first coefficient is the
 /// highest bit.
@@ -26,7 +26,7 @@ fn times_x(element: u128) -> u128
 /// An element times x^4.
 #[inline(always)]
 fn times_x4(element: u128) -> u128
-    ensures { result ≡ raised 4 element }
+    ensures { result ≡ times_power 4 element }
 {
     (element >> 4) ^ ((REDUCED[(element % 16) as usize] as u128) << 112)
 }
@@ -103,7 +103,7 @@ pub(crate) fn load(octets: &[u8]) -> u128
 /// Hashes the blocks of `octets`, the last of them completed by zeros, onto `before`.
 pub(crate) fn hash_onto(tables: &[u128; 128], before: u128, octets: &[u8]) -> u128
     requires { IsHashTable tables.now }
-    ensures { result ≡ hashed_from (slice_index tables.now 8) before (padded octets.now) (block_count (length octets.now)) }
+    ensures { result ≡ hashed_from (slice_index tables.now 8) before (padded_to_blocks octets.now) (block_count (length octets.now)) }
 {
     let mut sum = before;
     let whole = octets.len() / 16;

@@ -19,7 +19,7 @@ use Rattle.turn_rules.specs.Draws.{Draws, counter_name, refusal_of_stop}
 use Rattle.turn_rules.specs.Fits.{Quietly}
 use Rattle.turn_rules.specs.Held.{Held, accepted, advanced, after_number, after_received, five_of, grant_in, greatest, is_of_spir, received_in, used_in}
 use Rattle.turn_rules.specs.MemberPackets.{SendsData, TakesPacket, outbound_of}
-use Rattle.turn_rules.specs.Packets.{IsVerdictOf, Sends}
+use Rattle.turn_rules.specs.Packets.{IsVerdictOf, SendsEsp}
 use Rattle.turn_rules.specs.Steps.{Says}
 use Rattle.turn_rules.specs.Tasks as task
 use Rattle.turn_rules.specs.Tasks.{Task}
@@ -129,7 +129,7 @@ module _ (held now : Held) (calls : List Call) (step : Step) where
 
   module _ (payload : List ℕ) where
     abbrev Sends_it : ℕ → List Call → Type 0
-    Sends_it high rest = (rest ≡ []) × Sends (outbound_of held) next payload step × (now ≡ sent_below high held)
+    Sends_it high rest = (rest ≡ []) × SendsEsp (outbound_of held) next payload step × (now ≡ sent_below high held)
 
     pub sends-rule : SendsNext held payload calls step now → SendsData held payload calls step
     sends-rule sends = ready-map {P = Stops} {G = Sends_it} (λ why rest s. (s.0, s.1)) (λ high rest g. (g.0, g.1)) _ _ calls sends

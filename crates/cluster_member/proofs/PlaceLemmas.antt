@@ -3,7 +3,7 @@ use Rattle.std.proofs.Common.{◌≡◌, ◌≢◌, ℕ, zero, suc, ◌<◌, ◌
 use Rattle.std.proofs.Math.ListN.{set}
 use Rattle.std.proofs.lemmas.Bool.{eq-eqb, ne_eqb}
 use Rattle.turn_rules.specs.Held.{Held, held_at}
-use Rattle.cluster_member.specs.Places.{AreApart, IsPlaceOf}
+use Rattle.cluster_member.specs.Places.{AreApart, IsHoldingPlace}
 
 pub held_at-here : (spir : ℕ) (h : Held) (hs : List Held) → h.sa.spir ≡ spir → held_at (h ∷ hs) spir ≡ Some h
 held_at-here spir h hs e = let t : (h.sa.spir == spir) ≡ true = eq-eqb _ _ e in rw t
@@ -56,14 +56,14 @@ found_within spir (suc k) (x ∷ xs) h w n is at =
     held_at-there spir x xs other ∙ found_within spir k xs h (omega arith) (sym (held_at-there spir x (take k xs) other) ∙ n) is at
 
 -- what is put at the place is held then
-pub put_at : (spir place : ℕ) (hs : List Held) (new : Held) → new.sa.spir ≡ spir → IsPlaceOf spir place hs → held_at (set hs place new) spir ≡ Some new
+pub put_at : (spir place : ℕ) (hs : List Held) (new : Held) → new.sa.spir ≡ spir → IsHoldingPlace spir place hs → held_at (set hs place new) spir ≡ Some new
 put_at spir place hs new is at = put_within spir new is place hs at.within at.none_before at.here
 
 -- and what is held of other associations stays
-pub others_at : (spir place other : ℕ) (hs : List Held) (new : Held) → new.sa.spir ≡ spir → other ≢ spir → IsPlaceOf spir place hs → held_at (set hs place new) other ≡ held_at hs other
+pub others_at : (spir place other : ℕ) (hs : List Held) (new : Held) → new.sa.spir ≡ spir → other ≢ spir → IsHoldingPlace spir place hs → held_at (set hs place new) other ≡ held_at hs other
 others_at spir place other hs new is d at = others_within spir new is other place hs d at.within at.none_before at.here
 
-pub found_at : (spir place : ℕ) (hs : List Held) (h : Held) → IsPlaceOf spir place hs → h ≡ get_or hs place h → held_at hs spir ≡ Some h
+pub found_at : (spir place : ℕ) (hs : List Held) (h : Held) → IsHoldingPlace spir place hs → h ≡ get_or hs place h → held_at hs spir ≡ Some h
 found_at spir place hs h at is = found_within spir place hs h at.within at.none_before (at.here h is) is
 
 -- another holding of the same association, in its place

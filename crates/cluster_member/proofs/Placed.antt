@@ -10,7 +10,7 @@ use Rattle.ha_base.specs.declared.esp_outcomes.EspDrop.{EspDrop}
 use Rattle.keeper_book.specs.declared.calls.Call.{Call}
 use Rattle.turn_rules.proofs.Readies.{none-vain}
 use Rattle.turn_rules.proofs.Ties.{used-receiving}
-use Rattle.turn_rules.specs.Held.{Held, accepted, advanced, begun, first_of, grant_in, held_after, held_at}
+use Rattle.turn_rules.specs.Held.{Held, accepted, advanced, held_begun, first_some, grant_in, held_after, held_at}
 use Rattle.turn_rules.specs.Packets.{IsVerdictOf}
 use Rattle.turn_rules.specs.Tasks as task
 use Rattle.turn_rules.specs.Tasks.{Task}
@@ -21,8 +21,8 @@ use Rattle.cluster_member.specs.Places.{KeepsOthers}
 module _ (size : ℕ) (asked : Task) (calls : List Call) (step : Step) where
   -- a turn that grants nothing of an association, and makes nothing of it
   stays-held : (spir : ℕ) → grant_in spir calls ≡ None → ((held : Held) → advanced spir asked calls step held ≡ held) → (x : Option Held) → held_after size spir asked calls step x ≡ x
-  stays-held spir none stays None = ap (λ g. first_of (option_map (begun size) g) None) none
-  stays-held spir none stays (Some held) = ap (λ g. first_of (option_map (begun size) g) (Some (advanced spir asked calls step held))) none ∙ ap Some (stays held)
+  stays-held spir none stays None = ap (λ g. first_some (option_map (held_begun size) g) None) none
+  stays-held spir none stays (Some held) = ap (λ g. first_some (option_map (held_begun size) g) (Some (advanced spir asked calls step held))) none ∙ ap Some (stays held)
 
   -- one association is held as the turn makes it, and the others as before
   pub placed : (spir : ℕ) (held now : Held) (old new : List Held) → held.sa.spir ≡ spir → held_at old spir ≡ Some held → held_at new spir ≡ Some now → KeepsOthers spir old new → Advances held asked calls step now
@@ -34,7 +34,7 @@ module _ (size : ℕ) (asked : Task) (calls : List Call) (step : Step) where
           subst (λ n. held_at new n ≡ held_after size n asked calls step (held_at old n)) (eqb-true spir s e)
           (holds
           ∙ ap Some (advances.now ∙ ap (λ n. advanced n asked calls step held) is)
-          ∙ sym (ap (λ g. first_of (option_map (begun size) g) (Some (advanced spir asked calls step held))) (advances.no_grant spir))
+          ∙ sym (ap (λ g. first_some (option_map (held_begun size) g) (Some (advanced spir asked calls step held))) (advances.no_grant spir))
           ∙ sym (ap (held_after size spir asked calls step) was))
       by_test false e =
           others s (λ same. eqb-false spir s e (sym same))

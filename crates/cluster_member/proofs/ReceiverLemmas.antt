@@ -4,7 +4,7 @@ use Rattle.std.proofs.lemmas.Bool.{eqb-true}
 use Rattle.std.specs.Prelude.{MatchOption}
 use Rattle.turn_rules.specs.Held.{Held, held_at}
 use Rattle.turn_rules.specs.MemberPackets.{IsReceiver, ReceivesNowhere}
-use Rattle.cluster_member.specs.Places.{AreApart, EachFrom, IsLeastAt, IsLesser, IsPlaceOf, NoneReceives}
+use Rattle.cluster_member.specs.Places.{AreApart, EachFrom, IsLeastAt, IsLesser, IsHoldingPlace, NoneReceives}
 use Rattle.cluster_member.proofs.PlaceLemmas.{apart_first, found_at}
 
 pub same_item : (place : ℕ) (hs : List Held) (a b : Held) → place < length hs → get_or hs place a ≡ get_or hs place b
@@ -85,7 +85,7 @@ nowhere spi (x ∷ xs) n spir h f = by_test (nowhere spi xs n.1 spir h) (x.sa.sp
     by_test later false t f = later f
 
 -- what stands somewhere is the first of its association
-pub place_is : (place : ℕ) (hs : List Held) (h : Held) → AreApart hs → place < length hs → h ≡ get_or hs place h → IsPlaceOf h.sa.spir place hs
+pub place_is : (place : ℕ) (hs : List Held) (h : Held) → AreApart hs → place < length hs → h ≡ get_or hs place h → IsHoldingPlace h.sa.spir place hs
 place_is place hs h apart w e = record {
   within = w;
   none_before = apart_first place hs h apart w e;

@@ -8,7 +8,7 @@ use Rattle.keeper_book.specs.declared.calls.Call.{Call}
 use Rattle.keeper_book.specs.declared.calls.KeeperAnswer.TheVariants as answer
 use Rattle.keeper_book.specs.declared.calls.KeeperAsk.TheVariants as ask
 use Rattle.keeper_book.specs.declared.records.Taken.{Taken}
-use Rattle.turn_rules.specs.Held.{Held, advanced, begun, first_of, grant_in, granted, held_after, held_at}
+use Rattle.turn_rules.specs.Held.{Held, advanced, held_begun, first_some, grant_in, granted, held_after, held_at}
 use Rattle.turn_rules.specs.Tasks as task
 use Rattle.cluster_member.specs.Members.{HoldsAfter}
 use Rattle.cluster_member.specs.Places.{KeepsOthers}
@@ -20,19 +20,19 @@ module _ (size spir member : ℕ) (call : Call) (step : Step) (asked : call.aske
   unmoved-by s (Some held) = rw asked
 
   -- an association is held as it was granted, and every other one as before
-  pub took : (taken : Taken) (old new : List Held) → seen call ≡ answer.Taken taken → taken.sa.spir ≡ spir → held_at new taken.sa.spir ≡ Some (begun size taken) → KeepsOthers taken.sa.spir old new
+  pub took : (taken : Taken) (old new : List Held) → seen call ≡ answer.Taken taken → taken.sa.spir ≡ spir → held_at new taken.sa.spir ≡ Some (held_begun size taken) → KeepsOthers taken.sa.spir old new
       → HoldsAfter size (task.TakeOver spir) (call ∷ []) step old new
   took taken old new sees its holds others s = by_test (spir == s) refl
     where
-      grants : grant_in s (call ∷ []) ≡ first_of (if spir == s then Some taken else None) None
-      grants = ap (λ a. first_of (granted s a (seen call)) None) asked ∙ ap (λ k. first_of (granted s (ask.TakeOver spir member) k) None) sees
+      grants : grant_in s (call ∷ []) ≡ first_some (if spir == s then Some taken else None) None
+      grants = ap (λ a. first_some (granted s a (seen call)) None) asked ∙ ap (λ k. first_some (granted s (ask.TakeOver spir member) k) None) sees
 
       by_test : (b : Bool) → (spir == s) ≡ b → held_at new s ≡ held_after size s (task.TakeOver spir) (call ∷ []) step (held_at old s)
       by_test true e =
           ap (held_at new) (sym (eqb-true spir s e) ∙ sym its)
           ∙ holds
-          ∙ sym (ap (λ g. first_of (option_map (begun size) g) (option_map (advanced s (task.TakeOver spir) (call ∷ []) step) (held_at old s))) (grants ∙ ap (λ b. first_of (if b then Some taken else None) None) e))
+          ∙ sym (ap (λ g. first_some (option_map (held_begun size) g) (option_map (advanced s (task.TakeOver spir) (call ∷ []) step) (held_at old s))) (grants ∙ ap (λ b. first_some (if b then Some taken else None) None) e))
       by_test false e =
           others s (λ same. eqb-false spir s e (sym its ∙ sym same))
           ∙ sym (unmoved-by s (held_at old s))
-          ∙ sym (ap (λ g. first_of (option_map (begun size) g) (option_map (advanced s (task.TakeOver spir) (call ∷ []) step) (held_at old s))) (grants ∙ ap (λ b. first_of (if b then Some taken else None) None) e))
+          ∙ sym (ap (λ g. first_some (option_map (held_begun size) g) (option_map (advanced s (task.TakeOver spir) (call ∷ []) step) (held_at old s))) (grants ∙ ap (λ b. first_some (if b then Some taken else None) None) e))

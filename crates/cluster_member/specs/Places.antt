@@ -8,7 +8,7 @@ pub record AllHeld : Type 0 where
   pub spare : ℕ
 
 -- what is held of the association stands at this place, and nothing of it before
-pub record IsPlaceOf (spir place : ℕ) (held : List Held) : Type 0 where
+pub record IsHoldingPlace (spir place : ℕ) (held : List Held) : Type 0 where
   pub within : place < length held
   pub none_before : held_at (take place held) spir ≡ None
   pub here : (h : Held) → h ≡ slice_index_or held place h → h.sa.spir ≡ spir

@@ -13,7 +13,7 @@ use Rattle.keeper_book.specs.declared.counters.Counter.TheVariants as counter
 use Rattle.turn_rules.specs.Draws.{counter_name, reach_of, refusal_of_stop}
 use Rattle.turn_rules.specs.Held.{Held}
 use Rattle.turn_rules.specs.MemberPackets.{inbound_of, outbound_of}
-use Rattle.turn_rules.specs.Packets.{Opens, Sends, noted}
+use Rattle.turn_rules.specs.Packets.{OpensEsp, SendsEsp, noted}
 use Rattle.turn_rules.specs.Steps.{Says}
 
 -- what is held once the next ESP number was used below this high
@@ -43,7 +43,7 @@ DrawsNext held calls step now = UsesNext held (Says (out.Number (five_at held.ne
 -- a payload is sent under it
 abbrev pub SendsNext : Held → List ℕ → List Call → Step → Held → Type 0
 SendsNext held payload calls step now =
-    UsesNext held (Sends (outbound_of held) (five_at held.nexts counter.EspOut) payload step) calls step now
+    UsesNext held (SendsEsp (outbound_of held) (five_at held.nexts counter.EspOut) payload step) calls step now
 
 -- a packet that was opened is noted once its number is ready
 abbrev pub Notes : Held → Result EspOpened EspDrop → List Call → EspVerdict → Held → Type 0
@@ -55,5 +55,5 @@ Notes held (Ok packet) calls answer now = Ready (reach_of held counter.EspIn) pa
 -- what is done with the octets of a packet
 pub record NotesPacket (held : Held) (octets : List ℕ) (calls : List Call) (answer : EspVerdict) (after : List ℕ) (now : Held) : Type 0 where
   pub opened : Result EspOpened EspDrop
-  pub opens : Opens (inbound_of held) octets opened after
+  pub opens : OpensEsp (inbound_of held) octets opened after
   pub notes : Notes held opened calls answer now

@@ -7,7 +7,7 @@ ghost use Rattle.replay_set.specs.declared.judgement.Judgement.TheVariants as ju
 ghost use Rattle.cluster_member.specs.Holdings.{TookPacket};
 ghost use Rattle.cluster_member.specs.Uses.{DrawsNext, Notes, NotesPacket, SendsNext};
 ghost use Rattle.keeper_book.specs.Asks.{AsksFor};
-ghost use Rattle.turn_rules.specs.Held.{begun};
+ghost use Rattle.turn_rules.specs.Held.{held_begun};
 ghost use Rattle.turn_rules.specs.Packets.{LiesWithin};
 
 use crate::refusals;
@@ -80,7 +80,7 @@ impl Holding {
     pub fn begin(taken: Taken, window: u32) -> Holding
         requires bases { AreWithinEnds taken.bases }
         requires window { IsWindowSize window }
-        ensures { result ≡ begun window taken }
+        ensures { result ≡ held_begun window taken }
     {
         let Taken { epoch, bases, sa } = taken;
         let spir = sa.spir;

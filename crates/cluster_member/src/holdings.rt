@@ -10,7 +10,7 @@ ghost use Rattle.events.specs.declared.verdict.Refusal.TheVariants as refusal;
 ghost use Rattle.turn_rules.specs.Packets.{LiesWithin};
 ghost use Rattle.turn_rules.specs.Steps.{Says};
 ghost use Rattle.cluster_member.specs.Members.{HoldsOn, ReceivesOn};
-ghost use Rattle.cluster_member.specs.Places.{IsLeastAt, IsLesser, IsPlaceOf, KeepsOthers, NoneReceives};
+ghost use Rattle.cluster_member.specs.Places.{IsLeastAt, IsLesser, IsHoldingPlace, KeepsOthers, NoneReceives};
 
 use crate::holding::Holding;
 use esp_packets::packet_spi;
@@ -40,7 +40,7 @@ impl Model for Holdings {
 
 /// Where the holding of a responder's SPI stands.
 fn place_of(items: &[Holding], spir: u64) -> Option<usize>
-    ensures { MatchOption result (held_at items.now spir ≡ None) (λ place. IsPlaceOf spir place items.now) }
+    ensures { MatchOption result (held_at items.now spir ≡ None) (λ place. IsHoldingPlace spir place items.now) }
 {
     for (place, holding) in items.iter().enumerate() {
         if holding.spir() == spir {

@@ -9,7 +9,7 @@ use Rattle.turn_rules.proofs.GenuinePackets.{IsSized, genuine-long, genuine-open
 use Rattle.turn_rules.proofs.KeySizes.{sized_to_peer}
 use Rattle.turn_rules.specs.Genuine.{IsGenuine, IsTakenAs}
 use Rattle.turn_rules.specs.Slots.{PeerReceives, Slot, SlotReceives, SlotTakes, peer_counter, slot_inbound}
-use Rattle.cluster_peer.specs.Genuine.{GenuineAreAccepted}
+use Rattle.cluster_peer.specs.Genuine.{PeerAcceptsGenuine}
 
 module _ (law : SealedPacketsOpen) (slot : Slot) (number : ℕ) (payload octets : List ℕ) (genuine : IsGenuine (slot_inbound slot) number payload octets) where
   its_key : IsSized (slot_inbound slot)
@@ -34,7 +34,7 @@ module _ (law : SealedPacketsOpen) (slot : Slot) (number : ℕ) (payload octets 
       → MatchOption found A (λ s. SlotReceives s octets answer after) → IsTakenAs (peer_counter slot.sa counter.EspIn) number payload answer after
   found_accepted A found answer after is r = received_accepted answer after (subst (λ f. MatchOption f A (λ s. SlotReceives s octets answer after)) is r)
 
-pub genuine_accepted : SealedPacketsOpen → (old : List Slot) (octets : List ℕ) (answer : EspVerdict) (after : List ℕ) → PeerReceives old octets answer after → GenuineAreAccepted old octets answer after
+pub genuine_accepted : SealedPacketsOpen → (old : List Slot) (octets : List ℕ) (answer : EspVerdict) (after : List ℕ) → PeerReceives old octets answer after → PeerAcceptsGenuine old octets answer after
 genuine_accepted law old octets answer after r number slot payload is genuine =
     ⊎_elim (λ l. absurd (not_short law slot number payload octets genuine l))
     (λ l. found_accepted law slot number payload octets genuine _ _ answer after is (r.long l))

@@ -1,5 +1,5 @@
 ghost use Rattle.std.specs.Prelude.{◌≡◌, ◌≤◌, ◌<◌, [], ◌∷◌, ◌++◌, true, false, IfOk, OnErr, OnOk, length};
-ghost use Rattle.cluster_peer.specs.Genuine.{GenuineAreAccepted};
+ghost use Rattle.cluster_peer.specs.Genuine.{PeerAcceptsGenuine};
 ghost use Rattle.events.specs.declared.verdict.Refusal.TheVariants as refusal;
 ghost use Rattle.replay_set.specs.Window.{IsWindowSize};
 ghost use Rattle.turn_rules.specs.Packets.{LiesWithin};
@@ -126,7 +126,7 @@ impl Peer {
         requires { length bytes.old ≤ 2048 }
         ensures receives { PeerReceives self.old.slots bytes.old result bytes.new }
         ensures after { IsPeerAfterPacket result bytes.new self.old self.new }
-        ensures genuine { GenuineAreAccepted self.old.slots bytes.old result bytes.new }
+        ensures genuine { PeerAcceptsGenuine self.old.slots bytes.old result bytes.new }
         ensures within { LiesWithin result (length bytes.new) }
     {
         sealed_packets_open();

@@ -3,7 +3,7 @@ ghost use Rattle.esp_packets.specs.declared.packet.TheConstants.{LONGEST_PACKET}
 ghost use Rattle.replay_set.specs.Window.{IsWindowSize, judged, window_of};
 ghost use Rattle.replay_set.specs.declared.judgement.Judgement.TheVariants as judgement;
 ghost use Rattle.replay_set.specs.declared.set.TheConstants.{SEQUENCE_END};
-ghost use Rattle.turn_rules.specs.Packets.{Opens, noted};
+ghost use Rattle.turn_rules.specs.Packets.{OpensEsp, noted};
 
 use aes_gcm::Key;
 use esp_packets::open_packet;
@@ -80,7 +80,7 @@ impl InboundSa {
     #[tactic(auto, using(crate::proofs::Freshness::fresh_from_base))]
     pub fn open(&self, bytes: &mut [u8]) -> Result<EspOpened, EspDrop>
         requires { length bytes.old ≤ LONGEST_PACKET }
-        ensures opens { Opens self.now bytes.old result bytes.new }
+        ensures opens { OpensEsp self.now bytes.old result bytes.new }
         ensures within { IfOk result (λ packet. packet.start + packet.length ≤ length bytes.new) }
         ensures fresh { IfOk result (λ packet. judged self.now.window packet.number ≡ judgement.Fresh) }
         ensures from_base { IfOk result (λ packet. self.now.window.base ≤ packet.number) }

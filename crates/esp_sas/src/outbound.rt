@@ -1,6 +1,6 @@
 ghost use Rattle.std.specs.Prelude.{◌≡◌, ◌≤◌, ◌⊎◌, length};
 ghost use Rattle.esp_packets.specs.declared.plain.TheConstants.{MAX_PAYLOAD};
-ghost use Rattle.turn_rules.specs.Packets.{Sends};
+ghost use Rattle.turn_rules.specs.Packets.{SendsEsp};
 
 use crate::room::Room;
 use aes_gcm::Key;
@@ -45,7 +45,7 @@ impl OutboundSa {
         requires named { number.name ≡ self.now.key.name }
         requires size { length payload.now ≤ MAX_PAYLOAD }
         requires room { length payload.now ≤ room }
-        ensures { Sends self.now number.value payload.now result }
+        ensures { SendsEsp self.now number.value payload.now result }
     {
         room.send(&self.key, self.spi, number, payload)
     }

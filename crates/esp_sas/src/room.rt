@@ -1,6 +1,6 @@
 ghost use Rattle.std.specs.Prelude.{◌≡◌, ◌≤◌, [], length, IfOk};
 ghost use Rattle.esp_packets.specs.declared.plain.TheConstants.{MAX_PAYLOAD};
-ghost use Rattle.turn_rules.specs.Packets.{Sends};
+ghost use Rattle.turn_rules.specs.Packets.{SendsEsp};
 
 use aes_gcm::Key;
 use esp_packets::{PACKET_OVERHEAD, seal_packet, spell_plain};
@@ -53,7 +53,7 @@ impl Room {
         requires named { number.name ≡ key.now.name }
         requires size { length payload.now ≤ MAX_PAYLOAD }
         requires room { length payload.now ≤ self }
-        ensures { Sends (record { key = key.now; spi = spi }) number.value payload.now result }
+        ensures { SendsEsp (record { key = key.now; spi = spi }) number.value payload.now result }
     {
         let Room {
             payload: _,

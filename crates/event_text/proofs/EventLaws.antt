@@ -14,10 +14,10 @@ use Rattle.keeper_book.specs.Records.{sealing_key_octets}
 use Rattle.line_fields.specs.declared.fault.LineFault.{LineFault}
 use Rattle.line_fields.specs.declared.fault.LineReason.TheVariants as reasons
 use Rattle.line_fields.specs.Words.{Cursor, line_of, words_of}
-use Rattle.line_fields.specs.Numbers.{number_of}
+use Rattle.line_fields.specs.Numbers.{number_field}
 use Rattle.events.specs.Events.{PlainEvent, Cluster, Import, Join, Own, Draw, Crash, Send, Deliver, Alter, Cut, Inject}
-use Rattle.line_fields.specs.Fields.{◌>>=◌, behind, ended_at, end_in, fault_at, word_at, word_in}
-use Rattle.event_text.specs.Reading.{alter_at, child_keys_at, cluster_at, crash_at, cut_at, deliver_at, draw_at, event_at, event_readers, import_at, inject_at, join_at, line_at, moment_at, named_by, own_at, sa_keys_at, send_at, starts_at, told_at}
+use Rattle.line_fields.specs.Fields.{◌>>=◌, behind_field, ended_at, end_in, fault_at, word_at, word_in}
+use Rattle.event_text.specs.Reading.{alter_at, child_keys_at, cluster_at, crash_at, cut_at, deliver_at, draw_at, event_at, event_readers, import_at, inject_at, join_at, line_at, moment_at, reader_named, own_at, sa_keys_at, send_at, starts_at, told_at}
 use Rattle.event_text.specs.Grammar.{EventLine, child_key_words, event_words, five_words, line_words, sa_key_words}
 use Rattle.events.specs.Ranges.{AreChildKeys, AreSaKeys, AreStarts, Fits}
 use Rattle.line_fields.proofs.WordLaws.{line-words, words-line}
@@ -25,7 +25,7 @@ use Rattle.event_text.proofs.EventFieldLaws.{count_field, medium_field, member_f
 use Rattle.event_text.proofs.SpacelessLaws.{line_spaceless}
 use Rattle.line_fields.proofs.FieldLaws.{IsField, IsReader, column_behind, domain_name_field, esp_spi_field, field_again, identity_field, key_size_field, number_field, octet_field, ok_is, pick, reader, sized_field, spi_field, then_word, then_words, walk}
 
-message_id_field : IsField (number_of 0 (2 ^ 32 - 1)) decimal (λ n. n < 2 ^ 32 - 1)
+message_id_field : IsField (number_field 0 (2 ^ 32 - 1)) decimal (λ n. n < 2 ^ 32 - 1)
 message_id_field = number_field (2 ^ 32 - 1) (lit≤ tt)
 
 -- ---- the parts of an association
@@ -211,7 +211,7 @@ Takes : List (List ℕ × (Cursor → Result (PlainEvent × Cursor) LineFault)) 
 Takes [] = Unit {0}
 Takes (row ∷ rows) = ((s : Cursor) (y : PlainEvent × Cursor) → row.1 s ≡ Ok y → IsSpelled row.0 s y) × Takes rows
 
-rows_take : (rows : List (List ℕ × (Cursor → Result (PlainEvent × Cursor) LineFault))) → Takes rows → (c : ℕ) (w : List ℕ) (s : Cursor) (y : PlainEvent × Cursor) → named_by rows c w s ≡ Ok y → IsSpelled w s y
+rows_take : (rows : List (List ℕ × (Cursor → Result (PlainEvent × Cursor) LineFault))) → Takes rows → (c : ℕ) (w : List ℕ) (s : Cursor) (y : PlainEvent × Cursor) → reader_named rows c w s ≡ Ok y → IsSpelled w s y
 unfolding Takes
 rows_take [] h c w s y e = absurd cc
 rows_take (row ∷ rows) h c w s y e =
@@ -228,12 +228,12 @@ after (Ok x) k y e go = go x refl e
 
 word_is : (c : ℕ) (ws : List (List ℕ)) (p : List ℕ × Cursor) → word_in c ws ≡ Ok p → ws ≡ p.0 ∷ p.1.words
 word_is c [] p e = absurd cc
-word_is c (v ∷ vs) p e = ap (λ (q : List ℕ × Cursor). q.0 ∷ q.1.words) (ok_is (v, behind c v vs) p e)
+word_is c (v ∷ vs) p e = ap (λ (q : List ℕ × Cursor). q.0 ∷ q.1.words) (ok_is (v, behind_field c v vs) p e)
 
 event_takes : (s : Cursor) (y : PlainEvent × Cursor) → event_at s ≡ Ok y → (s.words ≡ event_words y.0 ++ y.1.words) × Fits y.0
 unfolding event_at
 event_takes s y e =
-    after (word_at s) (λ w. named_by event_readers s.column w.0 w.1) y e (λ w found rest.
+    after (word_at s) (λ w. reader_named event_readers s.column w.0 w.1) y e (λ w found rest.
     let spelled = rows_take event_readers events_take s.column w.0 w.1 y rest in
     (word_is s.column s.words w found ∙ spelled.words, spelled.fits))
 
@@ -267,7 +267,7 @@ moment_takes last s p e =
     (λ hit same. absurd cc)
     (λ miss same. subst (λ (q : ℕ × Cursor). (s.words ≡ decimal q.0 ∷ q.1.words) × (q.0 < 2 ^ 63) × (last ≤ q.0)) (ok_is (n, t) p same) (w, f, ltb-false n last miss)))
 
-moment_again : (last n : ℕ) → n < 2 ^ 63 → last ≤ n → (c : ℕ) (ws : List (List ℕ)) → moment_at last (record { column = c; words = decimal n ∷ ws }) ≡ Ok (n, behind c (decimal n) ws)
+moment_again : (last n : ℕ) → n < 2 ^ 63 → last ≤ n → (c : ℕ) (ws : List (List ℕ)) → moment_at last (record { column = c; words = decimal n ∷ ws }) ≡ Ok (n, behind_field c (decimal n) ws)
 unfolding moment_at
 moment_again last n lt le c ws = rw (field_again member_field n lt, le-ltb n last le) refl
 

@@ -17,7 +17,7 @@ use Rattle.line_fields.specs.Fields.{fault_at}
 use Rattle.event_text.specs.Reading.{line_at}
 use Rattle.event_text.specs.Grammar.{EventLine}
 use Rattle.event_text.specs.Input.{behind_line, contents_at, contents_in, contents_of, event_in, on_line, on_version, second_line, some_event, version_in}
-use Rattle.input_lines.specs.Limits.{overlong, unless}
+use Rattle.input_lines.specs.Limits.{overlong, unless_fault}
 use Rattle.event_text.specs.EventFile.{EventText, SayEvents}
 use Rattle.event_text.proofs.EventLaws.{line_again, line_takes}
 use Rattle.line_fields.proofs.FieldLaws.{pick}
@@ -117,7 +117,7 @@ record ReadsAt (ls : List (List ℕ)) (p : Place) (events : List (Moment × Plai
   few : p.count + length events ≤ 100000
   short : p.before + length (joined ls) ≤ 67108864
 
-unless_is : {A : Type 0} (o : Option LineFault) (r : Result A LineFault) (x : A) → unless o r ≡ Ok x → r ≡ Ok x
+unless_is : {A : Type 0} (o : Option LineFault) (r : Result A LineFault) (x : A) → unless_fault o r ≡ Ok x → r ≡ Ok x
 unless_is (Some f) r x e = absurd cc
 unless_is None r x e = e
 

@@ -9,17 +9,17 @@ use Rattle.input_lines.specs.Lines.{lines_of, without_line_feed}
 use Rattle.input_lines.specs.Limits.{overlong}
 use Rattle.input_lines.proofs.FirstLines.{first_line}
 use Rattle.input_lines.proofs.LimitLaws.{IsPast, overlong_both, overlong_none, past, unless_ok}
-use Rattle.event_text.specs.Input.{Contents, behind_line, contents_at, contents_in, contents_of, event_in, faulty, on_line, on_version, second_line, version_in, with_events}
+use Rattle.event_text.specs.Input.{Contents, behind_line, contents_at, contents_in, contents_of, event_in, faulty_contents, on_line, on_version, second_line, version_in, with_events}
 
 -- ---- a line that passes the end of the file
 
 -- a line that passes the end is at fault, whatever follows
-past_line : (n : ℕ) (line : List ℕ) (others : List (List ℕ)) (p : Place) (h : IsPast p.before n) → p.before ≤ 67108864 → 67108865 ≤ p.before + n → n ≤ length line → n ≤ length (without_line_feed line) → contents_at (line ∷ others) p ≡ faulty p.line h.fault
+past_line : (n : ℕ) (line : List ℕ) (others : List (List ℕ)) (p : Place) (h : IsPast p.before n) → p.before ≤ 67108864 → 67108865 ≤ p.before + n → n ≤ length line → n ≤ length (without_line_feed line) → contents_at (line ∷ others) p ≡ faulty_contents p.line h.fault
 unfolding contents_at event_in
 past_line n line others p h within far_enough long unfed_long =
     rw (overlong_both p.before n n (length line) (length (without_line_feed line)) within far_enough far_enough long unfed_long, h.is) refl
 
-past_version : (n : ℕ) (line : List ℕ) (others : List (List ℕ)) (h : IsPast 0 n) → 67108865 ≤ n → n ≤ length line → n ≤ length (without_line_feed line) → contents_in (line ∷ others) ≡ faulty 1 h.fault
+past_version : (n : ℕ) (line : List ℕ) (others : List (List ℕ)) (h : IsPast 0 n) → 67108865 ≤ n → n ≤ length line → n ≤ length (without_line_feed line) → contents_in (line ∷ others) ≡ faulty_contents 1 h.fault
 unfolding version_in
 past_version n line others h far_enough long unfed_long =
     rw (overlong_both 0 n n (length line) (length (without_line_feed line)) (omega arith) (omega arith) (omega arith) long unfed_long, h.is) refl

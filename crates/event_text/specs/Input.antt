@@ -7,7 +7,7 @@ use Rattle.line_fields.specs.declared.fault.LineReason.TheVariants as reasons
 use Rattle.input_lines.specs.declared.fault.InputFault.{InputFault}
 use Rattle.event_text.specs.declared.place.Place.{Place}
 use Rattle.input_lines.specs.Lines.{is_passed, lines_of, without_line_feed}
-use Rattle.input_lines.specs.Limits.{Left, overlong, unless}
+use Rattle.input_lines.specs.Limits.{Left, overlong, unless_fault}
 use Rattle.events.specs.declared.event.Event.{Event}
 use Rattle.events.specs.Events.{PlainEvent, plain}
 use Rattle.line_fields.specs.Fields.{fault_at}
@@ -18,8 +18,8 @@ pub record Contents : Type 0 where
   pub events : List (Moment × PlainEvent)
   pub fault : Option InputFault
 
-abbrev pub faulty : ℕ → LineFault → Contents
-faulty line f = record { events = []; fault = Some (record { line = line; column = f.column; reason = f.reason }) }
+abbrev pub faulty_contents : ℕ → LineFault → Contents
+faulty_contents line f = record { events = []; fault = Some (record { line = line; column = f.column; reason = f.reason }) }
 
 abbrev pub with_event : Moment × PlainEvent → Contents → Contents
 with_event x rest = record { events = x ∷ rest.events; fault = rest.fault }
@@ -36,12 +36,12 @@ some_event (Err f) = Err f
 -- the event of a line at a place, if the line is not passed over
 unfoldable pub event_in : Place → ℕ → List ℕ → Result (Option (Moment × PlainEvent)) LineFault
 event_in p octets line =
-    unless (overlong p.before octets (length line))
+    unless_fault (overlong p.before octets (length line))
     (if is_passed line then Ok None else if p.count == 100000 then Err (fault_at 1 reasons.TooMany) else some_event (line_at p.last.0 line))
 
-abbrev pub counted : ℕ → Option (Moment × PlainEvent) → ℕ
-counted count None = count
-counted count (Some x) = count + 1
+abbrev pub events_counted : ℕ → Option (Moment × PlainEvent) → ℕ
+events_counted count None = count
+events_counted count (Some x) = count + 1
 
 abbrev pub moment_behind : Moment → Option (Moment × PlainEvent) → Moment
 moment_behind last None = last
@@ -50,14 +50,14 @@ moment_behind last (Some x) = x.0
 -- the place behind a line of some octets, and its event, if it has one
 abbrev pub behind_line : Place → ℕ → Option (Moment × PlainEvent) → Place
 behind_line p octets event =
-    record { line = p.line + 1; before = p.before + octets; count = counted p.count event; last = moment_behind p.last event }
+    record { line = p.line + 1; before = p.before + octets; count = events_counted p.count event; last = moment_behind p.last event }
 
 abbrev pub with_events : Option (Moment × PlainEvent) → Contents → Contents
 with_events None rest = rest
 with_events (Some x) rest = with_event x rest
 
 abbrev pub on_line : ℕ → Result (Option (Moment × PlainEvent)) LineFault → (Option (Moment × PlainEvent) → Contents) → Contents
-on_line line (Err f) rest = faulty line f
+on_line line (Err f) rest = faulty_contents line f
 on_line line (Ok event) rest = with_events event (rest event)
 
 -- what lines say from a place on
@@ -67,10 +67,10 @@ contents_at (line ∷ lines) p = on_line p.line (event_in p (length line) (witho
 
 -- the version line, which is first
 unfoldable pub version_in : ℕ → List ℕ → Result Unit LineFault
-version_in octets line = unless (overlong 0 octets (length line)) (if bytes_eq line (codes "ha 1") then Ok tt else Err (fault_at 1 reasons.Word))
+version_in octets line = unless_fault (overlong 0 octets (length line)) (if bytes_eq line (codes "ha 1") then Ok tt else Err (fault_at 1 reasons.Word))
 
 abbrev pub on_version : Result Unit LineFault → Contents → Contents
-on_version (Err f) rest = faulty 1 f
+on_version (Err f) rest = faulty_contents 1 f
 on_version (Ok x) rest = rest
 
 -- the place behind the version line
@@ -78,7 +78,7 @@ abbrev pub second_line : ℕ → Place
 second_line octets = record { line = 2; before = octets; count = 0; last = record { 0 = 0 } }
 
 abbrev pub contents_in : List (List ℕ) → Contents
-contents_in [] = faulty 1 (fault_at 1 reasons.Missing)
+contents_in [] = faulty_contents 1 (fault_at 1 reasons.Missing)
 contents_in (line ∷ lines) = on_version (version_in (length line) (without_line_feed line)) (contents_at lines (second_line (length line)))
 
 -- What an input says. Its first line is `ha 1`, and each other line that is not passed over is an event.

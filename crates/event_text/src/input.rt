@@ -3,7 +3,7 @@
 ghost use Rattle.std.specs.Prelude.{◌≡◌, ◌≢◌, ◌≤◌, ◌<◌, ◌+◌, ◌^◌, [], ◌∷◌, length, take, IfErr, IfNone, IfOk, IfSome, OnErr, OnOk, OnSome, MatchResult, None, Some, Ok, Err};
 ghost use Rattle.events.specs.Events.{plain};
 ghost use Rattle.events.specs.Ranges.{Fits};
-ghost use Rattle.event_text.specs.Input.{contents_of, event_in, faulty, left_contents, said, version_in, with_event};
+ghost use Rattle.event_text.specs.Input.{contents_of, event_in, faulty_contents, left_contents, said, version_in, with_event};
 ghost use Rattle.line_fields.specs.Fields.{fault_at};
 
 use crate::place::Place;

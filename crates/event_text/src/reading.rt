@@ -8,8 +8,8 @@ ghost use Rattle.event_text.specs.Grammar.{EventLine};
 ghost use Rattle.events.specs.Ranges.{Fits};
 ghost use Rattle.ha_base.specs.declared.outside.Moment.{Moment};
 ghost use Rattle.line_fields.specs.Fields.{Reads};
-ghost use Rattle.event_text.specs.InMemory.{Fails, Gives};
-ghost use Rattle.event_text.specs.Reading.{sa_keys_at, child_keys_at, starts_at, import_at, join_at, own_at, draw_at, crash_at, cluster_at, send_at, deliver_at, alter_at, cut_at, inject_at, event_at, event_readers, moment_at, named_by, told_at, line_at};
+ghost use Rattle.event_text.specs.InMemory.{FailsInLine, GivesInLine};
+ghost use Rattle.event_text.specs.Reading.{sa_keys_at, child_keys_at, starts_at, import_at, join_at, own_at, draw_at, crash_at, cluster_at, send_at, deliver_at, alter_at, cut_at, inject_at, event_at, event_readers, moment_at, reader_named, told_at, line_at};
 
 use crate::event_fields::{medium, octets_in_memory, party, ticket_key, which, window};
 use crate::failure::Failure;
@@ -170,7 +170,7 @@ fn cluster(words: &mut Words<'_>) -> Result<Event, LineFault>
 
 #[tactic(auto, unfolding(crate::specs::Reading::send_at))]
 fn send(alloc: Global, words: &mut Words<'_>) -> Result<Event, Failure>
-    ensures { Gives plain result words.new (send_at words.old) }
+    ensures { GivesInLine plain result words.new (send_at words.old) }
 {
     let from = party(words)?;
     let spir = spi(words)?;
@@ -219,7 +219,7 @@ fn cut(words: &mut Words<'_>) -> Result<Event, LineFault>
 
 #[tactic(auto, unfolding(crate::specs::Reading::inject_at))]
 fn inject(alloc: Global, words: &mut Words<'_>) -> Result<Event, Failure>
-    ensures { Gives plain result words.new (inject_at words.old) }
+    ensures { GivesInLine plain result words.new (inject_at words.old) }
 {
     let to = party(words)?;
     let medium = medium(words)?;
@@ -229,7 +229,7 @@ fn inject(alloc: Global, words: &mut Words<'_>) -> Result<Event, Failure>
 
 /// An event whose fields take no memory, by its word.
 fn short_event(column: u32, word: &[u8], words: &mut Words<'_>) -> Result<Event, LineFault>
-    ensures { Reads plain result words.new (named_by (drop 2 event_readers) column word.now words.old) }
+    ensures { Reads plain result words.new (reader_named (drop 2 event_readers) column word.now words.old) }
 {
     if word == b"cluster".as_slice() {
         return cluster(words);
@@ -266,7 +266,7 @@ fn short_event(column: u32, word: &[u8], words: &mut Words<'_>) -> Result<Event,
 
 #[tactic(auto, unfolding(crate::specs::Reading::event_at))]
 fn event(alloc: Global, words: &mut Words<'_>) -> Result<Event, Failure>
-    ensures { Gives plain result words.new (event_at words.old) }
+    ensures { GivesInLine plain result words.new (event_at words.old) }
 {
     let column = words.column();
     let word = words.word()?;
@@ -296,7 +296,7 @@ fn moment(words: &mut Words<'_>, last: Moment) -> Result<u64, LineFault>
 
 #[tactic(auto, unfolding(crate::specs::Reading::line_at, crate::specs::Reading::told_at))]
 fn told(alloc: Global, line: &[u8], last: Moment) -> Result<(Moment, Event), Failure>
-    ensures { MatchResult result (λ x. line_at last.0 line.now ≡ Ok (x.0, plain x.1)) (λ e. Fails e (line_at last.0 line.now)) }
+    ensures { MatchResult result (λ x. line_at last.0 line.now ≡ Ok (x.0, plain x.1)) (λ e. FailsInLine e (line_at last.0 line.now)) }
 {
     if line.len() > LINE_OCTETS {
         return Err(Failure::At(LineFault {

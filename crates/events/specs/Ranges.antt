@@ -7,7 +7,7 @@ use Rattle.ha_base.specs.declared.key_material.SaKeys.{SaKeys}
 use Rattle.ha_base.specs.declared.key_material.ChildKeys.{ChildKeys}
 use Rattle.keeper_book.specs.declared.counters.Five.{Five}
 use Rattle.keeper_book.specs.Records.{sealing_key_octets}
-use Rattle.line_fields.specs.Octets.{IsOctets}
+use Rattle.line_fields.specs.Octets.{IsOctetField}
 use Rattle.line_fields.specs.Identities.{IsIdentity, IsOfForm, fqdn}
 use Rattle.replay_set.specs.Window.{IsWindowSize}
 use Rattle.events.specs.Events.{Association, PlainEvent, Cluster, Import, Join, Own, Draw, Crash, Send, Deliver, Alter, Cut, Inject}
@@ -17,15 +17,15 @@ use Rattle.events.specs.declared.event.Which.{Which}
 use Rattle.events.specs.declared.event.Which.TheVariants as whiches
 
 pub record AreSaKeys (size : KeySize) (keys : SaKeys) : Type 0 where
-  pub sk_d : IsOctets 32 32 keys.sk_d
-  pub sk_ei : IsOctets (sealing_key_octets size) (sealing_key_octets size) keys.sk_ei
-  pub sk_er : IsOctets (sealing_key_octets size) (sealing_key_octets size) keys.sk_er
-  pub sk_pi : IsOctets 32 32 keys.sk_pi
-  pub sk_pr : IsOctets 32 32 keys.sk_pr
+  pub sk_d : IsOctetField 32 32 keys.sk_d
+  pub sk_ei : IsOctetField (sealing_key_octets size) (sealing_key_octets size) keys.sk_ei
+  pub sk_er : IsOctetField (sealing_key_octets size) (sealing_key_octets size) keys.sk_er
+  pub sk_pi : IsOctetField 32 32 keys.sk_pi
+  pub sk_pr : IsOctetField 32 32 keys.sk_pr
 
 pub record AreChildKeys (size : KeySize) (keys : ChildKeys) : Type 0 where
-  pub to_cluster : IsOctets (sealing_key_octets size) (sealing_key_octets size) keys.to_cluster
-  pub to_peer : IsOctets (sealing_key_octets size) (sealing_key_octets size) keys.to_peer
+  pub to_cluster : IsOctetField (sealing_key_octets size) (sealing_key_octets size) keys.to_cluster
+  pub to_peer : IsOctetField (sealing_key_octets size) (sealing_key_octets size) keys.to_peer
 
 pub record AreStarts (five : Five) : Type 0 where
   pub esp_out : five.esp_out < 2 ^ 63
@@ -48,7 +48,7 @@ pub record IsAssociation (a : Association) : Type 0 where
 
 -- no ticket key, or one of AES with 128 or 256 bits and four octets of salt
 abbrev pub IsTicketKey : List ℕ → Type 0
-IsTicketKey key = IsOctets 0 0 key ⊎ IsOctets 20 20 key ⊎ IsOctets 36 36 key
+IsTicketKey key = IsOctetField 0 0 key ⊎ IsOctetField 20 20 key ⊎ IsOctetField 36 36 key
 
 pub record IsConfiguration (name : Identity) (seconds size : ℕ) (key : List ℕ) : Type 0 where
   pub identity : IsOfForm fqdn name
@@ -68,12 +68,12 @@ IsWhich whiches.Last = Unit {0}
 abbrev pub Fits : PlainEvent → Type 0
 Fits (Cluster identity lifetime window ticket_key) = IsConfiguration identity lifetime window ticket_key
 Fits (Import a) = IsAssociation a
-Fits (Join fresh) = IsOctets 24 24 fresh
+Fits (Join fresh) = IsOctetField 24 24 fresh
 Fits (Own member spir) = (member < 2 ^ 63) × (spir < 2 ^ 64)
 Fits (Draw member spir) = (member < 2 ^ 63) × (spir < 2 ^ 64)
 Fits (Crash member) = member < 2 ^ 63
-Fits (Send from spir payload) = IsParty from × (spir < 2 ^ 64) × IsOctets 0 1400 payload
+Fits (Send from spir payload) = IsParty from × (spir < 2 ^ 64) × IsOctetField 0 1400 payload
 Fits (Deliver which to) = IsWhich which × IsParty to
 Fits (Alter which to place octet) = IsWhich which × IsParty to × (place < 2 ^ 32) × (octet < 256)
 Fits (Cut which to keep) = IsWhich which × IsParty to × (keep < 2 ^ 32)
-Fits (Inject to medium octets) = IsParty to × IsOctets 0 2048 octets
+Fits (Inject to medium octets) = IsParty to × IsOctetField 0 2048 octets

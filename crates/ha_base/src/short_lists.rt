@@ -110,7 +110,7 @@ pub struct OctetArray<const N: usize> {
 
 impl<const N: usize> Model for OctetArray<N> {
     ghost use Rattle.std.specs.Prelude.{ℕ, List, length, take};
-    ghost use Rattle.ha_base.specs.OctetArray.{IsPadded, padded};
+    ghost use Rattle.ha_base.specs.OctetArray.{IsPadded, padded_to};
 
     ghost Value = { List ℕ };
 
@@ -118,7 +118,7 @@ impl<const N: usize> Model for OctetArray<N> {
 
     ghost invariant = { λ array. IsPadded N array.kept array.len };
 
-    ghost inverse = { λ octets. record { kept = padded N octets; len = length octets } };
+    ghost inverse = { λ octets. record { kept = padded_to N octets; len = length octets } };
 
     ghost inverse_ok = { λ array h i. record { kept = h.zeros i; len = h.front i } };
 }

@@ -48,7 +48,7 @@ Readies old at calls result new = Ready old at calls
     (λ high rest. Leaves rest result (Ok tt) new (record old { high = high }))
 
 -- the calls before the next number is given, what is answered of it, and what the horizon is then
-abbrev pub Sends : Reach → List Call → Result Drawn Stop → Reach → Type 0
-Sends old calls result new = Ready old old.next calls
+abbrev pub ReadiesNext : Reach → List Call → Result Drawn Stop → Reach → Type 0
+ReadiesNext old calls result new = Ready old old.next calls
     (λ why rest. Leaves rest result (Err why) new old)
     (λ high rest. Leaves rest result (Ok (next_number old)) new (record old { next = old.next + 1; high = high }))

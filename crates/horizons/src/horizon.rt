@@ -1,6 +1,6 @@
 ghost use Rattle.std.specs.Prelude.{◌≡◌, ◌+◌, ◌≤◌, ◌<◌, max, Some, ◌↔◌, IfOk, IfSome, IfNone, IsSome, OnSome};
 ghost use Rattle.horizons.specs.Reaches.{IsInRange, IsSameCounter, lead_of};
-ghost use Rattle.horizons.specs.Ready.{Readies, Sends, next_number};
+ghost use Rattle.horizons.specs.Ready.{Readies, ReadiesNext, next_number};
 ghost use Rattle.keeper_book.specs.Counters.{counter_of_kind, extended_end};
 ghost use Rattle.keeper_book.specs.Asks.{AsksFor};
 
@@ -159,7 +159,7 @@ impl Horizon {
     /// Gives the next number, once it is ready. The errors are those of `ready`, and nothing has changed then.
     pub fn send_number<K: Keeper>(&mut self, keeper: &mut K) -> Result<Number, Stop>
         ensures calls { AsksFor K.Keeper keeper.old keeper.new
-            (λ calls. Sends self.old calls result self.new) }
+            (λ calls. ReadiesNext self.old calls result self.new) }
         ensures number { IfOk result (λ number. number ≡ next_number self.old) }
         ensures below { IfOk result (λ number. number.value < self.new.high) }
         ensures same { IsSameCounter self.old self.new }

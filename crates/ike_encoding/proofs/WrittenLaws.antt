@@ -5,7 +5,7 @@ use Rattle.ha_base.specs.Octets.{WithRoom}
 use Rattle.ike_values.specs.Values.{PayloadValue}
 use Rattle.ike_values.specs.Spelling.{Spells}
 use Rattle.ike_values.specs.declared.header.Message.{Message}
-use Rattle.ike_values.specs.Writing.{first_of, chain_written, AreValid}
+use Rattle.ike_values.specs.Writing.{first_type_of, chain_written, AreValid}
 use Rattle.ike_values.specs.Headers.{has_flag, IsMessage}
 use Rattle.ike_values.proofs.SpellingLaws.{chain_spelled}
 use Rattle.ike_encoding.specs.Messages.{flags_of, FitsHeader, message_written}
@@ -24,7 +24,7 @@ response_again false false = refl
 
 pub message_spelled : (m : Message) → FitsHeader m.header → AreValid false m.payloads → 28 + length (chain_written m.payloads) < 2 ^ 32 → IsMessage m (message_written m)
 message_spelled m fits valid short = (
-  record { first = first_of m.payloads; version = 32; flags = flags_of m.header; rest = chain_written m.payloads },
+  record { first = first_type_of m.payloads; version = 32; flags = flags_of m.header; rest = chain_written m.payloads },
   record {
     bytes_are = refl;
     spii_fits = fits.spii;
@@ -39,7 +39,7 @@ message_spelled m fits valid short = (
 )
 
 -- what is appended is a spelling, whose first type is the one that is answered
-pub chain_spells : {E : Type 0} (inner : Bool) (payloads : List PayloadValue) (r : Result ℕ E) → AreValid inner payloads → IfOk r (λ first. first ≡ first_of payloads) → IfOk r (λ first. Spells payloads first inner (chain_written payloads))
+pub chain_spells : {E : Type 0} (inner : Bool) (payloads : List PayloadValue) (r : Result ℕ E) → AreValid inner payloads → IfOk r (λ first. first ≡ first_type_of payloads) → IfOk r (λ first. Spells payloads first inner (chain_written payloads))
 chain_spells inner payloads (Ok first) valid e = subst (λ (k : ℕ). Spells payloads k inner (chain_written payloads)) (sym e) (chain_spelled inner payloads valid)
 chain_spells inner payloads (Err e) valid t = tt
 

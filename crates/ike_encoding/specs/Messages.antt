@@ -3,7 +3,7 @@ use Rattle.std.specs.Prelude.{ℕ, ◌+◌, ◌<◌, ◌^◌, if◌then◌else�
 use Rattle.std.specs.Int.{w32, w64, to_be_bytes}
 use Rattle.ike_values.specs.declared.header.Header.{Header}
 use Rattle.ike_values.specs.declared.header.Message.{Message}
-use Rattle.ike_values.specs.Writing.{first_of, chain_written}
+use Rattle.ike_values.specs.Writing.{first_type_of, chain_written}
 
 -- the flags Initiator and Response
 abbrev pub flags_of : Header → ℕ
@@ -16,4 +16,4 @@ pub record FitsHeader (h : Header) : Type 0 where
   pub id : h.id < 2 ^ 32
 
 abbrev pub message_written : Message → List ℕ
-message_written m = to_be_bytes w64 m.header.spii ++ to_be_bytes w64 m.header.spir ++ (first_of m.payloads ∷ 32 ∷ m.header.exchange ∷ flags_of m.header ∷ []) ++ to_be_bytes w32 m.header.id ++ to_be_bytes w32 (28 + length (chain_written m.payloads)) ++ chain_written m.payloads
+message_written m = to_be_bytes w64 m.header.spii ++ to_be_bytes w64 m.header.spir ++ (first_type_of m.payloads ∷ 32 ∷ m.header.exchange ∷ flags_of m.header ∷ []) ++ to_be_bytes w32 m.header.id ++ to_be_bytes w32 (28 + length (chain_written m.payloads)) ++ chain_written m.payloads

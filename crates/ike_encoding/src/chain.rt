@@ -3,7 +3,7 @@
 ghost use Rattle.std.specs.Prelude.{◌≡◌, ◌+◌, ◌++◌, ◌∷◌, false, true, length, map, IfOk, OnOk};
 ghost use Rattle.ike_values.specs.PayloadView.{payload_value};
 ghost use Rattle.ike_values.specs.Spelling.{two, type_of, HasSpelling, Spells};
-ghost use Rattle.ike_values.specs.Writing.{first_of, next_of, body_written, FitsPayload, chain_written, AreValid};
+ghost use Rattle.ike_values.specs.Writing.{first_type_of, next_type_of, body_written, FitsPayload, chain_written, AreValid};
 
 use crate::bodies::encode_body;
 use crate::octets::put_two;
@@ -15,7 +15,7 @@ use ike_values::{Payload, Payloads, body_len};
 /// of the spelling may then stand in `out`.
 pub fn encode_chain(payloads: &Payloads, out: &mut Octets) -> Result<u8, Memory>
     requires { HasSpelling payloads.now }
-    ensures first { IfOk result (λ first. first ≡ first_of payloads.now) }
+    ensures first { IfOk result (λ first. first ≡ first_type_of payloads.now) }
     ensures written { OnOk result (out.new.octets ≡ out.old.octets ++ chain_written payloads.now) }
     // What is appended is a spelling, and one of an inner chain where SK is not among the payloads.
     ensures spells { IfOk result (λ first. Spells payloads.now first false (chain_written payloads.now)) }
@@ -26,7 +26,7 @@ pub fn encode_chain(payloads: &Payloads, out: &mut Octets) -> Result<u8, Memory>
 
 fn put_chain(payloads: &[Payload], out: &mut Octets) -> Result<u8, Memory>
     requires { AreValid false (map payload_value payloads.now) }
-    ensures first { IfOk result (λ first. first ≡ first_of (map payload_value payloads.now)) }
+    ensures first { IfOk result (λ first. first ≡ first_type_of (map payload_value payloads.now)) }
     ensures written { OnOk result (out.new.octets ≡ out.old.octets ++ chain_written (map payload_value payloads.now)) }
 {
     put_payloads(out, payloads)?;
@@ -55,7 +55,7 @@ fn put_payload(out: &mut Octets, next: u8, payload: &Payload) -> Result<(), Memo
 }
 
 fn next_of(payload: &Payload, others: &[Payload]) -> u8
-    ensures { result ≡ next_of (payload_value payload.now) (map payload_value others.now) }
+    ensures { result ≡ next_type_of (payload_value payload.now) (map payload_value others.now) }
 {
     match payload {
         Payload::Sk(sk) => sk.first,
@@ -64,7 +64,7 @@ fn next_of(payload: &Payload, others: &[Payload]) -> u8
 }
 
 fn first_of(payloads: &[Payload]) -> u8
-    ensures { result ≡ first_of (map payload_value payloads.now) }
+    ensures { result ≡ first_type_of (map payload_value payloads.now) }
 {
     match payloads {
         [] => 0,

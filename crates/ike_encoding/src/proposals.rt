@@ -5,7 +5,7 @@ ghost use Rattle.std.specs.List.{AllByRecursion};
 ghost use Rattle.ike_values.specs.AttributeView.{attribute_value};
 ghost use Rattle.ike_values.specs.TransformView.{transform_value};
 ghost use Rattle.ike_values.specs.ProposalView.{proposal_value};
-ghost use Rattle.ike_values.specs.Spelling.{mark, attribute_spelling, attributes_spelling, FitsAttribute};
+ghost use Rattle.ike_values.specs.Spelling.{last_mark, attribute_spelling, attributes_spelling, FitsAttribute};
 ghost use Rattle.ike_values.specs.Writing.{transform_written, transforms_written, FitsTransform, proposal_written, proposals_written, FitsProposal};
 
 use crate::octets::put_two;
@@ -48,7 +48,7 @@ fn put_proposal(out: &mut Octets, last: bool, proposal: &Proposal) -> Result<(),
 
 // What an item of a list begins with: 0 for the last.
 fn mark(more: u8, last: bool) -> u8
-    ensures { result ≡ mark more last }
+    ensures { result ≡ last_mark more last }
 {
     if last { 0 } else { more }
 }

@@ -8,7 +8,7 @@ use Rattle.ike_values.specs.Spelling.{type_of, SpellsBody, Front, GoesOn, Spells
 use Rattle.ike_grammar.specs.declared.fault.Bad.{Bad}
 use Rattle.ike_grammar.specs.declared.fault.Reason.{Reason}
 use Rattle.ike_grammar.specs.OctetRange.{IsOctets}
-use Rattle.ike_grammar.specs.Kinds.{kind_of, is_sk}
+use Rattle.ike_grammar.specs.Kinds.{payload_kind, is_sk}
 use Rattle.ike_grammar.specs.Faults.{◌>>=◌}
 use Rattle.ike_grammar.specs.Chain.{payload_at, end_tests, chain_by, chain_at, Refused}
 use Rattle.ike_grammar.proofs.Binds.{bind_ok, ok_is, unless_ok, unless_passes}
@@ -20,7 +20,7 @@ spells_none : (items : List PayloadValue) (first : ℕ) (inner : Bool) (bytes : 
 spells_none [] first inner bytes none s = refl
 spells_none (x ∷ items) first inner bytes none s = absurd (omega (arith, ap length s.1.bytes_are, ap length none))
 
-goes_found : (x : PayloadValue) (f : Front) (y : PayloadValue × ℕ × List ℕ) (inner : Bool) (items : List PayloadValue) → Leads x f.next f.rest y → NextIs x f.next → (is_sk (kind_of (type_of x)) && inner) ≡ false → Spells items y.1 inner y.2
+goes_found : (x : PayloadValue) (f : Front) (y : PayloadValue × ℕ × List ℕ) (inner : Bool) (items : List PayloadValue) → Leads x f.next f.rest y → NextIs x f.next → (is_sk (payload_kind (type_of x)) && inner) ≡ false → Spells items y.1 inner y.2
     → (y.0 ≡ x) × GoesOn x inner items f (Spells items f.next inner f.rest)
 goes_found (sk x) f y inner items l n stands s =
     let others : Spells items 0 inner f.rest = subst (λ (z : PayloadValue × ℕ × List ℕ). Spells items z.1 inner z.2) l.0 s in
@@ -43,7 +43,7 @@ chain_by_found (suc n) end inner (suc number) bytes xs fits l e =
     let shorter = payload_shortens end (suc number) inner bytes first.0 first.1 in
     let rest_fits : IsOctets first.0.2 = subst IsOctets (sym found.left_is) found.rest_fits in
     let more = chain_by_found n end inner first.0.1 first.0.2 others.0 rest_fits (omega (arith, shorter)) others.1 in
-    let stands : (is_sk (kind_of (type_of found.payload)) && inner) ≡ false = subst (λ (k : ℕ). (is_sk (kind_of k) && inner) ≡ false) found.spelled.first_is found.stands in
+    let stands : (is_sk (payload_kind (type_of found.payload)) && inner) ≡ false = subst (λ (k : ℕ). (is_sk (payload_kind k) && inner) ≡ false) found.spelled.first_is found.stands in
     let goes = goes_found found.payload found.front first.0 inner others.0 found.leads found.next_is stands more in
     let whole : Spells (found.payload ∷ others.0) (suc number) inner bytes = (found.front, found.spelled, goes.1) in
     subst (λ (ys : List PayloadValue). Spells ys (suc number) inner bytes) (ap (λ (y : PayloadValue). y ∷ others.0) (sym goes.0) ∙ ok_is (first.0.0 ∷ others.0) xs others.2) whole

@@ -10,9 +10,9 @@ use Rattle.ike_grammar.specs.declared.fault.Unread.{Unread}
 use Rattle.ike_grammar.specs.declared.fault.Unread.TheVariants as unread
 use Rattle.ike_grammar.specs.declared.kind.Kind.{Kind}
 use Rattle.ike_grammar.specs.declared.kind.Kind.TheVariants.{Sk}
-use Rattle.ike_grammar.specs.Kinds.{kind_of}
+use Rattle.ike_grammar.specs.Kinds.{payload_kind}
 use Rattle.ike_grammar.specs.Faults.{◌>>=◌, Fails, unless, two_at}
-use Rattle.ike_grammar.specs.Chain.{body_at, payload_tests, body_of, after, last_tests, leads_to, payload_at, end_tests, chain_by, chain_at}
+use Rattle.ike_grammar.specs.Chain.{body_at, payload_tests, body_of, behind_payload, last_tests, leads_to, payload_at, end_tests, chain_by, chain_at}
 use Rattle.ike_grammar.proofs.Binds.{bind_ok, bind_same, ok_is, unless_ok, or_false}
 use Rattle.ike_grammar.proofs.Many.{with_items}
 
@@ -26,12 +26,12 @@ leads_left kind end next left payload x e = subst (λ (y : PayloadValue × ℕ �
 pub payload_shortens : (end number : ℕ) (inner : Bool) (bytes : List ℕ) (x : PayloadValue × ℕ × List ℕ) → payload_at end number inner bytes ≡ Ok x → length x.2 + 4 ≤ length bytes
 unfolding payload_at
 payload_shortens end number inner bytes x e =
-    let u = unless_ok (payload_tests end number inner bytes) (body_at (kind_of number) (end - length (after bytes)) number (slice_index bytes 0) (body_of bytes) >>= λ payload. leads_to (kind_of number) end (slice_index bytes 0) (after bytes) payload) x e in
-    let b = bind_ok (body_at (kind_of number) (end - length (after bytes)) number (slice_index bytes 0) (body_of bytes)) (λ payload. leads_to (kind_of number) end (slice_index bytes 0) (after bytes) payload) x u.1 in
+    let u = unless_ok (payload_tests end number inner bytes) (body_at (payload_kind number) (end - length (behind_payload bytes)) number (slice_index bytes 0) (body_of bytes) >>= λ payload. leads_to (payload_kind number) end (slice_index bytes 0) (behind_payload bytes) payload) x e in
+    let b = bind_ok (body_at (payload_kind number) (end - length (behind_payload bytes)) number (slice_index bytes 0) (body_of bytes)) (λ payload. leads_to (payload_kind number) end (slice_index bytes 0) (behind_payload bytes) payload) x u.1 in
     let t = or_false _ _ u.0.1.0 in
     let least : 4 ≤ two_at bytes 2 = ltb-false _ _ t.0 in
     let most : two_at bytes 2 ≤ length bytes = ltb-false _ _ t.1 in
-    rw (leads_left (kind_of number) end (slice_index bytes 0) (after bytes) b.0 x b.2) (omega (arith, length-drop (two_at bytes 2) bytes))
+    rw (leads_left (payload_kind number) end (slice_index bytes 0) (behind_payload bytes) b.0 x b.2) (omega (arith, length-drop (two_at bytes 2) bytes))
 
 pub enough : (end : ℕ) (inner : Bool) (n m number : ℕ) (bytes : List ℕ) → length bytes < n → length bytes < m → chain_by n end inner number bytes ≡ chain_by m end inner number bytes
 unfolding chain_by

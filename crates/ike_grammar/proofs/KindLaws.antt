@@ -5,7 +5,7 @@ use Rattle.std.proofs.lemmas.Bool.{eqb-true, eqb-false, ltb-true, lt-ltb, cases_
 use Rattle.ike_values.specs.Spelling.{is_unknown}
 use Rattle.ike_grammar.specs.declared.kind.Kind.{Kind}
 use Rattle.ike_grammar.specs.declared.kind.Kind.TheVariants.{Sa, Ke, IdI, IdR, Cert, CertReq, Auth, Nonce, Notify, Delete, Vendor, TsI, TsR, Sk, Cp, Eap, Other}
-use Rattle.ike_grammar.specs.Kinds.{kind_of}
+use Rattle.ike_grammar.specs.Kinds.{payload_kind}
 use Rattle.ike_grammar.proofs.Binds.{bool_same}
 
 -- the types of a kind
@@ -74,7 +74,7 @@ outside number some f33 f34 f35 f36 f37 f38 f39 f40 f41 f42 f43 f44 f45 f46 f47 
           above (nat_lt number 33) (nat_lt 48 number) (lt-ltb 48 number (omega (arith, n49)))
     ])
 
-pub kind_is : (number : ℕ) → 0 < number → KindIs (kind_of number) number
+pub kind_is : (number : ℕ) → 0 < number → KindIs (payload_kind number) number
 kind_is number some =
     pick (number == 33) Sa _ number (λ t. eqb-true number 33 t) (λ f33.
     pick (number == 34) Ke _ number (λ t. eqb-true number 34 t) (λ f34.
@@ -118,6 +118,6 @@ unlike a number l h u =
     ])
     (λ f. absurd cc)
 
-pub unknown_kind : (number : ℕ) → IsTrue (is_unknown number) → kind_of number ≡ Other
+pub unknown_kind : (number : ℕ) → IsTrue (is_unknown number) → payload_kind number ≡ Other
 unknown_kind number u =
     rw (unlike 33 number (omega arith) (omega arith) u, unlike 34 number (omega arith) (omega arith) u, unlike 35 number (omega arith) (omega arith) u, unlike 36 number (omega arith) (omega arith) u, unlike 37 number (omega arith) (omega arith) u, unlike 38 number (omega arith) (omega arith) u, unlike 39 number (omega arith) (omega arith) u, unlike 40 number (omega arith) (omega arith) u, unlike 41 number (omega arith) (omega arith) u, unlike 42 number (omega arith) (omega arith) u, unlike 43 number (omega arith) (omega arith) u, unlike 44 number (omega arith) (omega arith) u, unlike 45 number (omega arith) (omega arith) u, unlike 46 number (omega arith) (omega arith) u, unlike 47 number (omega arith) (omega arith) u, unlike 48 number (omega arith) (omega arith) u) refl

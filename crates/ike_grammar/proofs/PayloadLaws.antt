@@ -9,12 +9,12 @@ use Rattle.ike_grammar.specs.declared.fault.Bad.{Bad}
 use Rattle.ike_grammar.specs.declared.kind.Kind.{Kind}
 use Rattle.ike_grammar.specs.declared.kind.Kind.TheVariants.{Sa, Ke, IdI, IdR, Cert, CertReq, Auth, Nonce, Notify, Delete, Vendor, TsI, TsR, Sk, Cp, Eap, Other}
 use Rattle.ike_grammar.specs.OctetRange.{IsOctets}
-use Rattle.ike_grammar.specs.Kinds.{kind_of, is_sk, is_other}
+use Rattle.ike_grammar.specs.Kinds.{payload_kind, is_sk, is_other}
 use Rattle.ike_grammar.specs.Faults.{◌>>=◌, two_at}
 use Rattle.ike_grammar.specs.Bodies.{id_at, auth_at, nonce_at, notify_at, delete_at, sk_at}
 use Rattle.ike_grammar.specs.Proposals.{proposals_at}
 use Rattle.ike_grammar.specs.Selectors.{traffic_at}
-use Rattle.ike_grammar.specs.Chain.{made, body_at, payload_tests, body_of, after, last_tests, leads_to, payload_at}
+use Rattle.ike_grammar.specs.Chain.{made, body_at, payload_tests, body_of, behind_payload, last_tests, leads_to, payload_at}
 use Rattle.ike_grammar.proofs.Binds.{done, bind_ok, ok_is, unless_ok, unless_passes, or_false, or_falses, and_false, and_first_false, and_second_false}
 use Rattle.ike_grammar.proofs.Cells.{IsOctets-drop, IsOctets-take, heads4, same4, high, low, two_again, split_within, length-within}
 use Rattle.ike_grammar.proofs.Chains.{leads_left}
@@ -58,7 +58,7 @@ body_found Other end number next body x fits k e =
     let read : PayloadValue = other (record { kind = number; body = body }) in
     subst (FoundBody number next body) (ok_is read x e) ((refl, k), refl, tt)
 
-pub body_again : (x : PayloadValue) (end next : ℕ) (body : List ℕ) → SpellsBody x body → NextIs x next → body_at (kind_of (type_of x)) end (type_of x) next body ≡ Ok x
+pub body_again : (x : PayloadValue) (end next : ℕ) (body : List ℕ) → SpellsBody x body → NextIs x next → body_at (payload_kind (type_of x)) end (type_of x) next body ≡ Ok x
 unfolding body_at
 body_again (sa x) end next body s n = ap (λ r. made sa r) (proposals_again end body x s.0 s.1)
 body_again (ke x) end next body s n = ap (λ (b : List ℕ). done (ke b)) s
@@ -87,7 +87,7 @@ abbrev pub Leads : PayloadValue → ℕ → List ℕ → PayloadValue × ℕ × 
 Leads (sk x) next left y = (y ≡ (sk x, 0, left)) × (left ≡ [])
 Leads item next left y = y ≡ (item, next, left)
 
-leads_found : (x : PayloadValue) (end next : ℕ) (left body : List ℕ) (y : PayloadValue × ℕ × List ℕ) → SpellsBody x body → leads_to (kind_of (type_of x)) end next left x ≡ Ok y → Leads x next left y
+leads_found : (x : PayloadValue) (end next : ℕ) (left body : List ℕ) (y : PayloadValue × ℕ × List ℕ) → SpellsBody x body → leads_to (payload_kind (type_of x)) end next left x ≡ Ok y → Leads x next left y
 leads_found (sk x) end next left body y s e =
     let u = unless_ok (last_tests end left) (Ok (sk x, 0, left)) y e in
     let le = ltb-false 0 (length left) u.0.0 in
@@ -96,10 +96,10 @@ leads_found (other x) end next left body y s e =
     sym (ok_is (other x, next, left) y (sym (ap (λ (kind : Kind). leads_to kind end next left (other x)) (unknown_kind x.kind s.1)) ∙ e))
 leads_found item end next left body y s e = sym (ok_is (item, next, left) y e)
 
-flags_found : (x : PayloadValue) (number flags : ℕ) (body : List ℕ) → flags < 256 → type_of x ≡ number → (is_other (kind_of number) && nat_le 128 flags) ≡ false → SpellsBody x body → MayHave x flags
+flags_found : (x : PayloadValue) (number flags : ℕ) (body : List ℕ) → flags < 256 → type_of x ≡ number → (is_other (payload_kind number) && nat_le 128 flags) ≡ false → SpellsBody x body → MayHave x flags
 flags_found (other x) number flags body l t e s =
-    let kind : kind_of number ≡ Other = ap kind_of (sym t) ∙ unknown_kind x.kind s.1 in
-    leb-false 128 flags (and_false (is_other (kind_of number)) (nat_le 128 flags) (ap is_other kind) e)
+    let kind : payload_kind number ≡ Other = ap payload_kind (sym t) ∙ unknown_kind x.kind s.1 in
+    leb-false 128 flags (and_false (is_other (payload_kind number)) (nat_le 128 flags) (ap is_other kind) e)
 flags_found item number flags body l t e s = l
 
 pub record FoundPayload (number : ℕ) (inner : Bool) (bytes : List ℕ) (x : PayloadValue × ℕ × List ℕ) : Type 0 where
@@ -108,7 +108,7 @@ pub record FoundPayload (number : ℕ) (inner : Bool) (bytes : List ℕ) (x : Pa
   pub spelled : SpellsFront payload number bytes front
   pub leads : Leads payload front.next front.rest x
   pub next_is : NextIs payload front.next
-  pub stands : (is_sk (kind_of number) && inner) ≡ false
+  pub stands : (is_sk (payload_kind number) && inner) ≡ false
   pub left_is : x.2 ≡ front.rest
   pub rest_fits : IsOctets front.rest
 
@@ -116,18 +116,18 @@ pub payload_found : (end number : ℕ) (inner : Bool) (bytes : List ℕ) (x : Pa
 unfolding payload_at
 payload_found end number inner bytes x fits some e =
     let next = slice_index bytes 0 in
-    let left = after bytes in
+    let left = behind_payload bytes in
     let body = body_of bytes in
     let n = two_at bytes 2 in
-    let read = body_at (kind_of number) (end - length left) number next body in
-    let u = unless_ok (payload_tests end number inner bytes) (read >>= λ payload. leads_to (kind_of number) end next left payload) x e in
-    let b = bind_ok read (λ payload. leads_to (kind_of number) end next left payload) x u.1 in
+    let read = body_at (payload_kind number) (end - length left) number next body in
+    let u = unless_ok (payload_tests end number inner bytes) (read >>= λ payload. leads_to (payload_kind number) end next left payload) x e in
+    let b = bind_ok read (λ payload. leads_to (payload_kind number) end next left payload) x u.1 in
     let t = or_false _ _ u.0.1.0 in
     let long : 4 ≤ length bytes = ltb-false _ _ u.0.0 in
     let least : 4 ≤ n = ltb-false _ _ t.0 in
     let most : n ≤ length bytes = ltb-false _ _ t.1 in
     let len : 4 + length body ≡ n = length-within 4 n bytes least most in
-    let found = body_found (kind_of number) (end - length left) number next body b.0 (IsOctets-drop 4 _ (IsOctets-take n bytes fits)) (kind_is number some) b.1 in
+    let found = body_found (payload_kind number) (end - length left) number next body b.0 (IsOctets-drop 4 _ (IsOctets-take n bytes fits)) (kind_is number some) b.1 in
     let upper : (4 + length body) / 256 ≡ slice_index bytes 2 = ap (λ (k : ℕ). k / 256) len ∙ high (slice_index bytes 2) (slice_index bytes 3) (fits 3) in
     let lower : (4 + length body) % 256 ≡ slice_index bytes 3 = ap (λ (k : ℕ). k % 256) len ∙ low (slice_index bytes 2) (slice_index bytes 3) (fits 3) in
     record {
@@ -140,10 +140,10 @@ payload_found end number inner bytes x fits some e =
         flags_fit = flags_found b.0 number (slice_index bytes 1) body (fits 1) found.1 u.0.1.1.0 found.0;
         body_is = found.0;
       };
-      leads = leads_found b.0 end next left body x found.0 (ap (λ (k : ℕ). leads_to (kind_of k) end next left b.0) found.1 ∙ b.2);
+      leads = leads_found b.0 end next left body x found.0 (ap (λ (k : ℕ). leads_to (payload_kind k) end next left b.0) found.1 ∙ b.2);
       next_is = found.2;
       stands = u.0.1.1.1.0;
-      left_is = leads_left (kind_of number) end next left b.0 x b.2;
+      left_is = leads_left (payload_kind number) end next left b.0 x b.2;
       rest_fits = IsOctets-drop n bytes fits;
     }
 
@@ -159,20 +159,20 @@ abbrev pub goes_to : PayloadValue → Front → ℕ
 goes_to (sk x) f = 0
 goes_to item f = f.next
 
-flags_pass : (x : PayloadValue) (flags : ℕ) → MayHave x flags → (is_other (kind_of (type_of x)) && nat_le 128 flags) ≡ false
-flags_pass (other x) flags l = and_second_false (is_other (kind_of x.kind)) (nat_le 128 flags) (lt-leb 128 flags l)
+flags_pass : (x : PayloadValue) (flags : ℕ) → MayHave x flags → (is_other (payload_kind (type_of x)) && nat_le 128 flags) ≡ false
+flags_pass (other x) flags l = and_second_false (is_other (payload_kind x.kind)) (nat_le 128 flags) (lt-leb 128 flags l)
 flags_pass item flags l = refl
 
-stands_pass : (x : PayloadValue) (inner : Bool) (f : Front) (body : List ℕ) → SpellsBody x body → Stands x inner f → (is_sk (kind_of (type_of x)) && inner) ≡ false
+stands_pass : (x : PayloadValue) (inner : Bool) (f : Front) (body : List ℕ) → SpellsBody x body → Stands x inner f → (is_sk (payload_kind (type_of x)) && inner) ≡ false
 stands_pass (sk x) inner f body s l = l.0
-stands_pass (other x) inner f body s l = and_first_false (is_sk (kind_of x.kind)) inner (ap is_sk (unknown_kind x.kind s.1))
+stands_pass (other x) inner f body s l = and_first_false (is_sk (payload_kind x.kind)) inner (ap is_sk (unknown_kind x.kind s.1))
 stands_pass item inner f body s l = refl
 
 stands_next : (x : PayloadValue) (inner : Bool) (f : Front) → Stands x inner f → NextIs x f.next
 stands_next (sk x) inner f l = sym l.2
 stands_next item inner f l = tt
 
-leads_again : (x : PayloadValue) (inner : Bool) (end : ℕ) (f : Front) (body : List ℕ) → SpellsBody x body → Stands x inner f → leads_to (kind_of (type_of x)) end f.next f.rest x ≡ Ok (x, goes_to x f, f.rest)
+leads_again : (x : PayloadValue) (inner : Bool) (end : ℕ) (f : Front) (body : List ℕ) → SpellsBody x body → Stands x inner f → leads_to (payload_kind (type_of x)) end f.next f.rest x ≡ Ok (x, goes_to x f, f.rest)
 leads_again (sk x) inner end f body s l = unless_passes (last_tests end f.rest) (Ok (sk x, 0, f.rest)) (le-ltb 0 (length f.rest) (omega (arith, ap length l.1)), tt)
 leads_again (other x) inner end f body s l = ap (λ (kind : Kind). leads_to kind end f.next f.rest (other x)) (unknown_kind x.kind s.1)
 leads_again item inner end f body s l = refl
@@ -184,15 +184,15 @@ payload_again end number inner bytes x f s l =
     let whole : List ℕ = f.next ∷ f.flags ∷ (4 + length f.body) / 256 ∷ (4 + length f.body) % 256 ∷ f.body in
     let n : 256 * ((4 + length f.body) / 256) + (4 + length f.body) % 256 ≡ 4 + length f.body = two_again (4 + length f.body) in
     let whole_len : length whole ≡ 256 * ((4 + length f.body) / 256) + (4 + length f.body) % 256 = omega (arith, n) in
-    let kind = kind_of (type_of x) in
+    let kind = payload_kind (type_of x) in
     let body_is : body_of octets ≡ f.body = ap (λ (t : List ℕ). drop 4 t) (take_at whole f.rest _ whole_len) in
-    let left_is : after octets ≡ f.rest = drop_at whole f.rest _ whole_len in
-    let inside_end = end - length (after octets) in
+    let left_is : behind_payload octets ≡ f.rest = drop_at whole f.rest _ whole_len in
+    let inside_end = end - length (behind_payload octets) in
     let read : body_at kind inside_end (type_of x) f.next (body_of octets) ≡ Ok x = ap (λ (b : List ℕ). body_at kind inside_end (type_of x) f.next b) body_is ∙ body_again x inside_end f.next f.body s.body_is (stands_next x inner f l) in
     ap (λ (k : ℕ). payload_at end k inner bytes) s.first_is ∙
     ap (λ (b : List ℕ). payload_at end (type_of x) inner b) s.bytes_are ∙
-    unless_passes (payload_tests end (type_of x) inner octets) (body_at kind inside_end (type_of x) f.next (body_of octets) >>= λ payload. leads_to kind end f.next (after octets) payload)
+    unless_passes (payload_tests end (type_of x) inner octets) (body_at kind inside_end (type_of x) f.next (body_of octets) >>= λ payload. leads_to kind end f.next (behind_payload octets) payload)
     (le-ltb (length octets) 4 (omega arith), (or_falses _ _ (le-ltb _ _ (omega (arith, n))) (le-ltb (length octets) _ (omega (arith, n, length-append f.body f.rest))), (flags_pass x f.flags s.flags_fit, (stands_pass x inner f f.body s.body_is l, tt)))) ∙
-    ap (λ (r : Result PayloadValue Bad). r >>= λ payload. leads_to kind end f.next (after octets) payload) read ∙
+    ap (λ (r : Result PayloadValue Bad). r >>= λ payload. leads_to kind end f.next (behind_payload octets) payload) read ∙
     ap (λ (left : List ℕ). leads_to kind end f.next left x) left_is ∙
     leads_again x inner end f f.body s.body_is l

@@ -8,7 +8,7 @@ use Rattle.ike_values.specs.Spelling.{is_last, ProposalParts, SpellsProposal, Sp
 use Rattle.ike_grammar.specs.declared.fault.Bad.{Bad}
 use Rattle.ike_grammar.specs.OctetRange.{IsOctets}
 use Rattle.ike_grammar.specs.Faults.{◌>>=◌, Passes, two_at, many}
-use Rattle.ike_grammar.specs.Proposals.{item_tests, within, behind, transforms_at, proposal_tests, left_tests, proposal_read, inside_at, proposal_made, proposal_at, proposals_tests, proposals_at}
+use Rattle.ike_grammar.specs.Proposals.{item_tests, within, behind_item, transforms_at, proposal_tests, left_tests, proposal_read, inside_at, proposal_made, proposal_at, proposals_tests, proposals_at}
 use Rattle.ike_grammar.proofs.Binds.{done, bind_ok, ok_is, unless_ok, unless_passes, not_none, some_octets}
 use Rattle.ike_grammar.proofs.Cells.{IsOctets-drop, IsOctets-take}
 use Rattle.ike_grammar.proofs.ItemLaws.{item_found, item_octets, item_again}
@@ -23,25 +23,25 @@ pub proposal_found : (end : ℕ) (bytes : List ℕ) (x : ProposalValue × List �
     → (p : ProposalParts) × SpellsProposal x.0 (length p.rest == 0) bytes p × (p.rest ≡ x.1) × IsOctets x.1
 unfolding proposal_at
 proposal_found end bytes x fits e =
-    let last = length (behind bytes) == 0 in
+    let last = length (behind_item bytes) == 0 in
     let u = unless_ok (proposal_tests end bytes) (inside_at end bytes >>= λ inside. proposal_made end bytes inside) x e in
     let b = bind_ok (inside_at end bytes) (λ inside. proposal_made end bytes inside) x u.1 in
-    let v = unless_ok (left_tests (end - length (behind bytes)) b.0.1) (Ok (proposal_read bytes b.0.0)) x b.2 in
+    let v = unless_ok (left_tests (end - length (behind_item bytes)) b.0.1) (Ok (proposal_read bytes b.0.0)) x b.2 in
     let size = slice_index bytes 6 in
     let item = item_found end 2 (8 + size) last bytes fits (omega arith) u.0 in
     let nothing : length b.0.1 ≡ 0 = (let le = ltb-false 0 (length b.0.1) v.0.0 in omega arith) in
     let content_fits = IsOctets-drop 8 _ (IsOctets-take (two_at bytes 2) bytes fits) in
-    let all = transforms_found (slice_index bytes 7) (end - length (behind bytes)) (drop size (within bytes)) b.0 (IsOctets-drop size (within bytes) content_fits) b.1 nothing in
+    let all = transforms_found (slice_index bytes 7) (end - length (behind_item bytes)) (drop size (within bytes)) b.0 (IsOctets-drop size (within bytes) content_fits) b.1 nothing in
     let spi = take size (within bytes) in
     let spi_len : length spi ≡ size = omega (arith, length-take size (within bytes), item.least_fits) in
     let joined : within bytes ≡ spi ++ drop size (within bytes) = sym (take-append-drop size (within bytes)) in
     subst (FoundProposal bytes) (ok_is (proposal_read bytes b.0.0) x v.1) (
-      record { reserved = slice_index bytes 1; inside = drop size (within bytes); rest = behind bytes },
+      record { reserved = slice_index bytes 1; inside = drop size (within bytes); rest = behind_item bytes },
       record {
         bytes_are = item.bytes_are ∙
-            ap (λ (i : List ℕ). item_octets 2 last (slice_index bytes 1) (slice_index bytes 4) (slice_index bytes 5) size (slice_index bytes 7) i (behind bytes)) joined ∙
-            ap (λ (k : ℕ). item_octets 2 last (slice_index bytes 1) (slice_index bytes 4) (slice_index bytes 5) k (slice_index bytes 7) (spi ++ drop size (within bytes)) (behind bytes)) (sym spi_len) ∙
-            ap (λ (k : ℕ). item_octets 2 last (slice_index bytes 1) (slice_index bytes 4) (slice_index bytes 5) (length spi) k (spi ++ drop size (within bytes)) (behind bytes)) (sym all.1);
+            ap (λ (i : List ℕ). item_octets 2 last (slice_index bytes 1) (slice_index bytes 4) (slice_index bytes 5) size (slice_index bytes 7) i (behind_item bytes)) joined ∙
+            ap (λ (k : ℕ). item_octets 2 last (slice_index bytes 1) (slice_index bytes 4) (slice_index bytes 5) k (slice_index bytes 7) (spi ++ drop size (within bytes)) (behind_item bytes)) (sym spi_len) ∙
+            ap (λ (k : ℕ). item_octets 2 last (slice_index bytes 1) (slice_index bytes 4) (slice_index bytes 5) (length spi) k (spi ++ drop size (within bytes)) (behind_item bytes)) (sym all.1);
         length_fits = subst (λ (i : List ℕ). 8 + length i < 65536) joined item.fits;
         spi_fits = omega (arith, spi_len, fits 6);
         count_fits = omega (arith, all.1, fits 7);
@@ -62,9 +62,9 @@ proposal_again end last bytes x p s is_last_by_length =
     let content : List ℕ = x.spi ++ p.inside in
     let octets = item_octets 2 last p.reserved x.number x.protocol (length x.spi) (length x.transforms) content p.rest in
     let item = item_again end 2 (8 + length x.spi) last p.reserved x.number x.protocol (length x.spi) (length x.transforms) content p.rest (omega (arith, length-append x.spi p.inside)) in
-    let same_last : last ≡ eqb (length (behind octets)) 0 = sym is_last_by_length ∙ ap (λ (r : List ℕ). eqb (length r) 0) (sym item.behind_is) in
+    let same_last : last ≡ eqb (length (behind_item octets)) 0 = sym is_last_by_length ∙ ap (λ (r : List ℕ). eqb (length r) 0) (sym item.behind_is) in
     let passes : Passes (proposal_tests end octets) = subst (λ (l : Bool). Passes (item_tests end 2 (8 + length x.spi) l octets)) same_last item.passes in
-    let content_end = end - length (behind octets) in
+    let content_end = end - length (behind_item octets) in
     let transforms_are : drop (length x.spi) (within octets) ≡ p.inside = ap (λ (w : List ℕ). drop (length x.spi) w) item.within_is ∙ drop_at x.spi p.inside (length x.spi) refl in
     let spi_is : take (length x.spi) (within octets) ≡ x.spi = ap (λ (w : List ℕ). take (length x.spi) w) item.within_is ∙ take_at x.spi p.inside (length x.spi) refl in
     let inside : inside_at end octets ≡ Ok (x.transforms, []) = ap (λ (t : List ℕ). transforms_at content_end (length x.transforms) t) transforms_are ∙ transforms_again content_end x.transforms p.inside s.transforms in

@@ -6,7 +6,7 @@ use Rattle.std.proofs.lemmas.List.{length-drop}
 use Rattle.ike_values.specs.Values.{AttributeValue, TransformValue, ProposalValue, SelectorValue}
 use Rattle.ike_values.specs.Spelling.{address_len}
 use Rattle.ike_grammar.specs.Faults.{◌>>=◌, unless, Passes, two_at, many, counted}
-use Rattle.ike_grammar.specs.Proposals.{attribute_tests, attribute_at, formed_at, free_tests, free_read, fixed_read, item_tests, within, behind, transform_at, transform_read, transforms_at, proposal_tests, proposal_at, proposal_read, proposal_made, inside_at, left_tests}
+use Rattle.ike_grammar.specs.Proposals.{attribute_tests, attribute_at, formed_at, free_tests, free_read, fixed_read, item_tests, within, behind_item, transform_at, transform_read, transforms_at, proposal_tests, proposal_at, proposal_read, proposal_made, inside_at, left_tests}
 use Rattle.ike_grammar.specs.Selectors.{selector_tests, selector_read, selector_at}
 use Rattle.ike_grammar.proofs.Binds.{bind_ok, ok_is, unless_ok, chosen, or_false}
 use Rattle.ike_grammar.proofs.Many.{Shortens}
@@ -36,8 +36,8 @@ item_length end more least last bytes l p =
 transform_shortens : (end : ℕ) (last : Bool) (bytes : List ℕ) (x : TransformValue × List ℕ) → transform_at end last bytes ≡ Ok x → length x.1 < length bytes
 unfolding transform_at
 transform_shortens end last bytes x e =
-    let u = unless_ok (item_tests end 3 8 last bytes) (many (attribute_at (end - length (behind bytes))) (within bytes) >>= λ attributes. Ok (transform_read bytes attributes)) x e in
-    let b = bind_ok (many (attribute_at (end - length (behind bytes))) (within bytes)) (λ attributes. Ok (transform_read bytes attributes)) x u.1 in
+    let u = unless_ok (item_tests end 3 8 last bytes) (many (attribute_at (end - length (behind_item bytes))) (within bytes) >>= λ attributes. Ok (transform_read bytes attributes)) x e in
+    let b = bind_ok (many (attribute_at (end - length (behind_item bytes))) (within bytes)) (λ attributes. Ok (transform_read bytes attributes)) x u.1 in
     let l = item_length end 3 8 last bytes (omega arith) u.0 in
     subst (λ (y : TransformValue × List ℕ). length y.1 < length bytes) (ok_is (transform_read bytes b.0) x b.2) (omega (arith, l.0, l.1, l.2, length-drop (two_at bytes 2) bytes))
 
@@ -46,8 +46,8 @@ unfolding proposal_at
 proposal_shortens end bytes x e =
     let u = unless_ok (proposal_tests end bytes) (inside_at end bytes >>= λ inside. proposal_made end bytes inside) x e in
     let b = bind_ok (inside_at end bytes) (λ inside. proposal_made end bytes inside) x u.1 in
-    let v = unless_ok (left_tests (end - length (behind bytes)) b.0.1) (Ok (proposal_read bytes b.0.0)) x b.2 in
-    let l = item_length end 2 (8 + slice_index bytes 6) (length (behind bytes) == 0) bytes (omega arith) u.0 in
+    let v = unless_ok (left_tests (end - length (behind_item bytes)) b.0.1) (Ok (proposal_read bytes b.0.0)) x b.2 in
+    let l = item_length end 2 (8 + slice_index bytes 6) (length (behind_item bytes) == 0) bytes (omega arith) u.0 in
     subst (λ (y : ProposalValue × List ℕ). length y.1 < length bytes) (ok_is (proposal_read bytes b.0.0) x v.1) (omega (arith, l.0, l.1, l.2, length-drop (two_at bytes 2) bytes))
 
 pub proposals_shorten : (end : ℕ) → Shortens (proposal_at end)

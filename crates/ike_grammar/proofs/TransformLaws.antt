@@ -3,11 +3,11 @@ use Rattle.std.proofs.Common.{◌≡◌, ℕ, zero, suc, ◌+◌, ◌-◌, ◌/�
 use Rattle.std.specs.Prelude.{slice_index, ◌==◌}
 use Rattle.std.proofs.lemmas.List.{nil_from_length}
 use Rattle.ike_values.specs.Values.{AttributeValue, TransformValue}
-use Rattle.ike_values.specs.Spelling.{two, is_last, mark, attributes_spelling, TransformParts, SpellsTransform, SpellsTransforms}
+use Rattle.ike_values.specs.Spelling.{two, is_last, last_mark, attributes_spelling, TransformParts, SpellsTransform, SpellsTransforms}
 use Rattle.ike_grammar.specs.declared.fault.Bad.{Bad}
 use Rattle.ike_grammar.specs.OctetRange.{IsOctets}
 use Rattle.ike_grammar.specs.Faults.{◌>>=◌, two_at, many}
-use Rattle.ike_grammar.specs.Proposals.{attribute_at, item_tests, within, behind, transform_read, transform_at, transforms_at}
+use Rattle.ike_grammar.specs.Proposals.{attribute_at, item_tests, within, behind_item, transform_read, transform_at, transforms_at}
 use Rattle.ike_grammar.proofs.Binds.{done, bind_ok, ok_is, unless_ok, unless_passes, not_none}
 use Rattle.ike_grammar.proofs.Cells.{IsOctets-drop, IsOctets-take, two_again, two_back}
 use Rattle.ike_grammar.proofs.AttributeLaws.{attributes_found, attributes_again}
@@ -21,18 +21,18 @@ pub transform_found : (end : ℕ) (last : Bool) (bytes : List ℕ) (x : Transfor
     → (p : TransformParts) × SpellsTransform x.0 last bytes p × (p.rest ≡ x.1) × IsOctets x.1
 unfolding transform_at
 transform_found end last bytes x fits e =
-    let inside = many (attribute_at (end - length (behind bytes))) (within bytes) in
+    let inside = many (attribute_at (end - length (behind_item bytes))) (within bytes) in
     let u = unless_ok (item_tests end 3 8 last bytes) (inside >>= λ attributes. Ok (transform_read bytes attributes)) x e in
     let b = bind_ok inside (λ attributes. Ok (transform_read bytes attributes)) x u.1 in
     let item = item_found end 3 8 last bytes fits (omega arith) u.0 in
-    let all = attributes_found (end - length (behind bytes)) (within bytes) b.0 (IsOctets-drop 8 _ (IsOctets-take (two_at bytes 2) bytes fits)) b.1 in
+    let all = attributes_found (end - length (behind_item bytes)) (within bytes) b.0 (IsOctets-drop 8 _ (IsOctets-take (two_at bytes 2) bytes fits)) b.1 in
     let spelled = attributes_spelling b.0 in
     subst (FoundTransform last bytes) (ok_is (transform_read bytes b.0) x b.2) (
-      record { reserved = slice_index bytes 1; reserved_behind = slice_index bytes 5; rest = behind bytes },
+      record { reserved = slice_index bytes 1; reserved_behind = slice_index bytes 5; rest = behind_item bytes },
       record {
         bytes_are = item.bytes_are ∙
-            ap (λ (i : List ℕ). item_octets 3 last (slice_index bytes 1) (slice_index bytes 4) (slice_index bytes 5) (slice_index bytes 6) (slice_index bytes 7) i (behind bytes)) all.bytes_are ∙
-            ap (λ (id : List ℕ). mark 3 last ∷ slice_index bytes 1 ∷ two (8 + length spelled) ++ (slice_index bytes 4 ∷ slice_index bytes 5 ∷ id) ++ spelled ++ behind bytes) (sym (two_back bytes 6 fits));
+            ap (λ (i : List ℕ). item_octets 3 last (slice_index bytes 1) (slice_index bytes 4) (slice_index bytes 5) (slice_index bytes 6) (slice_index bytes 7) i (behind_item bytes)) all.bytes_are ∙
+            ap (λ (id : List ℕ). last_mark 3 last ∷ slice_index bytes 1 ∷ two (8 + length spelled) ++ (slice_index bytes 4 ∷ slice_index bytes 5 ∷ id) ++ spelled ++ behind_item bytes) (sym (two_back bytes 6 fits));
         length_fits = subst (λ (i : List ℕ). 8 + length i < 65536) all.bytes_are item.fits;
         attributes = all.fit;
       },
@@ -50,9 +50,9 @@ transform_again end last bytes x p s =
     let spelled = attributes_spelling x.attributes in
     let octets = item_octets 3 last p.reserved x.kind p.reserved_behind (x.id / 256) (x.id % 256) spelled p.rest in
     let item = item_again end 3 8 last p.reserved x.kind p.reserved_behind (x.id / 256) (x.id % 256) spelled p.rest (omega arith) in
-    let inside : many (attribute_at (end - length (behind octets))) (within octets) ≡ Ok x.attributes = attributes_again (end - length (behind octets)) (within octets) x.attributes (record { bytes_are = item.within_is; fit = s.attributes }) in
+    let inside : many (attribute_at (end - length (behind_item octets))) (within octets) ≡ Ok x.attributes = attributes_again (end - length (behind_item octets)) (within octets) x.attributes (record { bytes_are = item.within_is; fit = s.attributes }) in
     ap (transform_at end last) s.bytes_are ∙
-    unless_passes (item_tests end 3 8 last octets) (many (attribute_at (end - length (behind octets))) (within octets) >>= λ attributes. Ok (transform_read octets attributes)) item.passes ∙
+    unless_passes (item_tests end 3 8 last octets) (many (attribute_at (end - length (behind_item octets))) (within octets) >>= λ attributes. Ok (transform_read octets attributes)) item.passes ∙
     ap (λ (r : Result (List AttributeValue) Bad). r >>= λ attributes. Ok (transform_read octets attributes)) inside ∙
     transform_same x.kind _ x.id x.attributes _ p.rest (two_again x.id) item.behind_is
 

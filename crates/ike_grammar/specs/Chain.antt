@@ -7,7 +7,7 @@ use Rattle.ike_grammar.specs.declared.fault.Reason.{Reason}
 use Rattle.ike_grammar.specs.declared.fault.Reason.TheVariants.{Short, Length, Field, Trailing, UnknownCritical, SkNotLast}
 use Rattle.ike_grammar.specs.declared.kind.Kind.{Kind}
 use Rattle.ike_grammar.specs.declared.kind.Kind.TheVariants.{Sa, Ke, IdI, IdR, Cert, CertReq, Auth, Nonce, Notify, Delete, Vendor, TsI, TsR, Sk, Cp, Eap, Other}
-use Rattle.ike_grammar.specs.Kinds.{kind_of, is_sk, is_other}
+use Rattle.ike_grammar.specs.Kinds.{payload_kind, is_sk, is_other}
 use Rattle.ike_grammar.specs.Faults.{◌>>=◌, refuse, unless, two_at}
 use Rattle.ike_grammar.specs.Bodies.{id_at, auth_at, nonce_at, notify_at, delete_at, sk_at}
 use Rattle.ike_grammar.specs.Proposals.{proposals_at}
@@ -42,15 +42,15 @@ abbrev pub payload_tests : ℕ → ℕ → Bool → List ℕ → List (Bool × B
 payload_tests end number inner bytes =
     refuse (nat_lt (length bytes) 4) (end - length bytes) Short
     ∷ refuse (nat_lt (two_at bytes 2) 4 || nat_lt (length bytes) (two_at bytes 2)) (end - length bytes + 2) Length
-    ∷ refuse (is_other (kind_of number) && nat_le 128 (slice_index bytes 1)) (end - length bytes) (UnknownCritical number)
-    ∷ refuse (is_sk (kind_of number) && inner) (end - length bytes) Field
+    ∷ refuse (is_other (payload_kind number) && nat_le 128 (slice_index bytes 1)) (end - length bytes) (UnknownCritical number)
+    ∷ refuse (is_sk (payload_kind number) && inner) (end - length bytes) Field
     ∷ []
 
 abbrev pub body_of : List ℕ → List ℕ
 body_of bytes = drop 4 (take (two_at bytes 2) bytes)
 
-abbrev pub after : List ℕ → List ℕ
-after bytes = drop (two_at bytes 2) bytes
+abbrev pub behind_payload : List ℕ → List ℕ
+behind_payload bytes = drop (two_at bytes 2) bytes
 
 -- Behind SK stands nothing. Its next payload is the first inner one, and the chain ends.
 abbrev pub last_tests : ℕ → List ℕ → List (Bool × Bad)
@@ -63,8 +63,8 @@ leads_to kind end next left payload = Ok (payload, next, left)
 -- a payload, the type of the next one, and what stands behind it
 unfoldable pub payload_at : ℕ → ℕ → Bool → List ℕ → Result (PayloadValue × ℕ × List ℕ) Bad
 payload_at end number inner bytes = unless (payload_tests end number inner bytes) (do
-  payload ← body_at (kind_of number) (end - length (after bytes)) number (slice_index bytes 0) (body_of bytes)
-  leads_to (kind_of number) end (slice_index bytes 0) (after bytes) payload)
+  payload ← body_at (payload_kind number) (end - length (behind_payload bytes)) number (slice_index bytes 0) (body_of bytes)
+  leads_to (payload_kind number) end (slice_index bytes 0) (behind_payload bytes) payload)
 
 abbrev pub end_tests : ℕ → List ℕ → List (Bool × Bad)
 end_tests end bytes = refuse (nat_lt 0 (length bytes)) (end - length bytes) Trailing ∷ []

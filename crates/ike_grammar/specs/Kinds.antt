@@ -3,8 +3,8 @@ use Rattle.ike_grammar.specs.declared.kind.Kind.{Kind}
 use Rattle.ike_grammar.specs.declared.kind.Kind.TheVariants.{Sa, Ke, IdI, IdR, Cert, CertReq, Auth, Nonce, Notify, Delete, Vendor, TsI, TsR, Sk, Cp, Eap, Other}
 
 -- the payload types (RFC 7296, section 3.2)
-abbrev pub kind_of : ℕ → Kind
-kind_of number =
+abbrev pub payload_kind : ℕ → Kind
+payload_kind number =
     if number == 33 then Sa
     else if number == 34 then Ke
     else if number == 35 then IdI

@@ -1,5 +1,5 @@
 ghost use Rattle.std.specs.Prelude.{◌≡◌};
-ghost use Rattle.ike_grammar.specs.Kinds.{kind_of, is_sk, is_other};
+ghost use Rattle.ike_grammar.specs.Kinds.{payload_kind, is_sk, is_other};
 
 /// The payload types of RFC 7296, section 3.2.
 #[derive(Clone, Copy)]
@@ -24,7 +24,7 @@ pub(crate) enum Kind {
 }
 
 pub(crate) fn kind_of(number: u8) -> Kind
-    ensures { result ≡ kind_of number }
+    ensures { result ≡ payload_kind number }
 {
     match number {
         33 => Kind::Sa,

@@ -5,7 +5,7 @@ ghost use Rattle.ike_values.specs.AttributeView.{attribute_value};
 ghost use Rattle.ike_values.specs.TransformView.{transform_value};
 ghost use Rattle.ike_values.specs.ProposalView.{proposal_value};
 ghost use Rattle.ike_grammar.specs.Faults.{Gives, many};
-ghost use Rattle.ike_values.specs.Spelling.{mark};
+ghost use Rattle.ike_values.specs.Spelling.{last_mark};
 ghost use Rattle.ike_grammar.specs.Proposals.{attribute_at, transform_at, transforms_at, proposal_at, proposals_at};
 
 use crate::fault::{Reason, Unread, bad_at};
@@ -79,7 +79,7 @@ fn proposal_of(alloc: Global, end: usize, bytes: &[u8]) -> Result<(Proposal, &[u
 
 // What an item of a list begins with: 0 for the last.
 fn mark(more: u8, last: bool) -> u8
-    ensures { result ≡ mark more last }
+    ensures { result ≡ last_mark more last }
 {
     if last { 0 } else { more }
 }

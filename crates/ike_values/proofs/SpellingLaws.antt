@@ -3,7 +3,7 @@ use Rattle.std.proofs.Common.{◌≡◌, ℕ, Bool, false, List, [], ◌∷◌, 
 use Rattle.std.specs.List.{AllByRecursion}
 use Rattle.ike_values.specs.Values.{TransformValue, ProposalValue, PayloadValue, sa, ke, idi, idr, cert, certreq, auth, nonce, notify, delete, vendor, tsi, tsr, sk, cp, eap, other}
 use Rattle.ike_values.specs.Spelling.{attributes_spelling, SpellsTransforms, SpellsProposals, MayHave, SpellsBody, GoesOn, Spells, HasSpelling}
-use Rattle.ike_values.specs.Writing.{transforms_written, FitsTransform, proposals_written, FitsProposal, body_written, FitsBody, first_of, next_of, chain_written, MayStand, AreValid}
+use Rattle.ike_values.specs.Writing.{transforms_written, FitsTransform, proposals_written, FitsProposal, body_written, FitsBody, first_type_of, next_type_of, chain_written, MayStand, AreValid}
 
 -- ---- what fits is spelled by what is written
 
@@ -48,15 +48,15 @@ no_flags : (item : PayloadValue) → MayHave item 0
 no_flags (other x) = omega arith
 no_flags item = omega arith
 
-goes_on_written : (item : PayloadValue) (inner : Bool) (items : List PayloadValue) → MayStand item inner items → Spells items (first_of items) inner (chain_written items)
-    → GoesOn item inner items (record { next = next_of item items; flags = 0; body = body_written item; rest = chain_written items }) (Spells items (next_of item items) inner (chain_written items))
+goes_on_written : (item : PayloadValue) (inner : Bool) (items : List PayloadValue) → MayStand item inner items → Spells items (first_type_of items) inner (chain_written items)
+    → GoesOn item inner items (record { next = next_type_of item items; flags = 0; body = body_written item; rest = chain_written items }) (Spells items (next_type_of item items) inner (chain_written items))
 goes_on_written (sk x) inner items stands others = (stands.0, stands.1, ap chain_written stands.1, refl)
 goes_on_written item inner items stands others = others
 
-pub chain_spelled : (inner : Bool) (items : List PayloadValue) → AreValid inner items → Spells items (first_of items) inner (chain_written items)
+pub chain_spelled : (inner : Bool) (items : List PayloadValue) → AreValid inner items → Spells items (first_type_of items) inner (chain_written items)
 chain_spelled inner [] valid = (refl, refl)
 chain_spelled inner (item ∷ items) valid = (
-  record { next = next_of item items; flags = 0; body = body_written item; rest = chain_written items },
+  record { next = next_type_of item items; flags = 0; body = body_written item; rest = chain_written items },
   record { first_is = refl; bytes_are = refl; length_fits = valid.0.length_fits; flags_fit = no_flags item; body_is = body_spelled item valid.0.body },
   goes_on_written item inner items valid.1 (chain_spelled inner items valid.2),
 )
@@ -124,7 +124,7 @@ valid_outside inner (sk x ∷ items) valid = (valid.0, (refl, valid.1.1), valid_
 valid_outside inner (item ∷ items) valid = (valid.0, tt, valid_outside inner items valid.2)
 
 pub valid_has_spelling : (items : List PayloadValue) → AreValid false items → HasSpelling items
-valid_has_spelling items valid = (first_of items, false, chain_written items, chain_spelled false items valid)
+valid_has_spelling items valid = (first_type_of items, false, chain_written items, chain_spelled false items valid)
 
 pub spelled_is_valid : (items : List PayloadValue) → HasSpelling items → AreValid false items
 spelled_is_valid items s = valid_outside s.1 items (spelled_fits s.1 items s.0 s.2 s.3)

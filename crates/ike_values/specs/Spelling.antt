@@ -17,8 +17,8 @@ is_last [] = true
 is_last (x ∷ xs) = false
 
 -- the octet that an item of a list begins with: 0 at the last
-abbrev pub mark : ℕ → Bool → ℕ
-mark more last = if last then 0 else more
+abbrev pub last_mark : ℕ → Bool → ℕ
+last_mark more last = if last then 0 else more
 
 -- ---- attributes (section 3.3.5): type and value, or type, length and value; the first bit tells which
 
@@ -43,7 +43,7 @@ pub record TransformParts : Type 0 where
   pub rest : List ℕ
 
 pub record SpellsTransform (x : TransformValue) (last : Bool) (bytes : List ℕ) (p : TransformParts) : Type 0 where
-  pub bytes_are : bytes ≡ mark 3 last ∷ p.reserved ∷ two (8 + length (attributes_spelling x.attributes)) ++ (x.kind ∷ p.reserved_behind ∷ two x.id) ++ attributes_spelling x.attributes ++ p.rest
+  pub bytes_are : bytes ≡ last_mark 3 last ∷ p.reserved ∷ two (8 + length (attributes_spelling x.attributes)) ++ (x.kind ∷ p.reserved_behind ∷ two x.id) ++ attributes_spelling x.attributes ++ p.rest
   pub length_fits : 8 + length (attributes_spelling x.attributes) < 65536
   pub attributes : AllByRecursion FitsAttribute x.attributes
 
@@ -61,7 +61,7 @@ pub record ProposalParts : Type 0 where
   pub rest : List ℕ
 
 pub record SpellsProposal (x : ProposalValue) (last : Bool) (bytes : List ℕ) (p : ProposalParts) : Type 0 where
-  pub bytes_are : bytes ≡ mark 2 last ∷ p.reserved ∷ two (8 + length (x.spi ++ p.inside)) ++ (x.number ∷ x.protocol ∷ length x.spi ∷ length x.transforms ∷ []) ++ (x.spi ++ p.inside) ++ p.rest
+  pub bytes_are : bytes ≡ last_mark 2 last ∷ p.reserved ∷ two (8 + length (x.spi ++ p.inside)) ++ (x.number ∷ x.protocol ∷ length x.spi ∷ length x.transforms ∷ []) ++ (x.spi ++ p.inside) ++ p.rest
   pub length_fits : 8 + length (x.spi ++ p.inside) < 65536
   pub spi_fits : length x.spi < 256
   pub count_fits : length x.transforms < 256

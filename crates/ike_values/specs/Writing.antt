@@ -3,10 +3,10 @@ use Rattle.std.specs.Prelude.{◌≡◌, ℕ, ◌+◌, ◌*◌, ◌<◌, ◌≤�
 use Rattle.std.specs.List.{AllByRecursion}
 use Rattle.std.specs.Int.{w64, to_be_bytes}
 use Rattle.ike_values.specs.Values.{TransformValue, ProposalValue, SelectorValue, SkValue, PayloadValue, sa, ke, idi, idr, cert, certreq, auth, nonce, notify, delete, vendor, tsi, tsr, sk, cp, eap, other}
-use Rattle.ike_values.specs.Spelling.{two, is_last, mark, attributes_spelling, FitsAttribute, selectors_spelling, FitsSelector, is_unknown, type_of}
+use Rattle.ike_values.specs.Spelling.{two, is_last, last_mark, attributes_spelling, FitsAttribute, selectors_spelling, FitsSelector, is_unknown, type_of}
 
 abbrev pub transform_written : TransformValue → Bool → List ℕ
-transform_written x last = mark 3 last ∷ 0 ∷ two (8 + length (attributes_spelling x.attributes)) ++ (x.kind ∷ 0 ∷ two x.id) ++ attributes_spelling x.attributes
+transform_written x last = last_mark 3 last ∷ 0 ∷ two (8 + length (attributes_spelling x.attributes)) ++ (x.kind ∷ 0 ∷ two x.id) ++ attributes_spelling x.attributes
 
 abbrev pub transforms_written : List TransformValue → List ℕ
 transforms_written [] = []
@@ -17,7 +17,7 @@ pub record FitsTransform (x : TransformValue) : Type 0 where
   pub length_fits : 8 + length (attributes_spelling x.attributes) < 65536
 
 abbrev pub proposal_written : ProposalValue → Bool → List ℕ
-proposal_written x last = mark 2 last ∷ 0 ∷ two (8 + length (x.spi ++ transforms_written x.transforms)) ++ (x.number ∷ x.protocol ∷ length x.spi ∷ length x.transforms ∷ []) ++ (x.spi ++ transforms_written x.transforms)
+proposal_written x last = last_mark 2 last ∷ 0 ∷ two (8 + length (x.spi ++ transforms_written x.transforms)) ++ (x.number ∷ x.protocol ∷ length x.spi ∷ length x.transforms ∷ []) ++ (x.spi ++ transforms_written x.transforms)
 
 abbrev pub proposals_written : List ProposalValue → List ℕ
 proposals_written [] = []
@@ -77,17 +77,17 @@ pub record FitsPayload (item : PayloadValue) : Type 0 where
   pub length_fits : 4 + length (body_written item) < 65536
 
 -- the type of the first payload, 0 where there is none
-abbrev pub first_of : List PayloadValue → ℕ
-first_of [] = 0
-first_of (item ∷ items) = type_of item
+abbrev pub first_type_of : List PayloadValue → ℕ
+first_type_of [] = 0
+first_type_of (item ∷ items) = type_of item
 
-abbrev pub next_of : PayloadValue → List PayloadValue → ℕ
-next_of (sk x) items = x.first
-next_of item items = first_of items
+abbrev pub next_type_of : PayloadValue → List PayloadValue → ℕ
+next_type_of (sk x) items = x.first
+next_type_of item items = first_type_of items
 
 abbrev pub chain_written : List PayloadValue → List ℕ
 chain_written [] = []
-chain_written (item ∷ items) = next_of item items ∷ 0 ∷ two (4 + length (body_written item)) ++ body_written item ++ chain_written items
+chain_written (item ∷ items) = next_type_of item items ∷ 0 ∷ two (4 + length (body_written item)) ++ body_written item ++ chain_written items
 
 -- whether SK may stand here, in an inner chain or not, before these payloads
 abbrev pub MayStand : PayloadValue → Bool → List PayloadValue → Type 0

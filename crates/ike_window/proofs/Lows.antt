@@ -3,7 +3,7 @@ use Rattle.std.proofs.Common.{◌≡◌, ◌≢◌, ℕ, zero, suc, ◌+◌, ◌
 use Rattle.std.specs.List.{Contains}
 use Rattle.std.proofs.lemmas.Bool.{cases_eq, cases_lt, ne_eqb}
 use Rattle.std.proofs.lemmas.Bool.Decides.{nat_tests}
-use Rattle.ike_window.specs.Kept.{KeptMessage, message_ids_of, has_message_id, octets_of}
+use Rattle.ike_window.specs.Kept.{KeptMessage, message_ids_of, has_message_id, kept_octets}
 use Rattle.ike_window.specs.Requests.{IsLeastFree}
 use Rattle.ike_window.proofs.Orders.{among_from_octets, not_among_from_octets, true_not_false}
 
@@ -44,7 +44,7 @@ from_among (id ∷ ids) m sure = go (cases_eq id m) (λ later. from_among ids m 
 
 -- octets are kept under an identifier exactly where it is among those of the messages
 pub octets_contained : {X : Type 0} (id : ℕ) (kept : List KeptMessage) (result : Option X) (octets : X → List ℕ) →
-    MatchOption result (octets_of id kept ≡ None) (λ x. octets_of id kept ≡ Some (octets x)) →
+    MatchOption result (kept_octets id kept ≡ None) (λ x. kept_octets id kept ≡ Some (octets x)) →
     MatchOption result (¬ Contains (message_ids_of kept) id) (λ x. Contains (message_ids_of kept) id)
 octets_contained id kept None octets is = λ among. true_not_false (sym (among_from (message_ids_of kept) id among) ∙ not_among_from_octets id kept is)
 octets_contained id kept (Some x) octets is = from_among (message_ids_of kept) id (among_from_octets id (octets x) kept is)

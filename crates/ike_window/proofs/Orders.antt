@@ -3,7 +3,7 @@ use Rattle.std.proofs.Common.{◌≡◌, ◌≢◌, ℕ, ◌+◌, ◌<◌, ◌�
 use Rattle.std.specs.Prelude.{⊤}
 use Rattle.std.specs.List.{All}
 use Rattle.std.proofs.lemmas.List.Elements.{All-nil, All-cons, All-weaker, All-head, All-tail}
-use Rattle.ike_window.specs.Kept.{AllBelow, KeptMessage, RiseFrom, by_message_id, message_ids_of, has_message_id, octets_of, with_kept}
+use Rattle.ike_window.specs.Kept.{AllBelow, KeptMessage, RiseFrom, by_message_id, message_ids_of, has_message_id, kept_octets, with_kept}
 use Rattle.std.proofs.lemmas.Bool.{ne_eqb}
 use Rattle.std.proofs.lemmas.Bool.Decides.{nat_tests}
 
@@ -72,7 +72,7 @@ none_filtered test (message ∷ kept) m fails = go (test message) refl (none_fil
     go true is rest = let other : (message.id == m) ≡ false = ne_eqb message.id m (λ same. true_not_false (sym is ∙ fails message same)) in rw other rest
     go false is rest = rest
 
-pub octets_inserted : (message : KeptMessage) (kept : List KeptMessage) (id : ℕ) → octets_of id (with_kept message kept) ≡ octets_of id (message ∷ kept)
+pub octets_inserted : (message : KeptMessage) (kept : List KeptMessage) (id : ℕ) → kept_octets id (with_kept message kept) ≡ kept_octets id (message ∷ kept)
 octets_inserted message [] id = refl
 octets_inserted message (other ∷ kept) id = go (nat_le message.id other.id) refl (octets_inserted message kept id)
   where
@@ -82,26 +82,26 @@ octets_inserted message (other ∷ kept) id = go (nat_le message.id other.id) re
     swap_if true false x y z apart = refl
     swap_if false b x y z apart = refl
 
-    go : (b : Bool) → nat_le message.id other.id ≡ b → octets_of id (with_kept message kept) ≡ octets_of id (message ∷ kept) →
-        octets_of id (if b then message ∷ other ∷ kept else other ∷ with_kept message kept) ≡ octets_of id (message ∷ other ∷ kept)
+    go : (b : Bool) → nat_le message.id other.id ≡ b → kept_octets id (with_kept message kept) ≡ kept_octets id (message ∷ kept) →
+        kept_octets id (if b then message ∷ other ∷ kept else other ∷ with_kept message kept) ≡ kept_octets id (message ∷ other ∷ kept)
     go true is rest = refl
     go false is rest =
         ap (λ o. if other.id == id then Some other.octets else o) rest
-        ∙ swap_if (other.id == id) (message.id == id) (Some other.octets) (Some message.octets) (octets_of id kept)
+        ∙ swap_if (other.id == id) (message.id == id) (Some other.octets) (Some message.octets) (kept_octets id kept)
         (λ here. grind (arith, nat_tests))
 
-pub octets_ascending : (stored : List KeptMessage) (id : ℕ) → octets_of id (by_message_id stored) ≡ octets_of id stored
+pub octets_ascending : (stored : List KeptMessage) (id : ℕ) → kept_octets id (by_message_id stored) ≡ kept_octets id stored
 octets_ascending [] id = refl
 octets_ascending (message ∷ stored) id =
     octets_inserted message (by_message_id stored) id ∙ ap (λ o. if message.id == id then Some message.octets else o) (octets_ascending stored id)
 
 pub octets_filter : (test : KeptMessage → Bool) (kept : List KeptMessage) (id : ℕ) → ((message : KeptMessage) → message.id ≡ id → test message ≡ true) →
-    octets_of id (filter test kept) ≡ octets_of id kept
+    kept_octets id (filter test kept) ≡ kept_octets id kept
 octets_filter test [] id passes = refl
 octets_filter test (message ∷ kept) id passes = go (test message) refl (octets_filter test kept id passes)
   where
-    go : (b : Bool) → test message ≡ b → octets_of id (filter test kept) ≡ octets_of id kept →
-        octets_of id (cond b (message ∷ filter test kept) (filter test kept)) ≡ (if message.id == id then Some message.octets else octets_of id kept)
+    go : (b : Bool) → test message ≡ b → kept_octets id (filter test kept) ≡ kept_octets id kept →
+        kept_octets id (cond b (message ∷ filter test kept) (filter test kept)) ≡ (if message.id == id then Some message.octets else kept_octets id kept)
     go true is rest = ap (λ o. if message.id == id then Some message.octets else o) rest
     go false is rest = let other : (message.id == id) ≡ false = ne_eqb message.id id (λ same. true_not_false (sym (passes message same) ∙ is)) in rw other rest
 
@@ -182,22 +182,22 @@ inserted_filter first second message least (other ∷ kept) (from, rising) passe
     go false is false so false sof rest = rw sof rest
 
 -- octets are kept under the identifiers of the messages, and under no others
-pub among_from_octets : (id : ℕ) (octets : List ℕ) (kept : List KeptMessage) → octets_of id kept ≡ Some octets → has_message_id (message_ids_of kept) id ≡ true
+pub among_from_octets : (id : ℕ) (octets : List ℕ) (kept : List KeptMessage) → kept_octets id kept ≡ Some octets → has_message_id (message_ids_of kept) id ≡ true
 among_from_octets id octets [] is = absurd (cc)
 among_from_octets id octets (message ∷ kept) is = go (message.id == id) (among_from_octets id octets kept) is
   where
-    go : (b : Bool) → (octets_of id kept ≡ Some octets → has_message_id (message_ids_of kept) id ≡ true) →
-        (if b then Some message.octets else octets_of id kept) ≡ Some octets →
+    go : (b : Bool) → (kept_octets id kept ≡ Some octets → has_message_id (message_ids_of kept) id ≡ true) →
+        (if b then Some message.octets else kept_octets id kept) ≡ Some octets →
         (b || has_message_id (message_ids_of kept) id) ≡ true
     go true rest so = refl
     go false rest so = rest so
 
-pub not_among_from_octets : (id : ℕ) (kept : List KeptMessage) → octets_of id kept ≡ None → has_message_id (message_ids_of kept) id ≡ false
+pub not_among_from_octets : (id : ℕ) (kept : List KeptMessage) → kept_octets id kept ≡ None → has_message_id (message_ids_of kept) id ≡ false
 not_among_from_octets id [] is = refl
 not_among_from_octets id (message ∷ kept) is = go (message.id == id) (not_among_from_octets id kept) is
   where
-    go : (b : Bool) → (octets_of id kept ≡ None → has_message_id (message_ids_of kept) id ≡ false) →
-        (if b then Some message.octets else octets_of id kept) ≡ None →
+    go : (b : Bool) → (kept_octets id kept ≡ None → has_message_id (message_ids_of kept) id ≡ false) →
+        (if b then Some message.octets else kept_octets id kept) ≡ None →
         (b || has_message_id (message_ids_of kept) id) ≡ false
     go true rest so = absurd (cc)
     go false rest so = rest so
@@ -212,6 +212,6 @@ all_other (id ∷ ids) m none = go (id == m) refl (all_other ids m) none
     go false is rest so = All-cons (λ other. other ≢ m) id ids (λ same. true_not_false (sym (eq-eqb id m same) ∙ is)) (rest so)
 
 pub found_among : {X : Type 0} (id : ℕ) (kept : List KeptMessage) (result : Option X) (octets : X → List ℕ) →
-    MatchOption result (octets_of id kept ≡ None) (λ x. octets_of id kept ≡ Some (octets x)) → is_some result ≡ has_message_id (message_ids_of kept) id
+    MatchOption result (kept_octets id kept ≡ None) (λ x. kept_octets id kept ≡ Some (octets x)) → is_some result ≡ has_message_id (message_ids_of kept) id
 found_among id kept None octets is = sym (not_among_from_octets id kept is)
 found_among id kept (Some x) octets is = sym (among_from_octets id (octets x) kept is)

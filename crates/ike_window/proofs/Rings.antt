@@ -4,7 +4,7 @@ use Rattle.std.specs.Prelude.{map, replicate}
 use Rattle.std.proofs.lemmas.Bool.{cases_eq, ne_eqb}
 use Rattle.std.proofs.lemmas.Bool.Decides.{nat_tests}
 use Rattle.std.proofs.lemmas.List.{append-nil, drop_all, length-map, length-set}
-use Rattle.ike_window.specs.Kept.{AllBelow, KeptMessage, message_ids_of, has_message_id, octets_of, with_kept}
+use Rattle.ike_window.specs.Kept.{AllBelow, KeptMessage, message_ids_of, has_message_id, kept_octets, with_kept}
 use Rattle.ike_window.specs.Slots.{IsRing, from_on, messages_from, octets_at, octets_in_slot}
 use Rattle.ike_window.proofs.Orders.{all_other, among_from_octets, not_among_from_octets, octets_inserted, true_not_false}
 use Rattle.ike_window.proofs.Rising.{all_among, below_contains, rise_filtered, rise_inserted}
@@ -174,9 +174,9 @@ mapped_all f xs ys i all is = is ∙ (λ j. map f (take_all i xs all j) ++ drop_
 -- the Message IDs of a ring have slots
 pub in_ring : (first n : ℕ) (slots : List (Option KeptMessage)) (id : ℕ) → n ≡ length slots → IsRing first slots →
     has_message_id (message_ids_of (messages_from slots n first)) id ≡ true → (first ≤ id) × (id < first + n)
-in_ring first n slots id size ring among = go (octets_of id (messages_from slots n first)) refl
+in_ring first n slots id size ring among = go (kept_octets id (messages_from slots n first)) refl
   where
-    go : (o : Option (List ℕ)) → octets_of id (messages_from slots n first) ≡ o → (first ≤ id) × (id < first + n)
+    go : (o : Option (List ℕ)) → kept_octets id (messages_from slots n first) ≡ o → (first ≤ id) × (id < first + n)
     go None is = absurd (true_not_false (sym among ∙ not_among_from_octets id (messages_from slots n first) is))
     go (Some octets) is =
         let kept : is_some (octets_at slots id) ≡ true = ap is_some (sym (octets_ring first n slots id ring size) ∙ is) in

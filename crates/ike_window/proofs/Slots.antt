@@ -4,17 +4,17 @@ use Rattle.std.specs.Prelude.{map}
 use Rattle.std.proofs.Math.Nat.{div-add-mod, mod-lt}
 use Rattle.std.proofs.lemmas.Bool.{cases_eq, cases_lt, ne_eqb}
 use Rattle.std.proofs.lemmas.List.{get_or-map, get_or_default, get_or-set_other, get_or-set_same, length-map, length-set}
-use Rattle.ike_window.specs.Kept.{KeptMessage, RiseFrom, octets_of}
+use Rattle.ike_window.specs.Kept.{KeptMessage, RiseFrom, kept_octets}
 use Rattle.ike_window.specs.Slots.{IsRing, in_front, from_on, messages_from, octets_at, octets_in_slot}
 use Rattle.ike_window.proofs.Orders.{rise_lower}
 
-pub octets_here : (message : KeptMessage) (rest : List KeptMessage) → octets_of message.id (message ∷ rest) ≡ Some message.octets
+pub octets_here : (message : KeptMessage) (rest : List KeptMessage) → kept_octets message.id (message ∷ rest) ≡ Some message.octets
 octets_here message rest = rw (eq-eqb message.id message.id refl) refl
 
-pub octets_later : (message : KeptMessage) (rest : List KeptMessage) (id : ℕ) → message.id ≢ id → octets_of id (message ∷ rest) ≡ octets_of id rest
+pub octets_later : (message : KeptMessage) (rest : List KeptMessage) (id : ℕ) → message.id ≢ id → kept_octets id (message ∷ rest) ≡ kept_octets id rest
 octets_later message rest id other = rw (ne_eqb message.id id other) refl
 
-pub octets_below : (id least : ℕ) (kept : List KeptMessage) → RiseFrom least kept → id < least → octets_of id kept ≡ None
+pub octets_below : (id least : ℕ) (kept : List KeptMessage) → RiseFrom least kept → id < least → kept_octets id kept ≡ None
 octets_below id least [] rising below = refl
 octets_below id least (message ∷ rest) (from, rising) below =
     octets_later message rest id (omega arith) ∙ octets_below id (message.id + 1) rest rising (omega arith)
@@ -26,7 +26,7 @@ some_same : (first second : List ℕ) → Some first ≡ Some second → first �
 some_same first second same = cc
 
 -- messages whose Message IDs rise are told by their octets
-pub same_messages : (a b : ℕ) (xs ys : List KeptMessage) → RiseFrom a xs → RiseFrom b ys → ((id : ℕ) → octets_of id xs ≡ octets_of id ys) → xs ≡ ys
+pub same_messages : (a b : ℕ) (xs ys : List KeptMessage) → RiseFrom a xs → RiseFrom b ys → ((id : ℕ) → kept_octets id xs ≡ kept_octets id ys) → xs ≡ ys
 same_messages a b [] [] first second same = refl
 same_messages a b [] (y ∷ ys) first second same = none_some y.octets (same y.id ∙ octets_here y ys)
 same_messages a b (x ∷ xs) [] first second same = none_some x.octets (sym (same x.id) ∙ octets_here x xs)
@@ -45,21 +45,21 @@ same_messages a b (x ∷ xs) (y ∷ ys) (from, first) (up, second) same =
 
     octets : x.octets ≡ y.octets
     octets = some_same x.octets y.octets
-        (sym (octets_here x xs) ∙ same x.id ∙ ap (λ id. octets_of id (y ∷ ys)) heads ∙ octets_here y ys)
+        (sym (octets_here x xs) ∙ same x.id ∙ ap (λ id. kept_octets id (y ∷ ys)) heads ∙ octets_here y ys)
 
-    tails : (id : ℕ) → octets_of id xs ≡ octets_of id ys
+    tails : (id : ℕ) → kept_octets id xs ≡ kept_octets id ys
     tails id = go (cases_eq x.id id)
       where
-        go : (x.id ≡ id) ⊎ (x.id ≢ id) → octets_of id xs ≡ octets_of id ys
+        go : (x.id ≡ id) ⊎ (x.id ≢ id) → kept_octets id xs ≡ kept_octets id ys
         go (inl is) = octets_below id (x.id + 1) xs first (omega arith) ∙ sym (octets_below id (y.id + 1) ys second (omega (arith, heads)))
         go (inr other) = sym (octets_later x xs id other) ∙ same id ∙ octets_later y ys id (λ is. other (heads ∙ is))
 
 -- a test of Message IDs
 pub octets_tested : (test : ℕ → Bool) (kept : List KeptMessage) (id : ℕ) →
-    octets_of id (filter (λ message. test message.id) kept) ≡ (if test id then octets_of id kept else None)
+    kept_octets id (filter (λ message. test message.id) kept) ≡ (if test id then kept_octets id kept else None)
 octets_tested test [] id = go (test id)
   where
-    go : (b : Bool) → octets_of id [] ≡ (if b then octets_of id [] else None)
+    go : (b : Bool) → kept_octets id [] ≡ (if b then kept_octets id [] else None)
     go true = refl
     go false = refl
 octets_tested test (message ∷ kept) id = go (test message.id) refl (cases_eq message.id id) (octets_tested test kept id)
@@ -67,8 +67,8 @@ octets_tested test (message ∷ kept) id = go (test message.id) refl (cases_eq m
     left : List KeptMessage
     left = filter (λ m. test m.id) kept
 
-    go : (b : Bool) → test message.id ≡ b → (message.id ≡ id) ⊎ (message.id ≢ id) → octets_of id left ≡ (if test id then octets_of id kept else None) →
-        octets_of id (cond b (message ∷ left) left) ≡ (if test id then octets_of id (message ∷ kept) else None)
+    go : (b : Bool) → test message.id ≡ b → (message.id ≡ id) ⊎ (message.id ≢ id) → kept_octets id left ≡ (if test id then kept_octets id kept else None) →
+        kept_octets id (cond b (message ∷ left) left) ≡ (if test id then kept_octets id (message ∷ kept) else None)
     go true is (inl same) rest = rw (sym (ap test same) ∙ is, eq-eqb message.id id same) refl
     go false is (inl same) rest = rest ∙ rw (sym (ap test same) ∙ is) refl
     go true is (inr other) rest = octets_later message left id other ∙ rest ∙ ap (λ o. if test id then o else None) (sym (octets_later message kept id other))
@@ -86,7 +86,7 @@ rise_messages slots (suc count) from = go (octets_at slots from) (rise_messages 
     go (Some octets) rising = (omega arith, rising)
 
 octets_between : (slots : List (Option KeptMessage)) (count from id : ℕ) → from ≤ id → id < from + count →
-    octets_of id (messages_from slots count from) ≡ octets_at slots id
+    kept_octets id (messages_from slots count from) ≡ octets_at slots id
 octets_between slots zero from id low high = absurd (omega arith)
 octets_between slots (suc count) from id low high =
     go (octets_at slots from) refl (cases_eq from id) (λ up. octets_between slots count (from + 1) id up (omega arith))
@@ -94,28 +94,28 @@ octets_between slots (suc count) from id low high =
     rest : List KeptMessage
     rest = messages_from slots count (from + 1)
 
-    go : (o : Option (List ℕ)) → octets_at slots from ≡ o → (from ≡ id) ⊎ (from ≢ id) → (from + 1 ≤ id → octets_of id rest ≡ octets_at slots id) →
-        octets_of id (in_front from o rest) ≡ octets_at slots id
+    go : (o : Option (List ℕ)) → octets_at slots from ≡ o → (from ≡ id) ⊎ (from ≢ id) → (from + 1 ≤ id → kept_octets id rest ≡ octets_at slots id) →
+        kept_octets id (in_front from o rest) ≡ octets_at slots id
     go None is (inl same) later =
         octets_below id (from + 1) rest (rise_messages slots count (from + 1)) (omega arith) ∙ sym is ∙ ap (octets_at slots) same
     go None is (inr other) later = later (omega arith)
     go (Some octets) is (inl same) later = rw (eq-eqb from id same) (sym is ∙ ap (octets_at slots) same)
     go (Some octets) is (inr other) later = rw (ne_eqb from id other) (later (omega arith))
 
-octets_above : (slots : List (Option KeptMessage)) (count from id : ℕ) → from + count ≤ id → octets_of id (messages_from slots count from) ≡ None
+octets_above : (slots : List (Option KeptMessage)) (count from id : ℕ) → from + count ≤ id → kept_octets id (messages_from slots count from) ≡ None
 octets_above slots zero from id above = refl
 octets_above slots (suc count) from id above = go (octets_at slots from) (octets_above slots count (from + 1) id (omega arith))
   where
     rest : List KeptMessage
     rest = messages_from slots count (from + 1)
 
-    go : (o : Option (List ℕ)) → octets_of id rest ≡ None → octets_of id (in_front from o rest) ≡ None
+    go : (o : Option (List ℕ)) → kept_octets id rest ≡ None → kept_octets id (in_front from o rest) ≡ None
     go None none = none
     go (Some octets) none = rw (ne_eqb from id (omega arith)) none
 
 -- what a ring keeps is what its slots keep
 pub octets_ring : (first n : ℕ) (slots : List (Option KeptMessage)) (id : ℕ) → IsRing first slots → n ≡ length slots →
-    octets_of id (messages_from slots n first) ≡ octets_at slots id
+    kept_octets id (messages_from slots n first) ≡ octets_at slots id
 octets_ring first n slots id ring size = go (octets_at slots id) refl (cases_lt id first) (cases_lt id (first + n))
   where
     out : (o : Option (List ℕ)) → octets_at slots id ≡ o → ((octets : List ℕ) → o ≡ Some octets → ⊥) → None ≡ o
@@ -123,7 +123,7 @@ octets_ring first n slots id ring size = go (octets_at slots id) refl (cases_lt 
     out (Some octets) is never = absurd (never octets refl)
 
     go : (o : Option (List ℕ)) → octets_at slots id ≡ o → (id < first) ⊎ (first ≤ id) → (id < first + n) ⊎ (first + n ≤ id) →
-        octets_of id (messages_from slots n first) ≡ octets_at slots id
+        kept_octets id (messages_from slots n first) ≡ octets_at slots id
     go o is (inl below) within =
         octets_below id first (messages_from slots n first) (rise_messages slots n first) below
         ∙ out o is (λ octets so. let low : first ≤ id = ring.from id (ap is_some (is ∙ so)) in omega arith) ∙ sym is

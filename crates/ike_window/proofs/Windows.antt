@@ -3,7 +3,7 @@ use Rattle.std.proofs.Common.{◌≡◌, ℕ, ◌+◌, ◌<◌, ◌≤◌, ◌�
 use Rattle.std.proofs.lemmas.Bool.{cases_lt}
 use Rattle.std.proofs.lemmas.Bool.Decides.{nat_tests}
 use Rattle.std.specs.List.{Contains}
-use Rattle.ike_window.specs.Kept.{KeptMessage, by_message_id, message_ids_of, has_message_id, octets_of, with_kept}
+use Rattle.ike_window.specs.Kept.{KeptMessage, by_message_id, message_ids_of, has_message_id, kept_octets, with_kept}
 use Rattle.ike_window.specs.Laws.{AnsweredAreStored, JumpingRaisesTheFloor, NothingIsStored, RepeatsAreTheResponses, ResponsesGiveOneWindow, ResponsesHaveAWindow, StoringAddsTheResponse}
 use Rattle.ike_window.specs.Requests.{IsLeastFree}
 use Rattle.ike_window.specs.Windows.{IsAnswered, ResponseWindow, is_repeatable}
@@ -128,7 +128,7 @@ jumping_raises floor to stored old new is jumps = record {
 
 pub repeats_are : RepeatsAreTheResponses
 repeats_are floor stored window id is from near =
-    ap (octets_of id) is.responses
+    ap (kept_octets id) is.responses
     ∙ octets_filter (is_repeatable floor window.low) (by_message_id stored) id
     (λ message same. repeatable_true floor window.low message.id (omega arith) (omega arith))
     ∙ octets_ascending stored id

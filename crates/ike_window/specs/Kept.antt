@@ -14,9 +14,9 @@ abbrev pub has_message_id : List ℕ → ℕ → Bool
 has_message_id ids id = list_any (λ other. other == id) ids
 
 -- the octets that are kept under a Message ID, and none where it is not among them
-abbrev pub octets_of : ℕ → List KeptMessage → Option (List ℕ)
-octets_of id [] = None
-octets_of id (message ∷ rest) = if message.id == id then Some message.octets else octets_of id rest
+abbrev pub kept_octets : ℕ → List KeptMessage → Option (List ℕ)
+kept_octets id [] = None
+kept_octets id (message ∷ rest) = if message.id == id then Some message.octets else kept_octets id rest
 
 -- the Message IDs rise, from at least this one on
 abbrev pub RiseFrom : ℕ → List KeptMessage → Type 0

@@ -1,7 +1,7 @@
 -- What is kept of the responses that were stored, and what that says of a request.
 use Rattle.std.specs.Prelude.{◌≡◌, ℕ, ◌+◌, ◌≤◌, ◌↔◌, max, List, [], ◌∷◌, filter, Contains}
 use Rattle.ike_window.specs.declared.TheConstants.{WINDOW}
-use Rattle.ike_window.specs.Kept.{KeptMessage, by_message_id, message_ids_of, octets_of}
+use Rattle.ike_window.specs.Kept.{KeptMessage, by_message_id, message_ids_of, kept_octets}
 use Rattle.ike_window.specs.Requests.{IsLeastFree}
 use Rattle.ike_window.specs.Windows.{IsAnswered, Jumps, ResponseWindow, Stores, is_repeatable}
 
@@ -39,7 +39,7 @@ abbrev pub RepeatsAreTheResponses : Type 0
 RepeatsAreTheResponses =
     (floor : ℕ) (stored : List KeptMessage) (window : ResponseWindow) (id : ℕ) →
     IsWindowOf floor stored window → floor ≤ id → window.low ≤ id + WINDOW →
-    octets_of id window.responses ≡ octets_of id stored
+    kept_octets id window.responses ≡ kept_octets id stored
 
 abbrev pub ResponsesGiveOneWindow : Type 0
 ResponsesGiveOneWindow =

@@ -1,6 +1,6 @@
 ghost use Rattle.std.specs.Prelude.{◌≡◌, ◌↔◌, ◌≤◌, ◌+◌, ◌-◌, [], Some, None, IsSome, MatchOption, Contains, filter, max};
 ghost use Rattle.ike_window.specs.declared.TheConstants.{LAST_ID, WINDOW};
-ghost use Rattle.ike_window.specs.Kept.{AllBelow, message_ids_of, octets_of};
+ghost use Rattle.ike_window.specs.Kept.{AllBelow, message_ids_of, kept_octets};
 ghost use Rattle.ike_window.specs.Requests.{IsRequestJudgedBy, IsLeastFree, IsNewRequest, IsRepeat};
 ghost use Rattle.ike_window.specs.Windows.{IsAnswered, Jumps, Stores, is_repeatable};
 
@@ -83,8 +83,8 @@ impl Answering {
     /// The response to a request, to be sent again. None exactly where `judge` does not answer
     /// `Repeat`.
     pub fn stored(&self, id: u32) -> Option<&Octets>
-        ensures octets { MatchOption result (octets_of id self.now.responses ≡ None)
-            (λ octets. octets_of id self.now.responses ≡ Some octets.now.octets) }
+        ensures octets { MatchOption result (kept_octets id self.now.responses ≡ None)
+            (λ octets. kept_octets id self.now.responses ≡ Some octets.now.octets) }
         ensures repeat { IsSome result
             ↔ IsRepeat self.now.floor self.now.low (IsAnswered self.now) id }
     {

@@ -2,7 +2,7 @@ ghost use Rattle.std.specs.Prelude.{◌≡◌, ◌==◌, ◌+◌, ◌≤◌, ◌
 ghost use Rattle.std.specs.List.Sorted.{IsStrictlyIncreasing};
 ghost use Rattle.ike_window.specs.declared.TheConstants.{WINDOW};
 ghost use Rattle.ike_window.specs.Asking.{FitsBeside, IsLeast};
-ghost use Rattle.ike_window.specs.Kept.{AllBelow, message_ids_of, octets_of};
+ghost use Rattle.ike_window.specs.Kept.{AllBelow, message_ids_of, kept_octets};
 
 use crate::ring::Ring;
 use crate::{ASKED, WINDOW};
@@ -74,8 +74,8 @@ impl Asking {
     /// The octets of an outstanding request, to be sent again. None exactly where it is not
     /// outstanding.
     pub fn again(&self, id: u32) -> Option<&Octets>
-        ensures octets { MatchOption result (octets_of id self.now ≡ None)
-            (λ octets. octets_of id self.now ≡ Some octets.now.octets) }
+        ensures octets { MatchOption result (kept_octets id self.now ≡ None)
+            (λ octets. kept_octets id self.now ≡ Some octets.now.octets) }
         ensures none { MatchOption result (¬ Contains (message_ids_of self.now) id)
             (λ octets. Contains (message_ids_of self.now) id) }
     {

@@ -1,7 +1,7 @@
 ghost use Rattle.std.specs.Prelude.{◌≡◌, ◌==◌, ◌+◌, ◌<◌, ◌≤◌, ◌^◌, Contains, false, Some, None, [], MatchOption, filter, nat_le, not, replicate, if◌then◌else◌};
 ghost use Rattle.std.specs.List.Sorted.{IsStrictlyIncreasing};
 ghost use Rattle.ike_window.specs.declared.TheConstants.{ASKED, LAST_ID};
-ghost use Rattle.ike_window.specs.Kept.{AllBelow, RiseFrom, message_ids_of, has_message_id, octets_of, with_kept};
+ghost use Rattle.ike_window.specs.Kept.{AllBelow, RiseFrom, message_ids_of, has_message_id, kept_octets, with_kept};
 ghost use Rattle.ike_window.specs.Requests.{IsLeastFree};
 ghost use Rattle.ike_window.specs.Slots.{from_on, octets_in_slot};
 
@@ -122,8 +122,8 @@ impl<const N: usize> Ring<N> {
 
     /// The octets of a message.
     pub(crate) fn get(&self, id: u32) -> Option<&Octets>
-        ensures { MatchOption result (octets_of id self.now.kept ≡ None)
-            (λ octets. octets_of id self.now.kept ≡ Some octets.now.octets) }
+        ensures { MatchOption result (kept_octets id self.now.kept ≡ None)
+            (λ octets. kept_octets id self.now.kept ≡ Some octets.now.octets) }
     {
         let _ = &self.first;
         octets_in_slot(&self.slots[id as usize % N], id)

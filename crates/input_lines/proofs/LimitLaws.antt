@@ -4,7 +4,7 @@ use Rattle.std.proofs.lemmas.Bool.{cases_lt, le-leb, lt-leb, lt-ltb}
 use Rattle.line_fields.specs.declared.fault.LineFault.{LineFault}
 use Rattle.line_fields.specs.declared.fault.LineReason.TheVariants as reasons
 use Rattle.line_fields.specs.Fields.{fault_at}
-use Rattle.input_lines.specs.Limits.{overlong, unless}
+use Rattle.input_lines.specs.Limits.{overlong, unless_fault}
 
 false_right : (a b : Bool) → b ≡ false → (a && b) ≡ false
 false_right true b h = h
@@ -40,7 +40,7 @@ past before n within far_enough =
           }
     ]
 
-pub unless_ok : {A : Type 0} (o : Option LineFault) (r : Result A LineFault) (x : A) → unless o r ≡ Ok x → o ≡ None
+pub unless_ok : {A : Type 0} (o : Option LineFault) (r : Result A LineFault) (x : A) → unless_fault o r ≡ Ok x → o ≡ None
 unless_ok (Some f) r x e = absurd cc
 unless_ok None r x e = refl
 

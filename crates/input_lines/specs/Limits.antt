@@ -12,9 +12,9 @@ overlong before octets size =
     else if nat_lt 67108864 (before + octets) then Some (fault_at (67108865 - before) reasons.FileTooLong)
     else None
 
-abbrev pub unless : {A : Type 0} → Option LineFault → Result A LineFault → Result A LineFault
-unless (Some f) read = Err f
-unless None read = read
+abbrev pub unless_fault : {A : Type 0} → Option LineFault → Result A LineFault → Result A LineFault
+unless_fault (Some f) read = Err f
+unless_fault None read = read
 
 -- what is left of an input: its lines, and the place of the first of them
 pub record Left (Place : Type 0) : Type 0 where

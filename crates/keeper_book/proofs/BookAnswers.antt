@@ -14,7 +14,7 @@ use Rattle.keeper_book.specs.declared.calls.KeeperAsk.TheVariants as ask
 use Rattle.keeper_book.specs.declared.counters.Counter.{Counter}
 use Rattle.keeper_book.specs.declared.faults.KeeperFault.{KeeperFault}
 use Rattle.keeper_book.specs.declared.faults.KeeperFault.TheVariants as fault
-use Rattle.keeper_book.specs.Book.{Book, Entry, Answers, RefusedAs, after, answer_to, cover_refusal, edit_at, empty, enter_refusal, entered, entry_of, fresh, given, raised_at, refusal, shares_spi, take_over_refusal, taken_of, taken_over, takes_memory, unless_refused, when}
+use Rattle.keeper_book.specs.Book.{Book, Entry, Answers, RefusedAs, book_after, answer_to, cover_refusal, edit_at, empty, enter_refusal, book_entered, entry_of, fresh, answer_given, raised_at, refusal, shares_spi, take_over_refusal, takeover_answer, taken_over, takes_memory, unless_refused, when}
 use Rattle.keeper_book.specs.Counters.{AreWithinEnds, counter_named}
 use Rattle.keeper_book.specs.Entries.{IsPlaceOf}
 use Rattle.keeper_book.specs.declared.TheConstants.{MAX_ASSOCIATIONS, MAX_EPOCHS}
@@ -23,25 +23,25 @@ use Rattle.keeper_book.specs.declared.records.Taken.{Taken}
 use Rattle.ha_base.specs.declared.counter_names.Kind.{Kind}
 use Rattle.keeper_book.proofs.EntryLemmas.{entry_at, edited_at}
 use Rattle.keeper_book.specs.Spoken.{Spoken}
-use Rattle.keeper_book.specs.Told.{IsAnswerOf, IsCallOf, IsFailed, IsRefusalOf, done, taken}
+use Rattle.keeper_book.specs.Told.{IsAnswerOf, IsCallOf, IsFailed, IsRefusalOf, done, taken_answer}
 use Rattle.keeper_book.proofs.Passed.{recorded}
 
 -- refused by name, or for want of memory where nothing else is refused
 pub refused_answers : (old : Book) (asked : KeeperAsk) (why : KeeperFault) → takes_memory asked ≡ true → RefusedAs why (refusal old asked) → Answers old asked (answer.Refused why) old
 refused_answers old asked fault.Failed m r = inl refl
 refused_answers old asked fault.Memory m r = (m, r, refl)
-refused_answers old asked why m r = (sym (ap (λ o. unless_refused o answer.Refused (given old asked)) r), sym (ap (λ o. unless_refused o (λ _. old) (entered old asked)) r))
+refused_answers old asked why m r = (sym (ap (λ o. unless_refused o answer.Refused (answer_given old asked)) r), sym (ap (λ o. unless_refused o (λ _. old) (book_entered old asked)) r))
 
 -- refused by name
 pub refused_by_name : (old : Book) (asked : KeeperAsk) (why : KeeperFault) → (refusal old asked ≡ Some fault.Memory → ⊥) → refusal old asked ≡ Some why → Answers old asked (answer.Refused why) old
 refused_by_name old asked fault.Failed m r = inl refl
 refused_by_name old asked fault.Memory m r = absurd (m r)
-refused_by_name old asked why m r = (sym (ap (λ o. unless_refused o answer.Refused (given old asked)) r), sym (ap (λ o. unless_refused o (λ _. old) (entered old asked)) r))
+refused_by_name old asked why m r = (sym (ap (λ o. unless_refused o answer.Refused (answer_given old asked)) r), sym (ap (λ o. unless_refused o (λ _. old) (book_entered old asked)) r))
 
 -- not refused
-pub granted : (old : Book) (asked : KeeperAsk) (answered : KeeperAnswer) (new : Book) → refusal old asked ≡ None → answered ≡ given old asked → new ≡ entered old asked → (answered ≡ answer_to old asked) × (new ≡ after old asked)
+pub granted : (old : Book) (asked : KeeperAsk) (answered : KeeperAnswer) (new : Book) → refusal old asked ≡ None → answered ≡ answer_given old asked → new ≡ book_entered old asked → (answered ≡ answer_to old asked) × (new ≡ book_after old asked)
 granted old asked answered new r a n =
-    (a ∙ sym (ap (λ o. unless_refused o answer.Refused (given old asked)) r), n ∙ sym (ap (λ o. unless_refused o (λ _. old) (entered old asked)) r))
+    (a ∙ sym (ap (λ o. unless_refused o answer.Refused (answer_given old asked)) r), n ∙ sym (ap (λ o. unless_refused o (λ _. old) (book_entered old asked)) r))
 
 -- an association is added, or it is not
 unless_shared : (sa : Record) (es : List Entry) → list_any (shares_spi sa) es ≡ false → length es < MAX_ASSOCIATIONS → enter_refusal sa es ≡ None
@@ -100,11 +100,11 @@ edited_book es new spir place edit e e' left is at same = sym left ∙ ap (λ xs
 
 -- a takeover, by what the association says of it
 pub took_over : (es : List Entry) (old new : Book) (spir member place : ℕ) (e e' : Entry) (result : Result Taken KeeperFault) → record empty { entries = es } ≡ old → record empty { entries = set es place e' } ≡ new → IsPlaceOf spir place es → e ≡ get_or es place e
-    → IfOk result (λ t. (take_over_refusal (Some e) ≡ None) × (taken result ≡ taken_of (Some e)) × (e' ≡ taken_over member e)) → IfErr result (λ why. RefusedAs why (take_over_refusal (Some e)) × (e' ≡ e)) → Answers old (ask.TakeOver spir member) (taken result) new
+    → IfOk result (λ t. (take_over_refusal (Some e) ≡ None) × (taken_answer result ≡ takeover_answer (Some e)) × (e' ≡ taken_over member e)) → IfErr result (λ why. RefusedAs why (take_over_refusal (Some e)) × (e' ≡ e)) → Answers old (ask.TakeOver spir member) (taken_answer result) new
 took_over es old new spir member place e e' (Ok t) view left is at ok err =
     let found : entry_of spir es ≡ Some e = entry_at spir place es e is at in
     subst (λ b. Answers b (ask.TakeOver spir member) (answer.Taken t) new) view
-    (granted (record empty { entries = es }) (ask.TakeOver spir member) (answer.Taken t) new (ap take_over_refusal found ∙ ok.0) (ok.1 ∙ sym (ap taken_of found)) (edited_book es new spir place (taken_over member) e e' left is at ok.2))
+    (granted (record empty { entries = es }) (ask.TakeOver spir member) (answer.Taken t) new (ap take_over_refusal found ∙ ok.0) (ok.1 ∙ sym (ap takeover_answer found)) (edited_book es new spir place (taken_over member) e e' left is at ok.2))
 took_over es old new spir member place e e' (Err why) view left is at ok err =
     let found : entry_of spir es ≡ Some e = entry_at spir place es e is at in
     subst (λ b. Answers b (ask.TakeOver spir member) (answer.Refused why) new) view
@@ -130,7 +130,7 @@ pub unknown : (old : Book) (asked : KeeperAsk) → (refusal old asked ≡ Some f
 unknown old asked r = refused_by_name old asked fault.Unknown (λ m. absurd (cc)) r
 
 -- what the association answers is what a keeper promises
-pub took_over_promised : (spir member own : ℕ) (result : Result Taken KeeperFault) → own ≡ spir → IfErr result (IsRefusalOf (ask.TakeOver own member)) → IfOk result (λ t. t.sa.spir ≡ own) → IfOk result (λ t. AreWithinEnds t.bases) → IsAnswerOf (ask.TakeOver spir member) (taken result)
+pub took_over_promised : (spir member own : ℕ) (result : Result Taken KeeperFault) → own ≡ spir → IfErr result (IsRefusalOf (ask.TakeOver own member)) → IfOk result (λ t. t.sa.spir ≡ own) → IfOk result (λ t. AreWithinEnds t.bases) → IsAnswerOf (ask.TakeOver spir member) (taken_answer result)
 took_over_promised spir member own (Ok t) same refusals asked within = record { asked = asked ∙ same; within = within }
 took_over_promised spir member own (Err why) same refusals asked within = subst (λ n. IsRefusalOf (ask.TakeOver n member) why) same refusals
 
@@ -145,7 +145,7 @@ by_tests_failed false true why later a b r = b (cc)
 by_tests_failed false false why later a b r = cc
 
 -- neither a takeover nor a cover fails
-pub took_over_soundly : (e : Entry) (result : Result Taken KeeperFault) (P : KeeperFault → Type 0) → IfErr result (λ why. RefusedAs why (take_over_refusal (Some e)) × P why) → IsFailed (taken result) → ⊥
+pub took_over_soundly : (e : Entry) (result : Result Taken KeeperFault) (P : KeeperFault → Type 0) → IfErr result (λ why. RefusedAs why (take_over_refusal (Some e)) × P why) → IsFailed (taken_answer result) → ⊥
 took_over_soundly e (Ok t) P err f = f
 took_over_soundly e (Err fault.Failed) P err f = by_tests_failed e.closed (nat_le MAX_EPOCHS (length e.bases)) fault.Closed (fault.Full MAX_EPOCHS) (λ h. cc) (λ h. cc) err.0
 took_over_soundly e (Err why) P err f = f

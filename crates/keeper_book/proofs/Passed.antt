@@ -7,7 +7,7 @@ use Rattle.keeper_book.specs.declared.calls.KeeperAnswer.TheVariants as answer
 use Rattle.keeper_book.specs.declared.calls.KeeperAsk.{KeeperAsk}
 use Rattle.keeper_book.specs.declared.calls.KeeperAsk.TheVariants as ask
 use Rattle.keeper_book.specs.declared.faults.KeeperFault.TheVariants as fault
-use Rattle.keeper_book.specs.Book.{Book, Answers, Enters, EntersAllTold, after}
+use Rattle.keeper_book.specs.Book.{Book, Answers, Enters, EntersAllTold, book_after}
 use Rattle.keeper_book.specs.Gates.{Gated, PassedOn, has_room, kept, missed_one, told_calls, unless_missed}
 use Rattle.keeper_book.specs.Spoken.{Spoken}
 use Rattle.keeper_book.specs.Told.{AddsAllTold, HaveCause, IsAnswerOf, IsCallOf, IsFailed, seen}
@@ -34,7 +34,7 @@ answer-seen : (asked : KeeperAsk) (answered : KeeperAnswer) (call : Call) → Is
 answer-seen asked answered call is promised = subst (λ a. IsAnswerOf a answered) is.asks (subst (IsAnswerOf call.asked) is.sees (seen-answer call promised))
 
 -- whatever is answered, the entry is in the book or it is not
-entered_or_not : (old : Book) (asked : KeeperAsk) (answered : KeeperAnswer) (new : Book) → Answers old asked answered new → (new ≡ old) ⊎ (new ≡ after old asked)
+entered_or_not : (old : Book) (asked : KeeperAsk) (answered : KeeperAnswer) (new : Book) → Answers old asked answered new → (new ≡ old) ⊎ (new ≡ book_after old asked)
 entered_or_not old asked (answer.Refused fault.Failed) new a = a
 entered_or_not old asked (answer.Refused fault.Memory) new a = inl a.2
 entered_or_not old asked answered new a = inr a.1

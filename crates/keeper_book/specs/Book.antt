@@ -52,12 +52,12 @@ abbrev pub taken_over : ℕ → Entry → Entry
 taken_over member e = record e { owner = Some member; bases = e.bases ++ e.highs ∷ [] }
 
 -- the high of the counter is no less than the number, as far as the counter goes
-abbrev pub raised : Counter → ℕ → Entry → Entry
-raised c upto e = record e { highs = with_five c (max (five_at e.highs c) (min upto (end_of e.sa c))) e.highs }
+abbrev pub entry_raised : Counter → ℕ → Entry → Entry
+entry_raised c upto e = record e { highs = with_five c (max (five_at e.highs c) (min upto (end_of e.sa c))) e.highs }
 
 abbrev pub raised_at : Option Counter → ℕ → Entry → Entry
 raised_at None upto e = e
-raised_at (Some c) upto e = raised c upto e
+raised_at (Some c) upto e = entry_raised c upto e
 
 -- the first refusal whose test holds
 abbrev pub when : Bool → KeeperFault → Option KeeperFault → Option KeeperFault
@@ -93,21 +93,21 @@ refusal book (ask.TakeOver spir member) = take_over_refusal (entry_of spir book.
 refusal book (ask.Cover spir kind child epoch upto) = cover_refusal (entry_of spir book.entries) (counter_named kind child) epoch
 
 -- the book with the entry that a call makes
-abbrev pub entered : Book → KeeperAsk → Book
-entered book (ask.Enter sa) = record book { entries = book.entries ++ fresh sa ∷ [] }
-entered book (ask.TakeOver spir member) = record book { entries = edit_at spir (taken_over member) book.entries }
-entered book (ask.Cover spir kind child epoch upto) = record book { entries = edit_at spir (raised_at (counter_named kind child) upto) book.entries }
+abbrev pub book_entered : Book → KeeperAsk → Book
+book_entered book (ask.Enter sa) = record book { entries = book.entries ++ fresh sa ∷ [] }
+book_entered book (ask.TakeOver spir member) = record book { entries = edit_at spir (taken_over member) book.entries }
+book_entered book (ask.Cover spir kind child epoch upto) = record book { entries = edit_at spir (raised_at (counter_named kind child) upto) book.entries }
 
 -- what a takeover is told: the epoch that begins, its bases, and the record
-abbrev pub taken_of : Option Entry → KeeperAnswer
-taken_of None = answer.Refused fault.Unknown
-taken_of (Some e) = answer.Taken (record { epoch = length e.bases + 1; bases = e.highs; sa = e.sa })
+abbrev pub takeover_answer : Option Entry → KeeperAnswer
+takeover_answer None = answer.Refused fault.Unknown
+takeover_answer (Some e) = answer.Taken (record { epoch = length e.bases + 1; bases = e.highs; sa = e.sa })
 
 -- what a call is answered that is not refused
-abbrev pub given : Book → KeeperAsk → KeeperAnswer
-given book (ask.Enter sa) = answer.Done
-given book (ask.TakeOver spir member) = taken_of (entry_of spir book.entries)
-given book (ask.Cover spir kind child epoch upto) = answer.Done
+abbrev pub answer_given : Book → KeeperAsk → KeeperAnswer
+answer_given book (ask.Enter sa) = answer.Done
+answer_given book (ask.TakeOver spir member) = takeover_answer (entry_of spir book.entries)
+answer_given book (ask.Cover spir kind child epoch upto) = answer.Done
 
 -- a value, or another one where there is a refusal
 abbrev pub unless_refused : {T : Type 0} → Option KeeperFault → (KeeperFault → T) → T → T
@@ -116,11 +116,11 @@ unless_refused (Some why) refused value = refused why
 
 -- what is answered by the book
 abbrev pub answer_to : Book → KeeperAsk → KeeperAnswer
-answer_to book asked = unless_refused (refusal book asked) answer.Refused (given book asked)
+answer_to book asked = unless_refused (refusal book asked) answer.Refused (answer_given book asked)
 
 -- the book after the answer: with the entry, or as it was where the call is refused
-abbrev pub after : Book → KeeperAsk → Book
-after book asked = unless_refused (refusal book asked) (λ why. book) (entered book asked)
+abbrev pub book_after : Book → KeeperAsk → Book
+book_after book asked = unless_refused (refusal book asked) (λ why. book) (book_entered book asked)
 
 -- the calls that make the book grow
 abbrev pub takes_memory : KeeperAsk → Bool
@@ -131,9 +131,9 @@ takes_memory (ask.Cover spir kind child epoch upto) = false
 -- What an answer says of the book: a failed call was entered or it was not; want of memory comes where nothing else is
 -- refused, and changes nothing; any other answer is the one by the book.
 abbrev pub Answers : Book → KeeperAsk → KeeperAnswer → Book → Type 0
-Answers old asked (answer.Refused fault.Failed) new = (new ≡ old) ⊎ (new ≡ after old asked)
+Answers old asked (answer.Refused fault.Failed) new = (new ≡ old) ⊎ (new ≡ book_after old asked)
 Answers old asked (answer.Refused fault.Memory) new = (takes_memory asked ≡ true) × (refusal old asked ≡ None) × (new ≡ old)
-Answers old asked answered new = (answered ≡ answer_to old asked) × (new ≡ after old asked)
+Answers old asked answered new = (answered ≡ answer_to old asked) × (new ≡ book_after old asked)
 
 -- a call leads from one book to the next, whether or not its answer was hidden from the caller
 abbrev pub Enters : Book → Call → Book → Type 0

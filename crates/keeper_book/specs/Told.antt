@@ -21,8 +21,8 @@ answered given (Err why) = answer.Refused why
 abbrev pub done : Result (Unit {0}) KeeperFault → KeeperAnswer
 done = answered (λ _. answer.Done)
 
-abbrev pub taken : Result Taken KeeperFault → KeeperAnswer
-taken = answered answer.Taken
+abbrev pub taken_answer : Result Taken KeeperFault → KeeperAnswer
+taken_answer = answered answer.Taken
 
 -- what the caller saw: a hidden answer as a failed call
 abbrev pub seen : Call → KeeperAnswer

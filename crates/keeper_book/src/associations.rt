@@ -1,10 +1,10 @@
 ghost use Rattle.std.specs.Prelude.{◌≡◌, ◌||◌, ◌==◌, Some, None, IfOk, IfErr, MatchOption};
 ghost use Rattle.std.specs.List.{list_any};
 ghost use Rattle.keeper_book.specs.declared.calls.KeeperAsk.TheVariants as ask;
-ghost use Rattle.keeper_book.specs.Book.{RefusedAs, cover_refusal, entry_of, fresh, raised_at, shares_spi, take_over_refusal, taken_of, taken_over};
+ghost use Rattle.keeper_book.specs.Book.{RefusedAs, cover_refusal, entry_of, fresh, raised_at, shares_spi, take_over_refusal, takeover_answer, taken_over};
 ghost use Rattle.keeper_book.specs.Counters.{AreWithinEnds, counter_named};
 ghost use Rattle.keeper_book.specs.Entries.{IsPlaceOf};
-ghost use Rattle.keeper_book.specs.Told.{IsRefusalOf, taken};
+ghost use Rattle.keeper_book.specs.Told.{IsRefusalOf, taken_answer};
 
 use crate::MAX_EPOCHS;
 use crate::counters::{Counter, Five};
@@ -66,7 +66,7 @@ impl Association {
 
     /// Begins an epoch for a member. Want of memory comes last.
     pub fn take_over(&mut self, member: u32) -> Result<Taken, KeeperFault>
-        ensures ok { IfOk result (λ t. (take_over_refusal (Some self.old) ≡ None) × (taken result ≡ taken_of (Some self.old)) × (self.new ≡ taken_over member self.old)) }
+        ensures ok { IfOk result (λ t. (take_over_refusal (Some self.old) ≡ None) × (taken_answer result ≡ takeover_answer (Some self.old)) × (self.new ≡ taken_over member self.old)) }
         ensures err { IfErr result (λ why. RefusedAs why (take_over_refusal (Some self.old)) × (self.new ≡ self.old)) }
         ensures refusals { IfErr result (IsRefusalOf (ask.TakeOver self.old.sa.spir member)) }
         ensures record { IfOk result (λ t. t.sa.spir ≡ self.old.sa.spir) }

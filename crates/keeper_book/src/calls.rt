@@ -1,5 +1,5 @@
 ghost use Rattle.std.specs.Prelude.{◌≡◌};
-ghost use Rattle.keeper_book.specs.Told.{done, taken};
+ghost use Rattle.keeper_book.specs.Told.{done, taken_answer};
 
 use crate::faults::KeeperFault;
 use crate::records::{Record, Taken};
@@ -100,7 +100,7 @@ impl KeeperAnswer {
 
     /// What a takeover is answered. It takes no memory.
     pub fn of_taken(answered: &Result<Taken, KeeperFault>) -> KeeperAnswer
-        ensures { result ≡ taken answered.now }
+        ensures { result ≡ taken_answer answered.now }
     {
         match answered {
             Ok(taken) => KeeperAnswer::Taken(taken.copied()),

@@ -5,7 +5,7 @@ ghost use Rattle.keeper_book.specs.declared.calls.KeeperAsk.TheVariants as ask;
 ghost use Rattle.keeper_book.specs.Counters.{AreWithinEnds};
 ghost use Rattle.keeper_book.specs.Book.{Book};
 ghost use Rattle.keeper_book.specs.Spoken.{Spoken};
-ghost use Rattle.keeper_book.specs.Told.{IsCallOf, IsRefusalOf, done, taken};
+ghost use Rattle.keeper_book.specs.Told.{IsCallOf, IsRefusalOf, done, taken_answer};
 
 use crate::faults::KeeperFault;
 use crate::records::{Record, Taken};
@@ -40,7 +40,7 @@ pub trait Keeper {
     /// `Closed` where it was closed, `Full(4096)` at epoch 4,096, `Memory`, and `Failed`, after which the epoch began or not. After every
     /// other error nothing has changed.
     fn take_over(&mut self, spir: u64, member: u32) -> Result<Taken, KeeperFault>
-        ensures call { (call : Call) × IsCallOf (ask.TakeOver spir member) (taken result) call
+        ensures call { (call : Call) × IsCallOf (ask.TakeOver spir member) (taken_answer result) call
             × Spoken book calls faults call_gives self.old (call ∷ []) self.new }
         ensures refusals { IfErr result (IsRefusalOf (ask.TakeOver spir member)) }
         ensures record_asked { IfOk result (λ t. t.sa.spir ≡ spir) }

@@ -18,10 +18,10 @@ use Rattle.line_fields.specs.declared.fault.LineFault.{LineFault}
 use Rattle.line_fields.specs.declared.fault.LineReason.{LineReason}
 use Rattle.line_fields.specs.declared.fault.LineReason.TheVariants as reasons
 use Rattle.line_fields.specs.Words.{Cursor}
-use Rattle.line_fields.specs.Numbers.{begins_well, is_numeral, numeral_of, in_range, number_of}
-use Rattle.line_fields.specs.Octets.{IsOctets, dash, decoded, octet_in, octet_of, esp_spi_of, esp_spi_text, is_hex, octets_in, octets_text, size_of, sized, spells_octets, spi_of, spi_text}
+use Rattle.line_fields.specs.Numbers.{begins_well, is_numeral, numeral_of, in_range, number_field}
+use Rattle.line_fields.specs.Octets.{IsOctetField, dash, decoded, octet_in, octet_of, esp_spi_of, esp_spi_text, is_hex, octets_in, octets_text, size_of, sized, spells_octets, spi_field, spi_text}
 use Rattle.line_fields.specs.Identities.{Form, IsIdentity, IsOfForm, behind_prefix, domain_name_of, fqdn, identity_in, identity_of, identity_text, ipv4, ipv6, key, mail, of_form, prefix_of}
-use Rattle.line_fields.specs.Fields.{◌>>=◌, behind, field, key_size_of, located, word_at, word_in}
+use Rattle.line_fields.specs.Fields.{◌>>=◌, behind_field, field, key_size_of, located, word_at, word_in}
 use Rattle.line_fields.specs.Fields.{size_text}
 use Rattle.line_fields.proofs.NumberLaws.{numeral_parts, own}
 use Rattle.line_fields.proofs.OctetLaws.{bytes-decoded, decoded-encode, encode-decoded, hex-encode, hex_parts, length-decoded}
@@ -58,7 +58,7 @@ in_range_takes least limit (Some m) n e =
     subst (λ (k : ℕ). (Some m ≡ Some k) × (least ≤ k) × (k < limit)) (ok_is m n same) (refl, leb-true least m tests.0, ltb-true m limit tests.1))
     (λ miss same. absurd cc)
 
-number_takes : (least limit : ℕ) (w : List ℕ) (n : ℕ) → number_of least limit w ≡ Ok n → (w ≡ decimal n) × (least ≤ n) × (n < limit)
+number_takes : (least limit : ℕ) (w : List ℕ) (n : ℕ) → number_field least limit w ≡ Ok n → (w ≡ decimal n) × (least ≤ n) × (n < limit)
 number_takes least limit w n e =
     let range = in_range_takes least limit (numeral_of w) n e in
     let some = some_is (is_numeral w && ltb (digits_value 10 w) (2 ^ 64)) (digits_value 10 w) n range.0 in
@@ -76,7 +76,7 @@ decimal_well : (n : ℕ) → n < 2 ^ 64 → get_or (decimal n) 0 0 ≡ 48 → le
 decimal_well zero lt e = ap length (decimal_digit 0 (omega arith))
 decimal_well (suc n) lt e = let first = first_decimal (suc n) (omega arith) lt in absurd (omega arith)
 
-number_again : (least limit n : ℕ) → limit ≤ 2 ^ 64 → least ≤ n → n < limit → number_of least limit (decimal n) ≡ Ok n
+number_again : (least limit n : ℕ) → limit ≤ 2 ^ 64 → least ≤ n → n < limit → number_field least limit (decimal n) ≡ Ok n
 number_again least limit n small le lt =
     let wide : n < 2 ^ 64 = omega arith in
     let digits = digits_decimal own n wide in
@@ -84,11 +84,11 @@ number_again least limit n small le lt =
     let value = digits_value-decimal own n wide in
     rw (digits, well, value, lt-ltb n (2 ^ 64) wide, le-leb least n le, lt-ltb n limit lt) refl
 
-pub number_field : (limit : ℕ) → limit ≤ 2 ^ 64 → IsField (number_of 0 limit) decimal (λ n. n < limit)
+pub number_field : (limit : ℕ) → limit ≤ 2 ^ 64 → IsField (number_field 0 limit) decimal (λ n. n < limit)
 number_field limit small =
     record { takes = λ w n e. let took = number_takes 0 limit w n e in (took.0, took.2); again = λ n lt. number_again 0 limit n small (omega arith) lt }
 
-pub range_field : (least limit : ℕ) → limit ≤ 2 ^ 64 → IsField (number_of least limit) decimal (λ n. (least ≤ n) × (n < limit))
+pub range_field : (least limit : ℕ) → limit ≤ 2 ^ 64 → IsField (number_field least limit) decimal (λ n. (least ≤ n) × (n < limit))
 range_field least limit small =
     record { takes = λ w n e. let took = number_takes least limit w n e in (took.0, (took.1, took.2)); again = λ n h. number_again least limit n small h.0 h.1 }
 
@@ -116,7 +116,7 @@ text-decoded w h =
           (sym back ∙ sym (text_of_some (decoded w) long), bytes-decoded w parts.digits)
     ]
 
-sized_takes : (least most : ℕ) (w xs : List ℕ) → sized least most w ≡ Ok xs → (w ≡ octets_text xs) × IsOctets least most xs
+sized_takes : (least most : ℕ) (w xs : List ℕ) → sized least most w ≡ Ok xs → (w ≡ octets_text xs) × IsOctetField least most xs
 sized_takes least most w xs e =
     let parts = octets_in_is w xs (size_of least most w) e in
     pick (spells_octets w) (cond (leb least (length w / 2) && leb (length w / 2) most) (Ok (length w / 2)) (Err reasons.Size)) (Err reasons.Hex) (Ok parts.0) parts.1
@@ -125,7 +125,7 @@ sized_takes least most w xs e =
     let text = text-decoded w hit in
     let tests = and_parts (leb least (length w / 2)) (leb (length w / 2) most) within in
     let size = length-decoded w in
-    subst (λ (ys : List ℕ). (w ≡ octets_text ys) × IsOctets least most ys) parts.2
+    subst (λ (ys : List ℕ). (w ≡ octets_text ys) × IsOctetField least most ys) parts.2
     (text.0, record { least_size = omega (arith, size, leb-true _ _ tests.0); most_size = omega (arith, size, leb-true _ _ tests.1); bytes = text.1 }))
     (λ without same. absurd cc))
     (λ miss rest. absurd cc)
@@ -134,7 +134,7 @@ or_right : (a b : Bool) → b ≡ true → (a || b) ≡ true
 or_right true b h = refl
 or_right false b h = h
 
-sized_again : (least most : ℕ) (xs : List ℕ) → IsOctets least most xs → sized least most (octets_text xs) ≡ Ok xs
+sized_again : (least most : ℕ) (xs : List ℕ) → IsOctetField least most xs → sized least most (octets_text xs) ≡ Ok xs
 unfolding decoded
 sized_again least most [] fits = rw (le-leb least 0 fits.least_size, le-leb 0 most fits.most_size) refl
 sized_again least most (b ∷ bs) fits =
@@ -144,7 +144,7 @@ sized_again least most (b ∷ bs) fits =
     let half : length (encode_lower xs) / 2 ≡ length xs = omega (arith, long) in
     rw (hex, half, le-leb least (length xs) fits.least_size, le-leb (length xs) most fits.most_size, decoded-encode xs fits.bytes) refl
 
-pub sized_field : (least most : ℕ) → IsField (sized least most) octets_text (IsOctets least most)
+pub sized_field : (least most : ℕ) → IsField (sized least most) octets_text (IsOctetField least most)
 sized_field least most = record { takes = sized_takes least most; again = sized_again least most }
 
 octet_is : (r : Result (List ℕ) LineReason) (n : ℕ) → octet_in r ≡ Ok n → (xs : List ℕ) × (r ≡ Ok xs) × (slice_index xs 0 ≡ n)
@@ -152,7 +152,7 @@ octet_is (Ok xs) n e = (xs, refl, ok_is (slice_index xs 0) n e)
 octet_is (Err reason) n e = absurd cc
 
 -- a list of one octet is that octet's
-one_octet : (xs : List ℕ) (n : ℕ) → IsOctets 1 1 xs → slice_index xs 0 ≡ n → (xs ≡ n ∷ []) × (n < 256)
+one_octet : (xs : List ℕ) (n : ℕ) → IsOctetField 1 1 xs → slice_index xs 0 ≡ n → (xs ≡ n ∷ []) × (n < 256)
 one_octet [] n h e = absurd (let some = h.least_size in omega arith)
 one_octet (b ∷ []) n h e = (ap (λ (c : ℕ). c ∷ []) e, rw (← e) (h.bytes 0))
 one_octet (b ∷ c ∷ cs) n h e = absurd (let few = h.most_size in omega arith)
@@ -185,7 +185,7 @@ bytes_high zero n i = omega arith
 bytes_high (suc k) n zero = byte_below k n
 bytes_high (suc k) n (suc i) = bytes_high k n i
 
-spi_takes : (w : List ℕ) (n : ℕ) → spi_of w ≡ Ok n → (w ≡ spi_text n) × (n < 2 ^ 64)
+spi_takes : (w : List ℕ) (n : ℕ) → spi_field w ≡ Ok n → (w ≡ spi_text n) × (n < 2 ^ 64)
 spi_takes w n e =
     pick (is_hex w) (cond (eqb (length w / 2) 8) (Ok (from_be_bytes w64 (decoded w))) (Err reasons.Size)) (Err reasons.Hex) (Ok n) e
     (λ hit rest. pick (eqb (length w / 2) 8) (Ok (from_be_bytes w64 (decoded w))) (Err reasons.Size) (Ok n) rest
@@ -201,7 +201,7 @@ spi_takes w n e =
     (λ short same. absurd cc))
     (λ miss rest. absurd cc)
 
-spi_again : (n : ℕ) → n < 2 ^ 64 → spi_of (spi_text n) ≡ Ok n
+spi_again : (n : ℕ) → n < 2 ^ 64 → spi_field (spi_text n) ≡ Ok n
 spi_again n lt =
     let bytes = bytes_high 8 n in
     let hex = hex-encode (to_be_bytes w64 n) bytes (omega arith) in
@@ -209,7 +209,7 @@ spi_again n lt =
     let half : length (spi_text n) / 2 ≡ 8 = omega (arith, long) in
     rw (hex, half, decoded-encode (to_be_bytes w64 n) bytes, from_be_bytes-to_be_bytes_8 n lt) refl
 
-pub spi_field : IsField spi_of spi_text (λ n. n < 2 ^ 64)
+pub spi_field : IsField spi_field spi_text (λ n. n < 2 ^ 64)
 spi_field = record { takes = spi_takes; again = spi_again }
 
 esp_spi_takes : (w : List ℕ) (n : ℕ) → esp_spi_of w ≡ Ok n → (w ≡ esp_spi_text n) × (n < 2 ^ 32)
@@ -333,7 +333,7 @@ bind_ok (Err d) f y e = absurd cc
 
 word_takes : (c : ℕ) (ws : List (List ℕ)) (w : List ℕ) (t : Cursor) → word_in c ws ≡ Ok (w, t) → ws ≡ w ∷ t.words
 word_takes c [] w t e = absurd cc
-word_takes c (v ∷ vs) w t e = let same = ok_is (v, behind c v vs) (w, t) e in ap (λ (p : List ℕ × Cursor). p.0 ∷ p.1.words) same
+word_takes c (v ∷ vs) w t e = let same = ok_is (v, behind_field c v vs) (w, t) e in ap (λ (p : List ℕ × Cursor). p.0 ∷ p.1.words) same
 
 field_takes : {A : Type 0} {read : List ℕ → Result A LineReason} {text : A → List ℕ} {fits : A → Type 0} → IsField read text fits → (s : Cursor) (x : A) (t : Cursor) → field read s ≡ Ok (x, t) → (s.words ≡ text x ∷ t.words) × fits x
 unfolding field
@@ -349,7 +349,7 @@ pub reader : {A : Type 0} {read : List ℕ → Result A LineReason} {text : A �
 unfolding field
 reader is = record { takes = λ s x t e. field_takes is s x t e; again = λ x h c ws. rw (is.again x h) refl }
 
-pub field_again : {A : Type 0} {read : List ℕ → Result A LineReason} {text : A → List ℕ} {fits : A → Type 0} → IsField read text fits → (x : A) → fits x → (c : ℕ) (ws : List (List ℕ)) → field read (record { column = c; words = text x ∷ ws }) ≡ Ok (x, behind c (text x) ws)
+pub field_again : {A : Type 0} {read : List ℕ → Result A LineReason} {text : A → List ℕ} {fits : A → Type 0} → IsField read text fits → (x : A) → fits x → (c : ℕ) (ws : List (List ℕ)) → field read (record { column = c; words = text x ∷ ws }) ≡ Ok (x, behind_field c (text x) ws)
 unfolding field
 field_again is x h c ws = rw (is.again x h) refl
 

@@ -11,7 +11,7 @@ use Rattle.ha_base.specs.declared.identities.Identity.{Identity}
 use Rattle.ha_base.specs.declared.key_material.KeySize.{KeySize}
 use Rattle.ha_base.specs.declared.key_material.KeySize.TheVariants.{Bits128, Bits256}
 use Rattle.line_fields.specs.Numbers.{is_digit}
-use Rattle.line_fields.specs.Octets.{IsOctets, esp_spi_text, is_lower, octets_text, spi_text}
+use Rattle.line_fields.specs.Octets.{IsOctetField, esp_spi_text, is_lower, octets_text, spi_text}
 use Rattle.line_fields.specs.Identities.{IsIdentity, IsOfForm, fqdn, identity_text}
 use Rattle.line_fields.specs.Fields.{size_text}
 use Rattle.line_fields.proofs.NumberLaws.{own}
@@ -49,7 +49,7 @@ word_decimal n lt = all_also is_digit plain_octet (plain_from is_digit refl refl
 word_encode : (bs : List ℕ) → IsBytes bs → is_plain (encode_lower bs) ≡ true
 word_encode bs h = all_also is_lower plain_octet (plain_from is_lower refl refl) (encode_lower bs) (lower-encode bs h)
 
-pub word_octets : (least most : ℕ) (xs : List ℕ) → IsOctets least most xs → is_plain (octets_text xs) ≡ true
+pub word_octets : (least most : ℕ) (xs : List ℕ) → IsOctetField least most xs → is_plain (octets_text xs) ≡ true
 word_octets least most [] h = refl
 word_octets least most (b ∷ bs) h = word_encode (b ∷ bs) h.bytes
 

@@ -22,12 +22,12 @@ Reads view (Ok x) new read = read ≡ Ok (view x, new)
 Reads view (Err f) new read = read ≡ Err f
 
 -- what is left behind a word
-abbrev pub behind : ℕ → List ℕ → List (List ℕ) → Cursor
-behind c w ws = record { column = c + length w + 1; words = ws }
+abbrev pub behind_field : ℕ → List ℕ → List (List ℕ) → Cursor
+behind_field c w ws = record { column = c + length w + 1; words = ws }
 
 abbrev pub word_in : ℕ → List (List ℕ) → Result (List ℕ × Cursor) LineFault
 word_in c [] = Err (fault_at c reasons.Missing)
-word_in c (w ∷ ws) = Ok (w, behind c w ws)
+word_in c (w ∷ ws) = Ok (w, behind_field c w ws)
 
 -- the next word
 abbrev pub word_at : Cursor → Result (List ℕ × Cursor) LineFault

@@ -3,7 +3,7 @@ use Rattle.std.specs.Prelude.{◌≡◌, ℕ, ◌==◌, List, [], ◌∷◌, ◌
 use Rattle.ha_base.specs.declared.identities.Identity.{Identity}
 use Rattle.line_fields.specs.declared.fault.LineReason.{LineReason}
 use Rattle.line_fields.specs.declared.fault.LineReason.TheVariants.{Hex}
-use Rattle.line_fields.specs.Octets.{IsOctets, octets_text, sized}
+use Rattle.line_fields.specs.Octets.{IsOctetField, octets_text, sized}
 
 -- what stands behind a prefix
 abbrev pub behind_prefix : List ℕ → List ℕ → Option (List ℕ)
@@ -36,7 +36,7 @@ key = record { kind = 11; prefix = codes "key:"; least = 1; most = 64 }
 -- an identity of a type
 pub record IsOfForm (form : Form) (i : Identity) : Type 0 where
   pub kind : i.kind ≡ form.kind
-  pub octets : IsOctets form.least form.most i.octets
+  pub octets : IsOctetField form.least form.most i.octets
 
 abbrev pub IsIdentity : Identity → Type 0
 IsIdentity i = IsOfForm ipv4 i ⊎ IsOfForm ipv6 i ⊎ IsOfForm fqdn i ⊎ IsOfForm mail i ⊎ IsOfForm key i

@@ -67,15 +67,15 @@ abbrev pub esp_spi_text : ℕ → List ℕ
 esp_spi_text n = encode_lower (to_be_bytes w32 n)
 
 -- an SPI of the IKE header (RFC 7296 section 3.1), in 16 digits
-abbrev pub spi_of : List ℕ → Result ℕ LineReason
-spi_of w = if is_hex w then (if length w / 2 == 8 then Ok (from_be_bytes w64 (decoded w)) else Err Size) else Err Hex
+abbrev pub spi_field : List ℕ → Result ℕ LineReason
+spi_field w = if is_hex w then (if length w / 2 == 8 then Ok (from_be_bytes w64 (decoded w)) else Err Size) else Err Hex
 
 -- an SPI of an ESP packet (RFC 4303 section 2.1), in 8 digits
 abbrev pub esp_spi_of : List ℕ → Result ℕ LineReason
 esp_spi_of w = if is_hex w then (if length w / 2 == 4 then Ok (from_be_bytes w32 (decoded w)) else Err Size) else Err Hex
 
 -- octets of a number from least to most
-pub record IsOctets (least most : ℕ) (octets : List ℕ) : Type 0 where
+pub record IsOctetField (least most : ℕ) (octets : List ℕ) : Type 0 where
   pub least_size : least ≤ length octets
   pub most_size : length octets ≤ most
   pub bytes : IsBytes octets

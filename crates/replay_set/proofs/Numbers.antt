@@ -7,17 +7,17 @@ use Rattle.std.proofs.lemmas.List.Folds.{list_any_none, list_any_at}
 use Rattle.std.proofs.lemmas.Bool.Decides.{nat_tests}
 use Rattle.std.proofs.lemmas.Bool.{cases_lt}
 use Rattle.replay_set.specs.declared.judgement.Judgement.TheVariants.{Stale, Seen, Fresh}
-use Rattle.replay_set.specs.Window.{Window, in_window, is_among, is_stale, is_noted, judged, next_of, numbers_below, window_of}
+use Rattle.replay_set.specs.Window.{Window, in_window, is_among, is_stale, is_noted, judged, next_noted, numbers_below, window_of}
 use Rattle.replay_set.specs.Laws.{NotingAddsTheNumber, JudgingByNumbers, TopIsTheGreatest}
 
 -- each number is below the next one
-pub All-next_of : (base : ℕ) (numbers : List ℕ) → All (λ n. n < next_of base numbers) numbers
+pub All-next_of : (base : ℕ) (numbers : List ℕ) → All (λ n. n < next_noted base numbers) numbers
 All-next_of base [] = All-nil (λ n. n < base)
 All-next_of base (n ∷ numbers) =
-    All-cons (λ m. m < max (next_of base numbers) (n + 1)) n numbers (omega arith)
-    (All-weaker (λ m. m < next_of base numbers) (λ m. m < max (next_of base numbers) (n + 1)) (λ m h. omega arith) numbers (All-next_of base numbers))
+    All-cons (λ m. m < max (next_noted base numbers) (n + 1)) n numbers (omega arith)
+    (All-weaker (λ m. m < next_noted base numbers) (λ m. m < max (next_noted base numbers) (n + 1)) (λ m h. omega arith) numbers (All-next_of base numbers))
 
-pub base_le_next_of : (base : ℕ) (numbers : List ℕ) → base ≤ next_of base numbers
+pub base_le_next_of : (base : ℕ) (numbers : List ℕ) → base ≤ next_noted base numbers
 base_le_next_of base [] = omega arith
 base_le_next_of base (n ∷ numbers) = omega (arith, base_le_next_of base numbers)
 
@@ -25,13 +25,13 @@ base_le_next_of base (n ∷ numbers) = omega (arith, base_le_next_of base number
 Contains-cons : (n : ℕ) (numbers : List ℕ) (m : ℕ) → Contains numbers m → Contains (n ∷ numbers) m
 Contains-cons n numbers m (k, lt, e) = (suc k, omega arith, e)
 
-pub next_of_least : (base : ℕ) (numbers : List ℕ) → (next_of base numbers ≡ base) ⊎ ((top : ℕ) × Contains numbers top × (next_of base numbers ≡ top + 1))
+pub next_of_least : (base : ℕ) (numbers : List ℕ) → (next_noted base numbers ≡ base) ⊎ ((top : ℕ) × Contains numbers top × (next_noted base numbers ≡ top + 1))
 next_of_least base [] = inl refl
-next_of_least base (n ∷ numbers) = go (cases_lt n (next_of base numbers)) (next_of_least base numbers)
+next_of_least base (n ∷ numbers) = go (cases_lt n (next_noted base numbers)) (next_of_least base numbers)
   where
-    go : (n < next_of base numbers) ⊎ (next_of base numbers ≤ n)
-        → (next_of base numbers ≡ base) ⊎ ((top : ℕ) × Contains numbers top × (next_of base numbers ≡ top + 1))
-        → (max (next_of base numbers) (n + 1) ≡ base) ⊎ ((top : ℕ) × Contains (n ∷ numbers) top × (max (next_of base numbers) (n + 1) ≡ top + 1))
+    go : (n < next_noted base numbers) ⊎ (next_noted base numbers ≤ n)
+        → (next_noted base numbers ≡ base) ⊎ ((top : ℕ) × Contains numbers top × (next_noted base numbers ≡ top + 1))
+        → (max (next_noted base numbers) (n + 1) ≡ base) ⊎ ((top : ℕ) × Contains (n ∷ numbers) top × (max (next_noted base numbers) (n + 1) ≡ top + 1))
     go (inl low) (inl none) = inl (omega arith)
     go (inl low) (inr (top, among, is)) = inr (top, Contains-cons n numbers top among, omega arith)
     go (inr high) least = inr (n, (zero, omega arith, refl), omega arith)
@@ -118,15 +118,15 @@ with_one_more p next size n m high (inr above) =
 
 pub noting_adds : NotingAddsTheNumber
 noting_adds size base numbers n =
-    let same : in_window size (max (next_of base numbers) (n + 1)) (n ∷ in_window size (next_of base numbers) numbers) ≡ in_window size (max (next_of base numbers) (n + 1)) (n ∷ numbers) =
-    same_passed (is_among (n ∷ in_window size (next_of base numbers) numbers)) (is_among (n ∷ numbers)) (max (next_of base numbers) (n + 1)) size
-    (λ m low high. ap (λ b. (n == m) || b) (either m (omega arith) (cases_lt m (next_of base numbers)))) in
-    λ i. record { size = size; base = base; next = max (next_of base numbers) (n + 1); noted = same i }
+    let same : in_window size (max (next_noted base numbers) (n + 1)) (n ∷ in_window size (next_noted base numbers) numbers) ≡ in_window size (max (next_noted base numbers) (n + 1)) (n ∷ numbers) =
+    same_passed (is_among (n ∷ in_window size (next_noted base numbers) numbers)) (is_among (n ∷ numbers)) (max (next_noted base numbers) (n + 1)) size
+    (λ m low high. ap (λ b. (n == m) || b) (either m (omega arith) (cases_lt m (next_noted base numbers)))) in
+    λ i. record { size = size; base = base; next = max (next_noted base numbers) (n + 1); noted = same i }
   where
-    either : (m : ℕ) → next_of base numbers ≤ m + size → (m < next_of base numbers) ⊎ (next_of base numbers ≤ m) → is_among (in_window size (next_of base numbers) numbers) m ≡ is_among numbers m
-    either m high (inl low) = passed_within (is_among numbers) (next_of base numbers) size m low high
+    either : (m : ℕ) → next_noted base numbers ≤ m + size → (m < next_noted base numbers) ⊎ (next_noted base numbers ≤ m) → is_among (in_window size (next_noted base numbers) numbers) m ≡ is_among numbers m
+    either m high (inl low) = passed_within (is_among numbers) (next_noted base numbers) size m low high
     either m high (inr above) =
-        passed_above (is_among numbers) (next_of base numbers) size m above ∙ sym (among_lower numbers (next_of base numbers) m (All-next_of base numbers) above)
+        passed_above (is_among numbers) (next_noted base numbers) size m above ∙ sym (among_lower numbers (next_noted base numbers) m (All-next_of base numbers) above)
 
 -- a number that a window finds fresh is not below the window, and not below the base
 pub fresh_reached : (window : Window) (n : ℕ) → judged window n ≡ Fresh → (window.base ≤ n) × (window.next ≤ n + window.size)
@@ -161,13 +161,13 @@ judging_by size base numbers n = record {
   below_base = judged-below_base (window_of size base numbers) n;
   below_window = judged-below_window (window_of size base numbers) n;
   noted = λ from within has.
-      let low : n < next_of base numbers = All-contains (λ m. m < next_of base numbers) numbers n (All-next_of base numbers) has in
+      let low : n < next_noted base numbers = All-contains (λ m. m < next_noted base numbers) numbers n (All-next_of base numbers) has in
       judged-noted (window_of size base numbers) n from within
-      (passed_within (is_among numbers) (next_of base numbers) size n low within ∙ Contains-is_among numbers n has);
+      (passed_within (is_among numbers) (next_noted base numbers) size n low within ∙ Contains-is_among numbers n has);
   not_noted = λ from within absent.
-      judged-not_noted (window_of size base numbers) n from within (unnoted within absent (cases_lt n (next_of base numbers)));
+      judged-not_noted (window_of size base numbers) n from within (unnoted within absent (cases_lt n (next_noted base numbers)));
 }
   where
-    unnoted : next_of base numbers ≤ n + size → ¬ Contains numbers n → (n < next_of base numbers) ⊎ (next_of base numbers ≤ n) → is_noted (window_of size base numbers) n ≡ false
-    unnoted within absent (inl low) = passed_within (is_among numbers) (next_of base numbers) size n low within ∙ is_among-not_Contains numbers n absent
-    unnoted within absent (inr high) = passed_above (is_among numbers) (next_of base numbers) size n high
+    unnoted : next_noted base numbers ≤ n + size → ¬ Contains numbers n → (n < next_noted base numbers) ⊎ (next_noted base numbers ≤ n) → is_noted (window_of size base numbers) n ≡ false
+    unnoted within absent (inl low) = passed_within (is_among numbers) (next_noted base numbers) size n low within ∙ is_among-not_Contains numbers n absent
+    unnoted within absent (inr high) = passed_above (is_among numbers) (next_noted base numbers) size n high

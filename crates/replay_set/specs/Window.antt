@@ -39,9 +39,9 @@ abbrev pub judged : Window → ℕ → Judgement
 judged window n = if is_stale window n then Stale else (if is_noted window n then Seen else Fresh)
 
 -- one above the greatest of these numbers, or the base where there is none
-abbrev pub next_of : ℕ → List ℕ → ℕ
-next_of base [] = base
-next_of base (n ∷ numbers) = max (next_of base numbers) (n + 1)
+abbrev pub next_noted : ℕ → List ℕ → ℕ
+next_noted base [] = base
+next_noted base (n ∷ numbers) = max (next_noted base numbers) (n + 1)
 
 -- the numbers below `next`, the greatest first and at most so many
 abbrev pub numbers_below : ℕ → ℕ → List ℕ
@@ -55,7 +55,7 @@ in_window size next numbers = filter (is_among numbers) (numbers_below next size
 
 -- the window in which exactly these numbers were noted, in whatever order
 abbrev pub window_of : ℕ → ℕ → List ℕ → Window
-window_of size base numbers = let next = next_of base numbers in record {
+window_of size base numbers = let next = next_noted base numbers in record {
   size = size;
   base = base;
   next = next;

@@ -8,7 +8,7 @@ use Rattle.std.specs.Io.KnownBytes.{Appends}
 use Rattle.ha_base.specs.Faults.{AppendsFront}
 use Rattle.events.specs.Events.{PlainEvent}
 use Rattle.event_text.specs.Input.{Contents, with_event}
-use Rattle.report_text.specs.Report.{given, given_in, turn_text, turns_text}
+use Rattle.report_text.specs.Report.{datagrams_given, given_in, turn_text, turns_text}
 use Rattle.input_lines.specs.declared.fault.InputFault.{InputFault}
 use Rattle.events.specs.declared.turn.Datagram.{Datagram}
 use Rattle.events.specs.declared.turn.Turn.{Turn}
@@ -35,27 +35,27 @@ some_same : {T : Type 0} {x y : T} → Some x ≡ Some y → x ≡ y
 some_same {T} {x} e = ap (λ o. unwrap_or o x) e
 
 -- as many datagrams were given as the report counts
-pub counted-given : (past : List Turn) → length (datagrams_of past) ≡ given past
+pub counted-given : (past : List Turn) → length (datagrams_of past) ≡ datagrams_given past
 counted-given [] = refl
 counted-given (turn ∷ past) =
     length-append (datagrams_of past) (option_to_list (option_map plain_datagram turn.step.gives))
     ∙ ap (λ n. n + length (option_to_list (option_map plain_datagram turn.step.gives))) (counted-given past)
-    ∙ ap (λ n. given past + n) (counted_in turn.step.gives)
+    ∙ ap (λ n. datagrams_given past + n) (counted_in turn.step.gives)
   where
     counted_in : (gives : Option Datagram) → length (option_to_list (option_map plain_datagram gives)) ≡ given_in gives
     counted_in None = refl
     counted_in (Some datagram) = refl
 
 -- where a turn gives a datagram, it is the newest one
-pub turn_text-newest : (number : ℕ) (past : List Turn) (turn : Turn) → turn_text number (given (turn ∷ past)) turn ≡ turn_text number (given past + 1) turn
+pub turn_text-newest : (number : ℕ) (past : List Turn) (turn : Turn) → turn_text number (datagrams_given (turn ∷ past)) turn ≡ turn_text number (datagrams_given past + 1) turn
 unfolding turn_text
 turn_text-newest number past turn = go turn.step.gives refl
   where
-    go : (gives : Option Datagram) → turn.step.gives ≡ gives → turn_text number (given past + given_in turn.step.gives) turn ≡ turn_text number (given past + 1) turn
+    go : (gives : Option Datagram) → turn.step.gives ≡ gives → turn_text number (datagrams_given past + given_in turn.step.gives) turn ≡ turn_text number (datagrams_given past + 1) turn
     go None e = rw e refl
     go (Some datagram) e = rw e refl
 
-pub turns_text-turn : (past : List Turn) (turn : Turn) → turns_text past ++ turn_text (length past + 1) (given (turn ∷ past)) turn ≡ turns_text (turn ∷ past)
+pub turns_text-turn : (past : List Turn) (turn : Turn) → turns_text past ++ turn_text (length past + 1) (datagrams_given (turn ∷ past)) turn ≡ turns_text (turn ∷ past)
 unfolding turns_text
 turns_text-turn past turn = ap (λ text. turns_text past ++ text) (turn_text-newest (length past + 1) past turn)
 

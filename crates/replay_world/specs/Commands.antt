@@ -5,8 +5,8 @@ use Rattle.replay_world.specs.declared.top.Command.{Command}
 use Rattle.replay_world.specs.declared.top.Command.TheVariants.{Run, Show}
 
 -- the command that a word names
-abbrev pub named_by : List ℕ → Option Command
-named_by word =
+abbrev pub command_named : List ℕ → Option Command
+command_named word =
     if bytes_eq word (codes "run") then Some Run
     else if bytes_eq word (codes "show") then Some Show
     else None
@@ -14,5 +14,5 @@ named_by word =
 -- the command that the words are, which is one word
 abbrev pub command_of : {A : Type 0} → List (String A) → Option Command
 command_of [] = None
-command_of (word ∷ []) = named_by (string_bytes word)
+command_of (word ∷ []) = command_named (string_bytes word)
 command_of (word ∷ other ∷ more) = None

@@ -6,7 +6,7 @@ ghost use Rattle.std.specs.Io.KnownBytes.{Appends, Consumes, IsAtEnd, Keeps};
 ghost use Rattle.ha_base.specs.Faults.{AppendsFront, Rose};
 ghost use Rattle.replay_world.specs.Played.{BreaksOff, Completes};
 ghost use Rattle.replay_world.specs.Shows.{ShowsAll, ShowsFront};
-ghost use Rattle.replay_world.specs.Commands.{command_of, named_by};
+ghost use Rattle.replay_world.specs.Commands.{command_of, command_named};
 ghost use Rattle.replay_world.specs.declared.top.Command.TheVariants.{Run, Show};
 ghost use Rattle.input_lines.specs.Faults.{fault_line};
 ghost use Rattle.input_lines.specs.declared.fault.InputFault.{InputFault};
@@ -65,7 +65,7 @@ pub enum Command {
 }
 
 fn named_by(word: &str) -> Option<Command>
-    ensures { result ≡ named_by word.now }
+    ensures { result ≡ command_named word.now }
 {
     match word {
         "run" => Some(Command::Run),

@@ -184,14 +184,14 @@ given_in None = 0
 given_in (Some datagram) = 1
 
 -- how many datagrams turns gave
-abbrev pub given : List Turn → ℕ
-given [] = 0
-given (turn ∷ past) = given past + given_in turn.step.gives
+abbrev pub datagrams_given : List Turn → ℕ
+datagrams_given [] = 0
+datagrams_given (turn ∷ past) = datagrams_given past + given_in turn.step.gives
 
 -- The text of turns, the newest first. They and their datagrams are counted from 1.
 unfoldable pub turns_text : List Turn → List ℕ
 turns_text [] = []
-turns_text (turn ∷ past) = turns_text past ++ turn_text (length past + 1) (given past + 1) turn
+turns_text (turn ∷ past) = turns_text past ++ turn_text (length past + 1) (datagrams_given past + 1) turn
 
 abbrev pub report_head : List ℕ
 report_head = line_text (codes "ha-report" ∷ codes "1" ∷ [])

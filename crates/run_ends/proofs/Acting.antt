@@ -25,7 +25,7 @@ use Rattle.turn_rules.specs.Tasks.{member_task, peer_task}
 use Rattle.cluster_member.specs.Members.{Holder, IsAfter}
 use Rattle.run_ends.proofs.Holding.{IsOf, IsOfEnd, member-holds, refused-holds}
 use Rattle.run_ends.proofs.Seats.{acted-in_place, counted, seat_is}
-use Rattle.run_ends.specs.Parties.{AreInPlace, DeliversTo, EndsHeld, IsMember, IsPlaceOf, Plays, has_member, holder_of, state_of}
+use Rattle.run_ends.specs.Parties.{AreInPlace, DeliversTo, EndsHeld, IsMember, IsMemberPlace, Plays, has_member, holder_of, state_of}
 
 -- what the run refuses, and what it does not
 pub does-refused : (state : RunState) (at : Event) (why : Refusal) (calls : List Call) (step : Step) → run_refusal state at ≡ Some why → Refuses why calls step → MatchOption (run_refusal state at) (Performs state at calls step) (λ why. Refuses why calls step)
@@ -96,7 +96,7 @@ module _ (past : List Turn) (s : EndsHeld) (at : Event) (member : ℕ) (named : 
   pub absent-plays : (step : Step) → has_member member s.members ≡ false → Says (out.Refused refusal.NoMember) step → Plays past s at [] step s
   absent-plays step none says = refused-plays past s at refusal.NoMember step s in_place (no-member (state_of past s) at room member named none) says refl
 
-  module _ (place : ℕ) (x : Option Holder) (is : IsPlaceOf member place s.members) (seat : x ≡ get_or s.members place x) where
+  module _ (place : ℕ) (x : Option Holder) (is : IsMemberPlace member place s.members) (seat : x ≡ get_or s.members place x) where
     ended-is : (state_of past s).ended member ≡ is_none x
     ended-is = ap is_none (seat_is s.members member place x is seat)
 

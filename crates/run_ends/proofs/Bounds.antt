@@ -26,7 +26,7 @@ use Rattle.ha_base.specs.declared.identities.Identity.{Identity}
 use Rattle.replay_set.specs.Window.{IsWindowSize}
 use Rattle.turn_rules.specs.Datagrams.{PlainDatagram, altered, arrives, changed, cut, datagram_at, plain_datagram}
 use Rattle.turn_rules.specs.Ends.{is_of_run}
-use Rattle.turn_rules.specs.Packets.{Outbound, Sends}
+use Rattle.turn_rules.specs.Packets.{Outbound, SendsEsp}
 use Rattle.run_ends.specs.Parties.{IsShort}
 
 pub fits_send : (from : Party) (spir : ℕ) (payload : WithRoom) → Fits (plain (event.Send from spir payload)) → length payload.octets ≤ 1400
@@ -106,7 +106,7 @@ arrives-short datagrams (event.Inject to medium octets) datagram all fits e = su
 arrives-short datagrams event datagram all fits e = absurd (cc)
 
 -- and so is what an end sends
-pub sends-short : (outbound : Outbound) (number : ℕ) (payload : List ℕ) (step : Step) → (length outbound.key.octets ≡ 20) ⊎ (length outbound.key.octets ≡ 36) → length payload ≤ 1400 → Sends outbound number payload step
+pub sends-short : (outbound : Outbound) (number : ℕ) (payload : List ℕ) (step : Step) → (length outbound.key.octets ≡ 20) ⊎ (length outbound.key.octets ≡ 36) → length payload ≤ 1400 → SendsEsp outbound number payload step
     → AllByRecursion IsShort (option_to_list (option_map plain_datagram step.gives))
 sends-short outbound number payload step sized few sends =
     subst (λ gives. AllByRecursion IsShort (option_to_list (option_map plain_datagram gives))) (sym sends.gives) (short, tt)

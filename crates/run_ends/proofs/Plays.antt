@@ -21,7 +21,7 @@ use Rattle.keeper_book.specs.declared.records.Record.{Record}
 use Rattle.keeper_book.specs.Asks.{AsksFor}
 use Rattle.turn_rules.specs.Datagrams.{PlainDatagram, arrives, datagrams_of}
 use Rattle.turn_rules.specs.Deliveries.{MemberTakes, PeerTakes}
-use Rattle.turn_rules.specs.Draws.{Enters, TakesOver}
+use Rattle.turn_rules.specs.Draws.{EntersRecord, TakesOver}
 use Rattle.turn_rules.specs.Fits.{DrawsOf, MAX_MEMBERS, Quietly, Receives, Refusing, SendsOf, is_importable, refused_arrival, refused_besides, refused_medium, refused_where, run_refusal}
 use Rattle.turn_rules.specs.Held.{held_at}
 use Rattle.turn_rules.specs.Peers.{admits}
@@ -37,7 +37,7 @@ use Rattle.run_ends.proofs.Holding.{Holds, configured-holds, crash-holds, entere
 use Rattle.run_ends.proofs.Seats.{counted, ended-in_place, joined-in_place, seat_is}
 use Rattle.run_ends.proofs.Verdicts.{draws-proper, enters-proper, member_takes-proper, peer_sends-proper, peer_takes-proper, sends-proper, takes-proper}
 use Rattle.run_ends.specs.Arrivals.{MemberTakesIn, PeerTakesIn}
-use Rattle.run_ends.specs.Parties.{AreInPlace, DeliversTo, EndsHeld, IsPlaceOf, Plays, held_in, holder_of, state_of}
+use Rattle.run_ends.specs.Parties.{AreInPlace, DeliversTo, EndsHeld, IsMemberPlace, Plays, held_in, holder_of, state_of}
 
 -- a call that was asked for one thing was asked for what follows from it
 pub asked-as : {K : Type 0} {keeper : Ghosts K} {old new : K} {P Q : List Call → Type 0} → ((calls : List Call) → P calls → Q calls) → AsksFor keeper old new P → AsksFor keeper old new Q
@@ -47,7 +47,7 @@ pub if_ok-as : {T E : Type 0} {P Q : T → Type 0} (result : Result T E) → ((v
 if_ok-as (Ok value) f p = f value p
 if_ok-as (Err why) f p = tt
 
-module _ (past : List Turn) (s : EndsHeld) (member place : ℕ) (x : Option Holder) (in_place : AreInPlace s) (is : IsPlaceOf member place s.members) (seat : x ≡ get_or s.members place x) (was now : Holder) (some : x ≡ Some was)
+module _ (past : List Turn) (s : EndsHeld) (member place : ℕ) (x : Option Holder) (in_place : AreInPlace s) (is : IsMemberPlace member place s.members) (seat : x ≡ get_or s.members place x) (was now : Holder) (some : x ≡ Some was)
     (new : EndsHeld) (leaves : new ≡ record s { members = set s.members place (Some now) }) where
   abbrev its : holder_of s.members member ≡ Some was
   its = seat_is s.members member place x is seat ∙ some
@@ -104,7 +104,7 @@ module _ (past : List Turn) (s : EndsHeld) (member place : ℕ) (x : Option Hold
           (subst (λ t. IsAfter t calls step was now) (sym facts.member) it.1) leaves
 
 -- a member ends
-pub crashes : (past : List Turn) (s : EndsHeld) (member place : ℕ) (x : Option Holder) → AreInPlace s → IsPlaceOf member place s.members → x ≡ get_or s.members place x → (was : Holder) → x ≡ Some was → (step : Step) → Says out.Down step
+pub crashes : (past : List Turn) (s : EndsHeld) (member place : ℕ) (x : Option Holder) → AreInPlace s → IsMemberPlace member place s.members → x ≡ get_or s.members place x → (was : Holder) → x ≡ Some was → (step : Step) → Says out.Down step
     → (new : EndsHeld) → new ≡ record s { members = set s.members place None } → Plays past s (event.Crash member) [] step new
 crashes past s member place x in_place is seat was some step says new leaves =
     let e : member ≡ suc place = counted member place s.members is in
@@ -145,25 +145,25 @@ module _ (past : List Turn) (s : EndsHeld) (in_place : AreInPlace s) (sa : Recor
   pub clashes : is_importable sa ≡ true → admits (records s.slots) sa ≡ false → Says (out.Refused refusal.SpiInUse) step → (new : EndsHeld) → new ≡ s → Plays past s (event.Import sa) [] step new
   clashes is clash says new same = subst (λ later. Plays past s (event.Import sa) [] step later) (sym same) (record {
     does = does-performed (state_of past s) (event.Import sa) [] step (within is)
-        (subst (λ b. Refusing (not b) refusal.SpiInUse [] step (Quietly (Enters sa) [] step)) (sym clash) (record { no_calls = refl; says = says }));
+        (subst (λ b. Refusing (not b) refusal.SpiInUse [] step (Quietly (EntersRecord sa) [] step)) (sym clash) (record { no_calls = refl; says = says }));
     holds = peer-holds past s (event.Import sa) [] step s.slots (record { no_join = ap is_join says.said; heard = ap is_refused_by_run says.said }) refl refl refl (not_entered-after s.window sa step s.slots refusal.SpiInUse says.said);
     in_place = in_place;
   })
 
-  enters : (slots : List Slot) → is_importable sa ≡ true → admits (records s.slots) sa ≡ true → Quietly (Enters sa) calls step → slots ≡ slots_after s.window (task.Enter sa) step s.slots → (new : EndsHeld) → new ≡ record s { slots = slots }
+  enters : (slots : List Slot) → is_importable sa ≡ true → admits (records s.slots) sa ≡ true → Quietly (EntersRecord sa) calls step → slots ≡ slots_after s.window (task.Enter sa) step s.slots → (new : EndsHeld) → new ≡ record s { slots = slots }
       → Plays past s (event.Import sa) calls step new
   enters slots is free quietly same new leaves = subst (λ later. Plays past s (event.Import sa) calls step later) (sym leaves) (record {
-    does = does-performed (state_of past s) (event.Import sa) calls step (within is) (subst (λ b. Refusing (not b) refusal.SpiInUse calls step (Quietly (Enters sa) calls step)) (sym free) quietly);
+    does = does-performed (state_of past s) (event.Import sa) calls step (within is) (subst (λ b. Refusing (not b) refusal.SpiInUse calls step (Quietly (EntersRecord sa) calls step)) (sym free) quietly);
     holds = peer-holds past s (event.Import sa) calls step slots (enters-proper sa calls step quietly).said refl refl refl same;
     in_place = in_place;
   })
 
   -- or the keeper answers
-  pub entered_it : is_importable sa ≡ true → admits (records s.slots) sa ≡ true → Quietly (Enters sa) calls step → step.verdict ≡ out.Entered → (new : EndsHeld) → new ≡ record s { slots = s.slots ++ entered_slot s.window sa ∷ [] }
+  pub entered_it : is_importable sa ≡ true → admits (records s.slots) sa ≡ true → Quietly (EntersRecord sa) calls step → step.verdict ≡ out.Entered → (new : EndsHeld) → new ≡ record s { slots = s.slots ++ entered_slot s.window sa ∷ [] }
       → Plays past s (event.Import sa) calls step new
   entered_it is free quietly said = enters (s.slots ++ entered_slot s.window sa ∷ []) is free quietly (entered-after s.window sa step s.slots said)
 
-  pub not_entered : (why : Refusal) → is_importable sa ≡ true → admits (records s.slots) sa ≡ true → Quietly (Enters sa) calls step → step.verdict ≡ out.Refused why → (new : EndsHeld) → new ≡ s → Plays past s (event.Import sa) calls step new
+  pub not_entered : (why : Refusal) → is_importable sa ≡ true → admits (records s.slots) sa ≡ true → Quietly (EntersRecord sa) calls step → step.verdict ≡ out.Refused why → (new : EndsHeld) → new ≡ s → Plays past s (event.Import sa) calls step new
   not_entered why is free quietly said = enters s.slots is free quietly (not_entered-after s.window sa step s.slots why said)
 
 -- the cluster is configured first, or not

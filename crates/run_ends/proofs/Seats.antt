@@ -7,17 +7,17 @@ use Rattle.std.proofs.lemmas.Option.{same_Some}
 use Rattle.std.specs.Prelude.{is_none, nat_le, nat_lt}
 use Rattle.turn_rules.specs.States.{held_unless}
 use Rattle.cluster_member.specs.Members.{Holder}
-use Rattle.run_ends.specs.Parties.{AreInPlace, EndsHeld, IsMember, IsPlaceOf, held_in, holder_of, nobody}
+use Rattle.run_ends.specs.Parties.{AreInPlace, EndsHeld, IsMember, IsMemberPlace, held_in, holder_of, nobody}
 
 -- the members are counted from 1
-pub counted : (member place : ℕ) (members : List (Option Holder)) → IsPlaceOf member place members → member ≡ suc place
+pub counted : (member place : ℕ) (members : List (Option Holder)) → IsMemberPlace member place members → member ≡ suc place
 counted member place members is =
     let some : 0 < member = ltb-true 0 member (and_parts (nat_lt 0 member) (nat_le member (length members)) is.joined).0 in
     let at : place ≡ member - 1 = is.counted in
     omega (arith, some, at)
 
 -- who is at the place of a member
-pub seat_is : (members : List (Option Holder)) (member place : ℕ) (x : Option Holder) → IsPlaceOf member place members → x ≡ get_or members place x → holder_of members member ≡ x
+pub seat_is : (members : List (Option Holder)) (member place : ℕ) (x : Option Holder) → IsMemberPlace member place members → x ≡ get_or members place x → holder_of members member ≡ x
 seat_is members member place x is at = ap (holder_of members) (counted member place members is) ∙ get_or_default members place (Some nobody) x is.within ∙ sym at
 
 -- a place whose member is put back

@@ -36,12 +36,12 @@ use Rattle.turn_rules.proofs.KeySizes.{sized_to_cluster, sized_to_peer}
 use Rattle.turn_rules.proofs.Readies.{ready-elim}
 use Rattle.turn_rules.specs.Datagrams.{PlainDatagram, arrives, plain_datagram}
 use Rattle.turn_rules.specs.Deliveries.{MemberTakes, PeerTakes}
-use Rattle.turn_rules.specs.Draws.{Admits, Concludes, Enters, Grants, TakesOver, counter_name, refusal_of_import, refusal_of_stop, refusal_of_takeover}
+use Rattle.turn_rules.specs.Draws.{Admits, Concludes, EntersRecord, Grants, TakesOver, counter_name, refusal_of_import, refusal_of_stop, refusal_of_takeover}
 use Rattle.turn_rules.specs.Ends.{is_of_run}
 use Rattle.turn_rules.specs.Fits.{Does, DrawsOf, Performs, Quietly, Receives, Refuses, Refusing, SendsOf, Yields, run_refusal}
 use Rattle.turn_rules.specs.Held.{Held}
 use Rattle.turn_rules.specs.MemberPackets.{MemberReceives, TakesPacket, outbound_of}
-use Rattle.turn_rules.specs.Packets.{Drops, IsVerdictOf, Sends}
+use Rattle.turn_rules.specs.Packets.{Drops, IsVerdictOf, SendsEsp}
 use Rattle.turn_rules.specs.Peers.{admits}
 use Rattle.turn_rules.specs.Slots.{PeerReceives, PeerSends, Slot, SlotReceives, SlotSends, SlotTakes, first_slot, has_spir, peer_counter, receives_at, records, slot_outbound}
 use Rattle.turn_rules.specs.States.{RunState}
@@ -123,7 +123,7 @@ takes-proper spir member calls step quietly = go calls quietly.follows
     go (call ∷ []) t = quiet-proper (call ∷ []) step (omega arith) (granted (seen call) t.1) quietly.quiet
     go (call ∷ other ∷ more) t = absurd t
 
-pub enters-proper : (sa : Record) (calls : List Call) (step : Step) → Quietly (Enters sa) calls step → IsProper calls step
+pub enters-proper : (sa : Record) (calls : List Call) (step : Step) → Quietly (EntersRecord sa) calls step → IsProper calls step
 enters-proper sa calls step quietly = go calls quietly.follows
   where
     admitted : (answered : KeeperAnswer) → Admits answered step.verdict → IsOfEnd step.verdict
@@ -131,7 +131,7 @@ enters-proper sa calls step quietly = go calls quietly.follows
     admitted (answer.Taken taken) a = absurd a
     admitted (answer.Refused why) a = keeper-refused (refusal_of_import why) step.verdict (import-own why) a
 
-    go : (calls : List Call) → Enters sa calls step.verdict → IsProper calls step
+    go : (calls : List Call) → EntersRecord sa calls step.verdict → IsProper calls step
     go [] e = absurd e
     go (call ∷ []) e = quiet-proper (call ∷ []) step (omega arith) (admitted (seen call) e.1) quietly.quiet
     go (call ∷ other ∷ more) e = absurd e
@@ -153,7 +153,7 @@ pub sends-proper : (held : Option Held) (payload : List ℕ) (calls : List Call)
 sends-proper None payload calls step size r = refuses-proper calls step refusal.NotOwner refl r
 sends-proper (Some held) payload calls step size sends = ready-elim held counter.EspOut (five_at held.nexts counter.EspOut)
     (λ why rest. (rest ≡ []) × Says (out.Refused (refusal_of_stop why)) step)
-    (λ high rest. (rest ≡ []) × Sends (outbound_of held) (five_at held.nexts counter.EspOut) payload step)
+    (λ high rest. (rest ≡ []) × SendsEsp (outbound_of held) (five_at held.nexts counter.EspOut) payload step)
     (λ why rest s. s.0) (λ high rest s. s.0) calls
     (λ why rest vain s. quiet-proper calls step vain.few (of-refusal step.verdict (refusal_of_stop why) (stop-own why) s.1.said) s.1.quiet)
     (λ high rest covers s. record {
@@ -240,7 +240,7 @@ module _ (state : RunState) (calls : List Call) (step : Step) where
   proper-few : IsProper calls step → IsFew
   proper-few p = (p.few, p.brief)
 
-  imports-few : (sa : Record) (b : Bool) → Refusing b refusal.SpiInUse calls step (Quietly (Enters sa) calls step) → IsFew
+  imports-few : (sa : Record) (b : Bool) → Refusing b refusal.SpiInUse calls step (Quietly (EntersRecord sa) calls step) → IsFew
   imports-few sa true r = yields-few (out.Refused refusal.SpiInUse) r
   imports-few sa false quietly = proper-few (enters-proper sa calls step quietly)
 

@@ -66,7 +66,7 @@ abbrev pub has_member : ℕ → List (Option Holder) → Bool
 has_member member members = nat_lt 0 member && nat_le member (length members)
 
 -- the member stands at this place
-pub record IsPlaceOf (member place : ℕ) (members : List (Option Holder)) : Type 0 where
+pub record IsMemberPlace (member place : ℕ) (members : List (Option Holder)) : Type 0 where
   pub joined : has_member member members ≡ true
   pub within : place < length members
   pub counted : place ≡ member - 1

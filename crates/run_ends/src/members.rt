@@ -5,7 +5,7 @@ ghost use Rattle.cluster_member.specs.Members.{AsksInVain};
 ghost use Rattle.events.specs.declared.event.Event.TheVariants as event;
 ghost use Rattle.events.specs.declared.turn.Turn.{Turn};
 ghost use Rattle.keeper_book.specs.Asks.{AsksFor};
-ghost use Rattle.run_ends.specs.Parties.{AreInPlace, IsPlaceOf, Plays, has_member};
+ghost use Rattle.run_ends.specs.Parties.{AreInPlace, IsMemberPlace, Plays, has_member};
 
 use crate::parties::{Parties, refused};
 use cluster_member::Member;
@@ -37,7 +37,7 @@ impl Parties {
 
     /// Where a member of this number stands among those that joined.
     pub(crate) fn place_of(&self, member: u64) -> Option<usize>
-        ensures { MatchOption result (has_member member self.now.members ≡ false) (λ place. IsPlaceOf member place self.now.members) }
+        ensures { MatchOption result (has_member member self.now.members ≡ false) (λ place. IsMemberPlace member place self.now.members) }
     {
         if member == 0 || member > self.members.len() as u64 {
             return None;

@@ -6,13 +6,13 @@ use Rattle.input_lines.specs.Lines.{lines_of, without_line_feed}
 use Rattle.input_lines.specs.Limits.{overlong}
 use Rattle.input_lines.proofs.FirstLines.{first_line}
 use Rattle.input_lines.proofs.LimitLaws.{IsPast, overlong_both, overlong_none, past, unless_ok}
-use Rattle.show_messages.specs.Messages.{Messages, behind_line, faulty, line_in, messages_at, messages_of, on_line, with_message}
+use Rattle.show_messages.specs.Messages.{Messages, behind_message_line, faulty_messages, line_in, messages_at, messages_of, on_message_line, with_message}
 use Rattle.show_messages.specs.declared.reader.Place.{Place}
 
 -- ---- a line that passes the end of the file
 
 -- a line that passes the end is at fault, whatever follows
-past_line : (n : ℕ) (line : List ℕ) (others : List (List ℕ)) (p : Place) (h : IsPast p.before n) → p.before ≤ 67108864 → 67108865 ≤ p.before + n → n ≤ length line → n ≤ length (without_line_feed line) → messages_at (line ∷ others) p ≡ faulty p.line h.fault
+past_line : (n : ℕ) (line : List ℕ) (others : List (List ℕ)) (p : Place) (h : IsPast p.before n) → p.before ≤ 67108864 → 67108865 ≤ p.before + n → n ≤ length line → n ≤ length (without_line_feed line) → messages_at (line ∷ others) p ≡ faulty_messages p.line h.fault
 unfolding messages_at line_in
 past_line n line others p h within far_enough long unfed_long =
     rw (overlong_both p.before n n (length line) (length (without_line_feed line)) within far_enough far_enough long unfed_long, h.is) refl
@@ -23,13 +23,13 @@ read_within : (p : Place) (octets : ℕ) (line : List ℕ) (x : Option (List ℕ
 unfolding line_in
 read_within p octets line x e = overlong_none p.before octets (length line) (unless_ok (overlong p.before octets (length line)) _ x e)
 
-on_same : (p : Place) (r : Result (Option (List ℕ)) LineFault) (f g : ℕ → Messages) → ((x : Option (List ℕ)) → r ≡ Ok x → (count : ℕ) → f count ≡ g count) → on_line p r f ≡ on_line p r g
+on_same : (p : Place) (r : Result (Option (List ℕ)) LineFault) (f g : ℕ → Messages) → ((x : Option (List ℕ)) → r ≡ Ok x → (count : ℕ) → f count ≡ g count) → on_message_line p r f ≡ on_message_line p r g
 on_same p (Err d) f g h = refl
 on_same p (Ok None) f g h = h None refl p.count
 on_same p (Ok (Some message)) f g h = ap (with_message message) (h (Some message) refl (p.count + 1))
 
 -- what follows a line may be other lines, if they hold the same
-step : (line : List ℕ) (ls ms : List (List ℕ)) (p : Place) → ((count : ℕ) → p.before + length line ≤ 67108864 → messages_at ls (behind_line p (length line) count) ≡ messages_at ms (behind_line p (length line) count)) → messages_at (line ∷ ls) p ≡ messages_at (line ∷ ms) p
+step : (line : List ℕ) (ls ms : List (List ℕ)) (p : Place) → ((count : ℕ) → p.before + length line ≤ 67108864 → messages_at ls (behind_message_line p (length line) count) ≡ messages_at ms (behind_message_line p (length line) count)) → messages_at (line ∷ ls) p ≡ messages_at (line ∷ ms) p
 unfolding messages_at
 step line ls ms p h =
     on_same p (line_in p (length line) (without_line_feed line)) _ _ (λ x e count. h count (read_within p (length line) (without_line_feed line) x e))
@@ -45,7 +45,7 @@ at_front (suc n) (c ∷ cs) b p small within far_enough =
           let some = h.some in
           let whole : lines_of a ≡ h.line ∷ lines_of h.rest = ap lines_of h.parts ∙ h.first h.rest in
           let longer : lines_of (a ++ b) ≡ h.line ∷ lines_of (h.rest ++ b) = ap lines_of (ap (λ (t : List ℕ). t ++ b) h.parts ∙ append_assoc h.line h.rest b) ∙ h.first (h.rest ++ b) in
-          rw (longer, whole) (step h.line (lines_of (h.rest ++ b)) (lines_of h.rest) p (λ count fits. at_front n h.rest b (behind_line p (length h.line) count) (omega arith) fits (omega arith)))
+          rw (longer, whole) (step h.line (lines_of (h.rest ++ b)) (lines_of h.rest) p (λ count fits. at_front n h.rest b (behind_message_line p (length h.line) count) (omega arith) fits (omega arith)))
       | inr h ↦
           let a = c ∷ cs in
           let x = h b in

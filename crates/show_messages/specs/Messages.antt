@@ -1,6 +1,6 @@
 -- The messages that an input holds, up to its first fault: one a line, in hexadecimal.
 use Rattle.std.specs.Prelude.{ℕ, ◌+◌, ◌==◌, List, [], ◌∷◌, length, Option, Some, None, Result, Ok, Err, if◌then◌else◌}
-use Rattle.input_lines.specs.Limits.{Left, overlong, unless}
+use Rattle.input_lines.specs.Limits.{Left, overlong, unless_fault}
 use Rattle.input_lines.specs.Lines.{is_passed, lines_of, without_line_feed}
 use Rattle.line_fields.specs.Octets.{decoded, is_hex}
 use Rattle.line_fields.specs.Fields.{fault_at}
@@ -14,8 +14,8 @@ pub record Messages : Type 0 where
   pub messages : List (List ℕ)
   pub fault : Option InputFault
 
-abbrev pub faulty : ℕ → LineFault → Messages
-faulty line f = record { messages = []; fault = Some (record { line = line; column = f.column; reason = f.reason }) }
+abbrev pub faulty_messages : ℕ → LineFault → Messages
+faulty_messages line f = record { messages = []; fault = Some (record { line = line; column = f.column; reason = f.reason }) }
 
 abbrev pub with_message : List ℕ → Messages → Messages
 with_message message rest = record { messages = message ∷ rest.messages; fault = rest.fault }
@@ -30,21 +30,21 @@ message_in count line =
 -- the message of a line at a place, where it is not passed over
 unfoldable pub line_in : Place → ℕ → List ℕ → Result (Option (List ℕ)) LineFault
 line_in p octets line =
-    unless (overlong p.before octets (length line)) (if is_passed line then Ok None else message_in p.count line)
+    unless_fault (overlong p.before octets (length line)) (if is_passed line then Ok None else message_in p.count line)
 
 -- the place behind a line of some octets, where there are so many messages before it
-abbrev pub behind_line : Place → ℕ → ℕ → Place
-behind_line p octets count = record { line = p.line + 1; before = p.before + octets; count = count }
+abbrev pub behind_message_line : Place → ℕ → ℕ → Place
+behind_message_line p octets count = record { line = p.line + 1; before = p.before + octets; count = count }
 
-abbrev pub on_line : Place → Result (Option (List ℕ)) LineFault → (ℕ → Messages) → Messages
-on_line p (Err f) rest = faulty p.line f
-on_line p (Ok None) rest = rest p.count
-on_line p (Ok (Some message)) rest = with_message message (rest (p.count + 1))
+abbrev pub on_message_line : Place → Result (Option (List ℕ)) LineFault → (ℕ → Messages) → Messages
+on_message_line p (Err f) rest = faulty_messages p.line f
+on_message_line p (Ok None) rest = rest p.count
+on_message_line p (Ok (Some message)) rest = with_message message (rest (p.count + 1))
 
 -- what lines hold from a place on
 unfoldable pub messages_at : List (List ℕ) → Place → Messages
 messages_at [] p = record { messages = []; fault = None }
-messages_at (line ∷ lines) p = on_line p (line_in p (length line) (without_line_feed line)) (λ count. messages_at lines (behind_line p (length line) count))
+messages_at (line ∷ lines) p = on_message_line p (line_in p (length line) (without_line_feed line)) (λ count. messages_at lines (behind_message_line p (length line) count))
 
 -- what an input holds
 abbrev pub messages_of : List ℕ → Messages

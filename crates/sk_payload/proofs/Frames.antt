@@ -3,7 +3,7 @@ use Rattle.std.proofs.Common.{◌≡◌, ℕ, ◌+◌, ◌-◌, ◌<◌, ◌≤�
 use Rattle.std.proofs.lemmas.List.{set-append_right}
 use Rattle.ike_values.specs.Values.{PayloadValue, sk}
 use Rattle.ike_values.specs.Spelling.{two, type_of}
-use Rattle.ike_values.specs.Writing.{body_written, first_of, chain_written, AreValid}
+use Rattle.ike_values.specs.Writing.{body_written, first_type_of, chain_written, AreValid}
 use Rattle.ike_values.proofs.SpellingLaws.{chain_spelled}
 use Rattle.ike_grammar.specs.Chain.{chain_at}
 use Rattle.ike_grammar.proofs.ChainLaws.{chain_again}
@@ -13,7 +13,7 @@ use Rattle.sk_payload.specs.declared.frame.Frame.TheInside.{Inside}
 
 -- ---- what a message in the making holds
 
-first_is : (xs : List PayloadValue) → first_or 0 xs ≡ first_of xs
+first_is : (xs : List PayloadValue) → first_or 0 xs ≡ first_type_of xs
 first_is [] = refl
 first_is (x ∷ xs) = refl
 
@@ -29,7 +29,7 @@ held_is xs valid =
     let chain : take (length (octets_before 0 xs) - 41) (chain_before 0 xs ++ 0 ∷ []) ≡ chain_written xs =
     take_at (chain_before 0 xs) (0 ∷ []) (length (octets_before 0 xs) - 41) (sym long) ∙ chain_is xs valid in
     (λ i. read_or_none (chain_at (length (octets_before 0 xs) - 41) true (first_is xs i) (chain i)))
-    ∙ ap read_or_none (chain_again (length (octets_before 0 xs) - 41) true xs (first_of xs) (chain_written xs) (chain_spelled true xs valid))
+    ∙ ap read_or_none (chain_again (length (octets_before 0 xs) - 41) true xs (first_type_of xs) (chain_written xs) (chain_spelled true xs valid))
 
 -- ---- one payload more
 
@@ -160,7 +160,7 @@ notify_valid kind content small = (record { body = omega arith; length_fits = om
 pub text_is : (items : List ℕ) (payloads : List PayloadValue) → items ≡ octets_before 0 payloads → AreValid true payloads → drop 40 items ≡ plain_of payloads
 text_is items payloads is valid = ap (drop 40) is ∙ ap (λ ys. ys ++ 0 ∷ []) (chain_is payloads valid)
 
-pub front_is : (items : List ℕ) (payloads : List PayloadValue) (other : ℕ) → items ≡ octets_before 0 payloads → get_or items 28 other ≡ first_of payloads
+pub front_is : (items : List ℕ) (payloads : List PayloadValue) (other : ℕ) → items ≡ octets_before 0 payloads → get_or items 28 other ≡ first_type_of payloads
 front_is items payloads other is = ap (λ ys. get_or ys 28 other) is ∙ first_is payloads
 
 pub octets_long : (items : List ℕ) (payloads : List PayloadValue) → items ≡ octets_before 0 payloads → AreValid true payloads → length items ≡ 40 + length (plain_of payloads)

@@ -6,7 +6,7 @@ use Rattle.ike_values.specs.declared.header.Message.{Message}
 use Rattle.ike_values.specs.Values.{SkValue, PayloadValue, sk}
 use Rattle.ike_values.specs.Spelling.{Spells}
 use Rattle.ike_values.specs.Headers.{IsMessage}
-use Rattle.ike_values.specs.Writing.{first_of, chain_written}
+use Rattle.ike_values.specs.Writing.{first_type_of, chain_written}
 use Rattle.ike_grammar.specs.declared.fault.Bad.{Bad as Fault}
 use Rattle.ike_grammar.specs.declared.fault.Reason.{Reason}
 use Rattle.ike_grammar.specs.Chain.{Refused}
@@ -118,23 +118,23 @@ NotBothMessages = (bytes : List ℕ) (message : Message) (place : ℕ) (reason :
 
 module _ (unique : OneMessage) (not_both : NotBothMessages) (one : OneReading) (neither : NotBoth)
     (key : List ℕ) (iv : ℕ) (header : Header) (payloads : List PayloadValue) (octets : List ℕ) (datagram : IsDatagram key iv header payloads octets) where
-  spelled : Spells payloads (first_of payloads) true (chain_in (plain_of payloads))
-  spelled = subst (Spells payloads (first_of payloads) true) (sym (chain_is payloads)) datagram.inner
+  spelled : Spells payloads (first_type_of payloads) true (chain_in (plain_of payloads))
+  spelled = subst (Spells payloads (first_type_of payloads) true) (sym (chain_is payloads)) datagram.inner
 
-  inner_is : (inner : Result (List PayloadValue) Fault) → IsInner (first_of payloads) (plain_of payloads) inner → inner ≡ Ok payloads
-  inner_is (Ok others) is = ap Ok (one (first_of payloads) (chain_in (plain_of payloads)) others payloads is.1 spelled)
+  inner_is : (inner : Result (List PayloadValue) Fault) → IsInner (first_type_of payloads) (plain_of payloads) inner → inner ≡ Ok payloads
+  inner_is (Ok others) is = ap Ok (one (first_type_of payloads) (chain_in (plain_of payloads)) others payloads is.1 spelled)
   inner_is (Err bad) (inl is) = absurd (omega (arith, is.long, pad_is payloads, length-append (chain_written payloads) (0 ∷ [])))
-  inner_is (Err bad) (inr is) = absurd (neither (first_of payloads) (chain_in (plain_of payloads)) payloads bad.place bad.reason spelled is.1)
+  inner_is (Err bad) (inr is) = absurd (neither (first_type_of payloads) (chain_in (plain_of payloads)) payloads bad.place bad.reason spelled is.1)
 
   pub opens : (answer : Result Opened NotRead) → IsAnswer key octets answer →
       (answer ≡ Ok (record { header = header; inner = Ok payloads })) ⊎ (answer ≡ Err Memory)
   opens (Ok opened) (body, plain, found, is) =
       let same : only_sk opened.header body ≡ only_sk header datagram.body =
       unique octets (only_sk opened.header body) (only_sk header datagram.body) found.is.message datagram.is.message in
-      let first : body.first ≡ first_of payloads = ap (λ b. b.first) (same_body opened.header header body datagram.body same) ∙ datagram.first_is in
+      let first : body.first ≡ first_type_of payloads = ap (λ b. b.first) (same_body opened.header header body datagram.body same) ∙ datagram.first_is in
       let text : plain ≡ plain_of payloads = sym (found.only header datagram.body (plain_of payloads) datagram.is) in
       let inner : opened.inner ≡ Ok payloads =
-      inner_is opened.inner (subst (λ p. IsInner (first_of payloads) p opened.inner) text (subst (λ f. IsInner f plain opened.inner) first is)) in
+      inner_is opened.inner (subst (λ p. IsInner (first_type_of payloads) p opened.inner) text (subst (λ f. IsInner f plain opened.inner) first is)) in
       inl (λ i. Ok (record { header = (same i).header; inner = inner i }))
   opens (Err (Bad bad)) is = absurd (not_both octets (only_sk header datagram.body) bad.place bad.reason datagram.is.message is)
   opens (Err NotOpened) is = absurd (is.none header datagram.body (plain_of payloads) datagram.is)

@@ -7,7 +7,7 @@ use Rattle.ike_values.specs.declared.header.Header.{Header}
 use Rattle.ike_values.specs.Values.{SkValue, PayloadValue, sk}
 use Rattle.ike_values.specs.Spelling.{two}
 use Rattle.ike_values.specs.Headers.{IsMessage}
-use Rattle.ike_values.specs.Writing.{body_written, first_of, chain_written, AreValid}
+use Rattle.ike_values.specs.Writing.{body_written, first_type_of, chain_written, AreValid}
 use Rattle.ike_values.proofs.SpellingLaws.{chain_spelled}
 use Rattle.ike_encoding.specs.Messages.{FitsHeader, message_written}
 use Rattle.ike_encoding.proofs.WrittenLaws.{message_spelled}
@@ -20,13 +20,13 @@ module _ (key : List ℕ) (sealing : IsSealing key) (iv : ℕ) (small : iv < 2 ^
   size = 56 + length (plain_of payloads)
 
   abbrev front : List ℕ
-  front = header_octets header (56 + length (plain_of payloads)) ++ sk_front (first_of payloads) (56 + length (plain_of payloads) - 28) iv
+  front = header_octets header (56 + length (plain_of payloads)) ++ sk_front (first_type_of payloads) (56 + length (plain_of payloads) - 28) iv
 
   abbrev text : Sealed
   text = sealed key iv (take 32 front) (plain_of payloads)
 
   abbrev body : SkValue
-  body = record { first = first_of payloads; iv = iv; ciphertext = text.ciphertext; icv = text.tag }
+  body = record { first = first_type_of payloads; iv = iv; ciphertext = text.ciphertext; icv = text.tag }
 
   long : length text.ciphertext ≡ length (plain_of payloads)
   long = sealing.ciphertext_length iv (take 32 front) (plain_of payloads)
@@ -47,7 +47,7 @@ module _ (key : List ℕ) (sealing : IsSealing key) (iv : ℕ) (small : iv < 2 ^
   written =
       let whole : 56 + length (plain_of payloads) ≡ 28 + length (chain_written (sk body ∷ [])) = omega (arith, chain_long) in
       let inside : 56 + length (plain_of payloads) - 28 ≡ 4 + length (body_written (sk body)) = omega (arith, body_long) in
-      λ i. header_octets header (whole i) ++ (first_of payloads ∷ 0 ∷ two (inside i) ++ to_be_bytes w64 iv ++ sym (append-nil (text.ciphertext ++ text.tag)) i)
+      λ i. header_octets header (whole i) ++ (first_type_of payloads ∷ 0 ∷ two (inside i) ++ to_be_bytes w64 iv ++ sym (append-nil (text.ciphertext ++ text.tag)) i)
 
   is_message : IsMessage (only_sk header body) (front ++ text.ciphertext ++ text.tag)
   is_message =
@@ -66,7 +66,7 @@ module _ (key : List ℕ) (sealing : IsSealing key) (iv : ℕ) (small : iv < 2 ^
     inner = chain_spelled true payloads valid;
   }
 
-  pub datagram_is : (total first : ℕ) (plain before octets : List ℕ) → total ≡ 56 + length (plain_of payloads) → first ≡ first_of payloads → plain ≡ plain_of payloads →
+  pub datagram_is : (total first : ℕ) (plain before octets : List ℕ) → total ≡ 56 + length (plain_of payloads) → first ≡ first_type_of payloads → plain ≡ plain_of payloads →
       before ≡ header_octets header total ++ sk_front first (total - 28) iv →
       octets ≡ before ++ (sealed key iv (take 32 before) plain).ciphertext ++ (sealed key iv (take 32 before) plain).tag →
       IsDatagram key iv header payloads octets

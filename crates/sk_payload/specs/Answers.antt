@@ -9,7 +9,7 @@ use Rattle.ike_grammar.specs.Messages.{MessageRefused}
 use Rattle.sk_payload.specs.declared.open.Opened.{Opened}
 use Rattle.sk_payload.specs.declared.not_read.NotRead.{NotRead}
 use Rattle.sk_payload.specs.declared.not_read.NotRead.TheVariants.{Bad, NotOpened, Memory}
-use Rattle.sk_payload.specs.Message.{associated_data, IsSealed, Opens, IsInner}
+use Rattle.sk_payload.specs.Message.{associated_data, IsSealed, OpensMessage, IsInner}
 
 -- no plaintext is sealed in the message that the octets spell
 pub record IsNotOpened (key octets : List ℕ) : Type 0 where
@@ -19,7 +19,7 @@ pub record IsNotOpened (key octets : List ℕ) : Type 0 where
 
 -- the answer to octets under the octets of a key and its salt
 abbrev pub IsAnswer : List ℕ → List ℕ → Result Opened NotRead → Type 0
-IsAnswer key octets (Ok opened) = (body : SkValue) × (plain : List ℕ) × Opens key opened.header body plain octets × IsInner body.first plain opened.inner
+IsAnswer key octets (Ok opened) = (body : SkValue) × (plain : List ℕ) × OpensMessage key opened.header body plain octets × IsInner body.first plain opened.inner
 IsAnswer key octets (Err (Bad bad)) = MessageRefused octets bad.place bad.reason
 IsAnswer key octets (Err NotOpened) = IsNotOpened key octets
 IsAnswer key octets (Err Memory) = Unit {0}

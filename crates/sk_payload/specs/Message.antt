@@ -6,7 +6,7 @@ use Rattle.ike_values.specs.declared.header.Message.{Message}
 use Rattle.ike_values.specs.Values.{SkValue, PayloadValue, sk, notify}
 use Rattle.ike_values.specs.Spelling.{Spells}
 use Rattle.ike_values.specs.Headers.{IsMessage}
-use Rattle.ike_values.specs.Writing.{first_of, chain_written}
+use Rattle.ike_values.specs.Writing.{first_type_of, chain_written}
 use Rattle.ike_encoding.specs.Messages.{message_written}
 use Rattle.ike_grammar.specs.declared.fault.Bad.{Bad}
 use Rattle.ike_grammar.specs.declared.fault.Reason.TheVariants.{Length}
@@ -38,13 +38,13 @@ notify_of kind content = notify (record { protocol = 0; spi = []; kind = kind; c
 pub record IsDatagram (key : List ℕ) (iv : ℕ) (header : Header) (payloads : List PayloadValue) (octets : List ℕ) : Type 0 where
   pub body : SkValue
   pub written : octets ≡ message_written (only_sk header body)
-  pub first_is : body.first ≡ first_of payloads
+  pub first_is : body.first ≡ first_type_of payloads
   pub iv_is : body.iv ≡ iv
   pub is : IsSealed key header body (plain_of payloads) octets
-  pub inner : Spells payloads (first_of payloads) true (chain_written payloads)
+  pub inner : Spells payloads (first_type_of payloads) true (chain_written payloads)
 
 -- the one plaintext that is sealed in the octets
-pub record Opens (key : List ℕ) (header : Header) (body : SkValue) (plain octets : List ℕ) : Type 0 where
+pub record OpensMessage (key : List ℕ) (header : Header) (body : SkValue) (plain octets : List ℕ) : Type 0 where
   pub is : IsSealed key header body plain octets
   pub only : (others : Header) (other_body : SkValue) (other : List ℕ) → IsSealed key others other_body other octets → other ≡ plain
 

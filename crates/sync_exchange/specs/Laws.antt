@@ -35,8 +35,8 @@ CountersNeverFall =
     IsPeerAnswer state request (Ok counters) → NoneFalls state request counters
 
 -- the peer after it accepted a request
-abbrev pub state_after : SyncRequest → Accepted → PeerState
-state_after request counters = record {
+abbrev pub peer_state_after : SyncRequest → Accepted → PeerState
+peer_state_after request counters = record {
   highest = Some request.m1;
   next_ask = counters.p2;
   next_esp = counters.next_esp;
@@ -46,7 +46,7 @@ state_after request counters = record {
 abbrev pub RequestsAreAcceptedOnce : Type 0
 RequestsAreAcceptedOnce =
     (state : PeerState) (request : SyncRequest) (counters : Accepted) (answer : Result Accepted SyncDrop) →
-    IsPeerAnswer state request (Ok counters) → IsPeerAnswer (state_after request counters) request answer →
+    IsPeerAnswer state request (Ok counters) → IsPeerAnswer (peer_state_after request counters) request answer →
     answer ≡ Err (NotAbove request.m1)
 
 -- what the peer announces in its response

@@ -17,8 +17,8 @@ use Rattle.turn_laws.proofs.Tells.{Tells, tells}
 use Rattle.turn_laws.proofs.Opened.{peer-may}
 use Rattle.turn_laws.proofs.Told.{told-held}
 use Rattle.turn_laws.proofs.Well.{deed-well}
-use Rattle.turn_laws.specs.Acts.{Calls, Ends, MayDoAll, Move, Seals, Uses, held_at, numbers_at, onto, uses_at}
-use Rattle.turn_laws.specs.Columns.{mark}
+use Rattle.turn_laws.specs.Acts.{Calls, Ends, MayDoAll, Move, Seals, Uses, holding_at, numbers_at, acts_onto, uses_at}
+use Rattle.turn_laws.specs.Columns.{column_mark}
 use Rattle.turn_laws.specs.Holdings.{End, Holding, IsOwned}
 use Rattle.turn_laws.specs.Owned.{Lawful, Owned}
 use Rattle.turn_laws.specs.Places.{Ours, Place, column}
@@ -48,10 +48,10 @@ lawful-run boxes [] book local stands = stands
 lawful-run boxes (turn ∷ past) book local stands =
     let parts : (mid : Book) × EntersAll empty (calls_of past) mid × EntersAll mid turn.calls book = enters_all-append (calls_of past) turn.calls empty book stands in
     let rest : List Move = uses_of turn.event turn.step.verdict ++ map (λ seal. Seals (key_iv seal)) turn.step.seals in
-    let may : MayDoAll (acts_of past) (actor_of turn) (map Calls turn.calls) × MayDoAll (onto (actor_of turn) (map Calls turn.calls) (acts_of past)) (actor_of turn) rest =
+    let may : MayDoAll (acts_of past) (actor_of turn) (map Calls turn.calls) × MayDoAll (acts_onto (actor_of turn) (map Calls turn.calls) (acts_of past)) (actor_of turn) rest =
     may_do-append (actor_of turn) (map Calls turn.calls) rest (acts_of past) (turn-well boxes past turn local.0 local.1) in
     subst (λ acts. Lawful acts book) (sym (onto-append (actor_of turn) (map Calls turn.calls) rest (acts_of past)))
-    (lawful-quiet (actor_of turn) rest (onto (actor_of turn) (map Calls turn.calls) (acts_of past)) book
+    (lawful-quiet (actor_of turn) rest (acts_onto (actor_of turn) (map Calls turn.calls) (acts_of past)) book
     (all-append LeavesBook (uses_of turn.event turn.step.verdict) (map (λ seal. Seals (key_iv seal)) turn.step.seals) (all-each (uses_of turn.event turn.step.verdict) use-leaves (are-uses turn.event turn.step.verdict)) (seals-leave turn.step.seals))
     (lawful-calls (actor_of turn) turn.calls (acts_of past) parts.0 book (lawful-run boxes past parts.0 local.1 parts.1) parts.2 may.0)
     may.1)
@@ -67,19 +67,19 @@ pub counters-once : (boxes : ℕ) (past : List Turn) (book : Book) → Local box
 counters-once boxes past book local stands spir c = counters-hold (λ ns. IsEachOnce ns) tt boxes past local spir c (numbers-once boxes past book local stands (Ours spir c))
 
 -- what a member's own turns say that it holds is its holding at each counter
-held-tells : (boxes : ℕ) (past : List Turn) → Local boxes past → (member spir : ℕ) (held : Held) → held_by (window_by past) (own (Member member) past) spir ≡ Some held → (c : Counter) → (h : Holding) × Tells (own (Member member) past) spir c held h × (held_at (Ours spir c) (acts_of past) (End (Member member)) ≡ Some h)
+held-tells : (boxes : ℕ) (past : List Turn) → Local boxes past → (member spir : ℕ) (held : Held) → held_by (window_by past) (own (Member member) past) spir ≡ Some held → (c : Counter) → (h : Holding) × Tells (own (Member member) past) spir c held h × (holding_at (Ours spir c) (acts_of past) (End (Member member)) ≡ Some h)
 held-tells boxes past local member spir held is c =
     let so : (h : Holding) × Tells (own (Member member) past) spir c held h = tells (window_by past) (own (Member member) past) spir c held is in
     (so.0, so.1, sym (told-held boxes past local member spir c) ∙ so.1.told_so)
 
 module _ (boxes : ℕ) (past : List Turn) (book : Book) (local : Local boxes past) (stands : Stands past book) (m k spir : ℕ) (h g : Held) (holds : held_by (window_by past) (own (Member m) past) spir ≡ Some h) (other : held_by (window_by past) (own (Member k) past) spir ≡ Some g) where
-  of_m : (c : Counter) → (x : Holding) × Tells (own (Member m) past) spir c h x × (held_at (Ours spir c) (acts_of past) (End (Member m)) ≡ Some x)
+  of_m : (c : Counter) → (x : Holding) × Tells (own (Member m) past) spir c h x × (holding_at (Ours spir c) (acts_of past) (End (Member m)) ≡ Some x)
   of_m c = held-tells boxes past local m spir h holds c
 
-  of_k : (c : Counter) → (x : Holding) × Tells (own (Member k) past) spir c g x × (held_at (Ours spir c) (acts_of past) (End (Member k)) ≡ Some x)
+  of_k : (c : Counter) → (x : Holding) × Tells (own (Member k) past) spir c g x × (holding_at (Ours spir c) (acts_of past) (End (Member k)) ≡ Some x)
   of_k c = held-tells boxes past local k spir g other c
 
-  owned_at : (c : Counter) → IsOwned (held_at (Ours spir c) (acts_of past)) (uses_at (Ours spir c) (acts_of past)) (column (Ours spir c) book)
+  owned_at : (c : Counter) → IsOwned (holding_at (Ours spir c) (acts_of past)) (uses_at (Ours spir c) (acts_of past)) (column (Ours spir c) book)
   owned_at c = (owned-run boxes past book local stands).numbers (Ours spir c)
 
   -- two members that hold an association hold different epochs
@@ -97,9 +97,9 @@ module _ (boxes : ℕ) (past : List Turn) (book : Book) (local : Local boxes pas
   highs-below earlier c =
       let a = of_m c in
       let b = of_k c in
-      let below : a.0.high ≤ mark (column (Ours spir c) book) a.0.epoch = ((owned_at c).holdings (End (Member m)) a.0 a.2).high in
-      let rises : mark (column (Ours spir c) book) a.0.epoch ≤ mark (column (Ours spir c) book) (b.0.epoch - 1) = (owned_at c).rising a.0.epoch (b.0.epoch - 1) (let p : a.0.epoch ≡ h.epoch = a.1.epoch in let q : b.0.epoch ≡ g.epoch = b.1.epoch in omega arith) in
-      let base : mark (column (Ours spir c) book) (b.0.epoch - 1) ≡ b.0.base = ((owned_at c).holdings (End (Member k)) b.0 b.2).base in
+      let below : a.0.high ≤ column_mark (column (Ours spir c) book) a.0.epoch = ((owned_at c).holdings (End (Member m)) a.0 a.2).high in
+      let rises : column_mark (column (Ours spir c) book) a.0.epoch ≤ column_mark (column (Ours spir c) book) (b.0.epoch - 1) = (owned_at c).rising a.0.epoch (b.0.epoch - 1) (let p : a.0.epoch ≡ h.epoch = a.1.epoch in let q : b.0.epoch ≡ g.epoch = b.1.epoch in omega arith) in
+      let base : column_mark (column (Ours spir c) book) (b.0.epoch - 1) ≡ b.0.base = ((owned_at c).holdings (End (Member k)) b.0 b.2).base in
       let high : a.0.high ≡ five_at h.highs c = a.1.high in
       let low : b.0.base ≡ five_at g.bases c = b.1.base in
       omega arith

@@ -20,11 +20,11 @@ use Rattle.keeper_book.specs.declared.records.Taken.{Taken}
 use Rattle.turn_laws.proofs.Arrivals.{came}
 use Rattle.turn_laws.proofs.Deeds.{says-rests, Asked, Deed, IsIdle, Rested}
 use Rattle.turn_laws.specs.Acts.{entered_at}
-use Rattle.turn_laws.specs.Turns.{taken}
-use Rattle.turn_rules.specs.Draws.{Admits, Enters, Grants, TakesOver, refusal_of_import, refusal_of_takeover}
+use Rattle.turn_laws.specs.Turns.{number_taken}
+use Rattle.turn_rules.specs.Draws.{Admits, EntersRecord, Grants, TakesOver, refusal_of_import, refusal_of_takeover}
 use Rattle.turn_rules.specs.Fits.{Quietly, Refuses, Yields}
 use Rattle.turn_rules.specs.Held.{granted}
-use Rattle.turn_rules.specs.Peers.{entered}
+use Rattle.turn_rules.specs.Peers.{record_entered}
 
 admits-idle : (answered : KeeperAnswer) (verdict : Verdict) → Admits answered verdict → IsIdle verdict
 admits-idle answer.Done verdict a = subst (λ v. IsIdle v) (sym a) tt
@@ -36,16 +36,16 @@ admits-idle (answer.Refused why) verdict a = go (refusal_of_import why) a
     go (Some r) a = subst (λ v. IsIdle v) (sym a) tt
 
 -- an import that is entered brings its record to the peer
-admits-entry : (sa : Record) (spir : ℕ) (answered : KeeperAnswer) (verdict : Verdict) → Admits answered verdict → entered_at spir (ask.Enter sa) answered ≡ came spir (entered (event.Import sa) verdict)
-admits-entry sa spir answer.Done verdict a = sym (ap (λ v. came spir (entered (event.Import sa) v)) a)
+admits-entry : (sa : Record) (spir : ℕ) (answered : KeeperAnswer) (verdict : Verdict) → Admits answered verdict → entered_at spir (ask.Enter sa) answered ≡ came spir (record_entered (event.Import sa) verdict)
+admits-entry sa spir answer.Done verdict a = sym (ap (λ v. came spir (record_entered (event.Import sa) v)) a)
 admits-entry sa spir (answer.Taken taken) verdict a = absurd a
 admits-entry sa spir (answer.Refused why) verdict a = go (refusal_of_import why) a
   where
-    go : (x : Option Refusal) → MatchOption x ⊥ (λ r. verdict ≡ out.Refused r) → None ≡ came spir (entered (event.Import sa) verdict)
+    go : (x : Option Refusal) → MatchOption x ⊥ (λ r. verdict ≡ out.Refused r) → None ≡ came spir (record_entered (event.Import sa) verdict)
     go None a = absurd a
-    go (Some r) a = sym (ap (λ v. came spir (entered (event.Import sa) v)) a)
+    go (Some r) a = sym (ap (λ v. came spir (record_entered (event.Import sa) v)) a)
 
-refused-entry : (event : Event) (why : Refusal) → entered event (out.Refused why) ≡ None
+refused-entry : (event : Event) (why : Refusal) → record_entered event (out.Refused why) ≡ None
 refused-entry (event.Import sa) why = refl
 refused-entry (event.Send parties.Peer spir payload) why = refl
 refused-entry (event.Send (parties.Member member) spir payload) why = refl
@@ -72,15 +72,15 @@ grants-record spir member (answer.Taken t) verdict g other taken is = by_test (s
 
 module _ (past : List Turn) (step : Step) where
   pub refused-deed : (event : Event) (calls : List Call) (why : Refusal) → Refuses why calls step → Deed past event calls step
-  refused-deed event calls why r = Rested r.no_calls (says-rests step (out.Refused why) tt r.says) (ap (entered event) r.says.said ∙ refused-entry event why)
+  refused-deed event calls why r = Rested r.no_calls (says-rests step (out.Refused why) tt r.says) (ap (record_entered event) r.says.said ∙ refused-entry event why)
 
-  pub yields-deed : (event : Event) (calls : List Call) (verdict : Verdict) → IsIdle verdict → entered event verdict ≡ None → Yields verdict calls step → Deed past event calls step
-  yields-deed event calls verdict idle none y = Rested y.no_calls (says-rests step verdict idle y.says) (ap (entered event) y.says.said ∙ none)
+  pub yields-deed : (event : Event) (calls : List Call) (verdict : Verdict) → IsIdle verdict → record_entered event verdict ≡ None → Yields verdict calls step → Deed past event calls step
+  yields-deed event calls verdict idle none y = Rested y.no_calls (says-rests step verdict idle y.says) (ap (record_entered event) y.says.said ∙ none)
 
-  pub enters-deed : (sa : Record) (calls : List Call) → Quietly (Enters sa) calls step → Deed past (event.Import sa) calls step
+  pub enters-deed : (sa : Record) (calls : List Call) → Quietly (EntersRecord sa) calls step → Deed past (event.Import sa) calls step
   enters-deed sa calls quietly = go calls quietly.follows
     where
-      go : (calls : List Call) → Enters sa calls step.verdict → Deed past (event.Import sa) calls step
+      go : (calls : List Call) → EntersRecord sa calls step.verdict → Deed past (event.Import sa) calls step
       go [] e = absurd e
       go (call ∷ other ∷ more) e = absurd e
       go (call ∷ []) e = Asked (record {

@@ -5,7 +5,7 @@ use Rattle.std.proofs.lemmas.Bool.{eqb-true, or_parts, eq-eqb}
 use Rattle.std.proofs.lemmas.List.{length-map}
 use Rattle.std.specs.List.{list_any}
 use Rattle.std.specs.Option.{option_map}
-use Rattle.keeper_book.specs.Book.{Answers, Book, Entry, after, cover_refusal, enter_refusal, entered, entry_of, fresh, raised, raised_at, refusal, shares_spi, taken_of, taken_over, unless_refused, when}
+use Rattle.keeper_book.specs.Book.{Answers, Book, Entry, book_after, cover_refusal, enter_refusal, book_entered, entry_of, fresh, entry_raised, raised_at, refusal, shares_spi, takeover_answer, taken_over, unless_refused, when}
 use Rattle.keeper_book.specs.CounterEnds.{end_of}
 use Rattle.keeper_book.specs.Counters.{five_at}
 use Rattle.keeper_book.specs.declared.TheConstants.{MAX_ASSOCIATIONS}
@@ -20,22 +20,22 @@ use Rattle.keeper_book.specs.declared.records.Record.{Record}
 use Rattle.keeper_book.specs.declared.records.Taken.{Taken}
 use Rattle.turn_laws.proofs.Columns.{goes_on-refl, mark-high}
 use Rattle.turn_laws.proofs.Entries.{entry_after, entry-entered, five_at-with_five, goes_on-ours, goes_on-theirs, is_counter-same, new-taken_over, new-theirs}
-use Rattle.turn_laws.specs.Acts.{begun, begun_theirs}
-use Rattle.turn_laws.specs.Columns.{GoesOn, IsRising, mark}
+use Rattle.turn_laws.specs.Acts.{holding_begun, begun_theirs}
+use Rattle.turn_laws.specs.Columns.{ColumnGoesOn, IsRising, column_mark}
 use Rattle.turn_laws.specs.Holdings.{Actor, Holding, IsNew}
 use Rattle.turn_laws.specs.Places.{Ours, Place, Theirs, column, column_ours, column_theirs}
-use Rattle.turn_rules.specs.Held.{first_of}
+use Rattle.turn_rules.specs.Held.{first_some}
 
 -- the book is as it was, or has the entry of a call that is not refused
 pub record HasEntry (old : Book) (asked : KeeperAsk) (new : Book) : Type 0 where
   pub granted : refusal old asked ≡ None
-  pub is : new ≡ entered old asked
+  pub is : new ≡ book_entered old asked
 
-after-cases : (old new : Book) (asked : KeeperAsk) (r : Option KeeperFault) → refusal old asked ≡ r → new ≡ unless_refused r (λ why. old) (entered old asked) → (new ≡ old) ⊎ HasEntry old asked new
+after-cases : (old new : Book) (asked : KeeperAsk) (r : Option KeeperFault) → refusal old asked ≡ r → new ≡ unless_refused r (λ why. old) (book_entered old asked) → (new ≡ old) ⊎ HasEntry old asked new
 after-cases old new asked None e is = inr (record { granted = e; is = is })
 after-cases old new asked (Some why) e is = inl is
 
-after-entry : (old new : Book) (asked : KeeperAsk) → new ≡ after old asked → (new ≡ old) ⊎ HasEntry old asked new
+after-entry : (old new : Book) (asked : KeeperAsk) → new ≡ book_after old asked → (new ≡ old) ⊎ HasEntry old asked new
 after-entry old new asked is = after-cases old new asked (refusal old asked) refl is
 
 pub answers-entry : (old new : Book) (asked : KeeperAsk) (answered : KeeperAnswer) → Answers old asked answered new → (new ≡ old) ⊎ HasEntry old asked new
@@ -44,15 +44,15 @@ answers-entry old new asked (answer.Refused fault.Memory) a = inl a.2
 answers-entry old new asked answered a = after-entry old new asked a.1
 
 module _ (old : Book) (asked : KeeperAsk) where
-  column-entered : (p : Place) → IsRising (column p old) → GoesOn (column p old) (column p (entered old asked))
-  column-entered (Ours spir c) rising = subst (λ o. GoesOn (column (Ours spir c) old) (column_ours c o)) (sym (entry-entered spir old asked)) (goes_on-ours c spir asked (entry_of spir old.entries) rising)
-  column-entered (Theirs spir c) rising = subst (λ o. GoesOn (column (Theirs spir c) old) (column_theirs c o)) (sym (entry-entered spir old asked)) (goes_on-theirs c spir asked (entry_of spir old.entries) rising)
+  column-entered : (p : Place) → IsRising (column p old) → ColumnGoesOn (column p old) (column p (book_entered old asked))
+  column-entered (Ours spir c) rising = subst (λ o. ColumnGoesOn (column (Ours spir c) old) (column_ours c o)) (sym (entry-entered spir old asked)) (goes_on-ours c spir asked (entry_of spir old.entries) rising)
+  column-entered (Theirs spir c) rising = subst (λ o. ColumnGoesOn (column (Theirs spir c) old) (column_theirs c o)) (sym (entry-entered spir old asked)) (goes_on-theirs c spir asked (entry_of spir old.entries) rising)
 
 -- Whatever a call is answered, every column goes on.
-pub column-goes_on : (old new : Book) (asked : KeeperAsk) (answered : KeeperAnswer) → Answers old asked answered new → (p : Place) → IsRising (column p old) → GoesOn (column p old) (column p new)
+pub column-goes_on : (old new : Book) (asked : KeeperAsk) (answered : KeeperAnswer) → Answers old asked answered new → (p : Place) → IsRising (column p old) → ColumnGoesOn (column p old) (column p new)
 column-goes_on old new asked answered a p rising = ⊎_elim
-    (λ same. subst (λ b. GoesOn (column p old) (column p b)) (sym same) (goes_on-refl (column p old) rising))
-    (λ has. subst (λ b. GoesOn (column p old) (column p b)) (sym has.is) (column-entered old asked p rising))
+    (λ same. subst (λ b. ColumnGoesOn (column p old) (column p b)) (sym same) (goes_on-refl (column p old) rising))
+    (λ has. subst (λ b. ColumnGoesOn (column p old) (column p b)) (sym has.is) (column-entered old asked p rising))
     (answers-entry old new asked answered a)
 
 -- what a takeover that was granted shows
@@ -62,7 +62,7 @@ pub record ShowsTaken (taken : Taken) (x : Option Entry) (r : Option KeeperFault
   pub granted : r ≡ None
   pub is : taken ≡ record { epoch = length entry.bases + 1; bases = entry.highs; sa = entry.sa }
 
-pub shows-taken : (taken : Taken) (x : Option Entry) (r : Option KeeperFault) → answer.Taken taken ≡ unless_refused r answer.Refused (taken_of x) → ShowsTaken taken x r
+pub shows-taken : (taken : Taken) (x : Option Entry) (r : Option KeeperFault) → answer.Taken taken ≡ unless_refused r answer.Refused (takeover_answer x) → ShowsTaken taken x r
 shows-taken taken (Some e) None is = record { entry = e; found = refl; granted = refl; is = cc }
 shows-taken taken None None is = absurd (cc)
 shows-taken taken x (Some why) is = absurd (cc)
@@ -105,15 +105,15 @@ shows-entered sa es none = by_test (list_any (shares_spi sa) es) refl none
     by_test false t none = none-shared sa es t
 
 -- the book has the entry where a call was granted
-after-granted : (old new : Book) (asked : KeeperAsk) → refusal old asked ≡ None → new ≡ after old asked → new ≡ entered old asked
-after-granted old new asked granted is = is ∙ ap (λ r. unless_refused r (λ why. old) (entered old asked)) granted
+after-granted : (old new : Book) (asked : KeeperAsk) → refusal old asked ≡ None → new ≡ book_after old asked → new ≡ book_entered old asked
+after-granted old new asked granted is = is ∙ ap (λ r. unless_refused r (λ why. old) (book_entered old asked)) granted
 
 module _ (old new : Book) (held : Actor → Option Holding) (w : Actor) where
   -- a takeover that was granted begins a holding of a new epoch
-  pub keeps-taken : (spir : ℕ) (c : Counter) (member : ℕ) (taken : Taken) → Answers old (ask.TakeOver spir member) (answer.Taken taken) new → IsNew (column (Ours spir c) old) (column (Ours spir c) new) (begun c taken)
+  pub keeps-taken : (spir : ℕ) (c : Counter) (member : ℕ) (taken : Taken) → Answers old (ask.TakeOver spir member) (answer.Taken taken) new → IsNew (column (Ours spir c) old) (column (Ours spir c) new) (holding_begun c taken)
   keeps-taken spir c member taken a = go (shows-taken taken (entry_of spir old.entries) (refusal old (ask.TakeOver spir member)) a.0)
     where
-      go : ShowsTaken taken (entry_of spir old.entries) (refusal old (ask.TakeOver spir member)) → IsNew (column (Ours spir c) old) (column (Ours spir c) new) (begun c taken)
+      go : ShowsTaken taken (entry_of spir old.entries) (refusal old (ask.TakeOver spir member)) → IsNew (column (Ours spir c) old) (column (Ours spir c) new) (holding_begun c taken)
       go shows =
           let here : (spir == spir) ≡ true = eq-eqb spir spir refl in
           let now : entry_of spir new.entries ≡ Some (taken_over member shows.entry) =
@@ -121,9 +121,9 @@ module _ (old new : Book) (held : Actor → Option Holding) (w : Actor) where
           ∙ (entry-entered spir old (ask.TakeOver spir member)
           ∙ (ap (λ b. if b then option_map (taken_over member) (entry_of spir old.entries) else entry_of spir old.entries) here
           ∙ ap (option_map (taken_over member)) shows.found)) in
-          subst (λ o. IsNew (column (Ours spir c) old) (column_ours c o) (begun c taken)) (sym now)
-          (subst (λ o. IsNew (column_ours c o) (column_ours c (Some (taken_over member shows.entry))) (begun c taken)) (sym shows.found)
-          (subst (λ t. IsNew (column_ours c (Some shows.entry)) (column_ours c (Some (taken_over member shows.entry))) (begun c t)) (sym shows.is)
+          subst (λ o. IsNew (column (Ours spir c) old) (column_ours c o) (holding_begun c taken)) (sym now)
+          (subst (λ o. IsNew (column_ours c o) (column_ours c (Some (taken_over member shows.entry))) (holding_begun c taken)) (sym shows.found)
+          (subst (λ t. IsNew (column_ours c (Some shows.entry)) (column_ours c (Some (taken_over member shows.entry))) (holding_begun c t)) (sym shows.is)
           (new-taken_over c member shows.entry)))
 
   -- an association that was entered begins what the peer holds
@@ -135,29 +135,29 @@ module _ (old new : Book) (held : Actor → Option Holding) (w : Actor) where
       let now : entry_of sa.spir new.entries ≡ Some (fresh sa) =
       ap (λ (b : Book). entry_of sa.spir b.entries) (after-granted old new (ask.Enter sa) granted a.1)
       ∙ (entry-entered sa.spir old (ask.Enter sa)
-      ∙ (ap (λ o. first_of o (if sa.spir == sa.spir then Some (fresh sa) else None)) was
+      ∙ (ap (λ o. first_some o (if sa.spir == sa.spir then Some (fresh sa) else None)) was
       ∙ ap (λ b. if b then Some (fresh sa) else None) here)) in
       subst (λ o. IsNew (column (Theirs sa.spir c) old) (column_theirs c o) (begun_theirs c sa)) (sym now)
       (subst (λ o. IsNew (column_theirs c o) (column_theirs c (Some (fresh sa))) (begun_theirs c sa)) (sym was) (new-theirs c sa))
 
   -- a cover that was granted leaves no lower high
-  pub keeps-covered : (spir : ℕ) (c : Counter) (asked : KeeperAsk) (named : Option Counter) (epoch upto : ℕ) → refusal old asked ≡ cover_refusal (entry_of spir old.entries) named epoch → named ≡ Some c → entry_after spir asked (entry_of spir old.entries) ≡ option_map (raised_at named upto) (entry_of spir old.entries) → upto ≤ (column (Ours spir c) old).end → answer.Done ≡ unless_refused (refusal old asked) answer.Refused answer.Done → new ≡ after old asked → upto ≤ mark (column (Ours spir c) new) epoch
+  pub keeps-covered : (spir : ℕ) (c : Counter) (asked : KeeperAsk) (named : Option Counter) (epoch upto : ℕ) → refusal old asked ≡ cover_refusal (entry_of spir old.entries) named epoch → named ≡ Some c → entry_after spir asked (entry_of spir old.entries) ≡ option_map (raised_at named upto) (entry_of spir old.entries) → upto ≤ (column (Ours spir c) old).end → answer.Done ≡ unless_refused (refusal old asked) answer.Refused answer.Done → new ≡ book_after old asked → upto ≤ column_mark (column (Ours spir c) new) epoch
   keeps-covered spir c asked named epoch upto refused is edits below answered enters =
       let granted : refusal old asked ≡ None = shows-done (refusal old asked) answered in
       go granted (shows-covered (entry_of spir old.entries) named epoch (sym refused ∙ granted))
     where
-      go : refusal old asked ≡ None → ShowsCovered (entry_of spir old.entries) named epoch → upto ≤ mark (column (Ours spir c) new) epoch
+      go : refusal old asked ≡ None → ShowsCovered (entry_of spir old.entries) named epoch → upto ≤ column_mark (column (Ours spir c) new) epoch
       go granted shows =
           let inside : upto ≤ end_of shows.entry.sa c = subst (λ o. upto ≤ (column_ours c o).end) shows.found below in
-          let now : entry_of spir new.entries ≡ Some (raised c upto shows.entry) =
+          let now : entry_of spir new.entries ≡ Some (entry_raised c upto shows.entry) =
           ap (λ (b : Book). entry_of spir b.entries) (after-granted old new asked granted enters)
           ∙ (entry-entered spir old asked
           ∙ (edits
           ∙ (ap (option_map (raised_at named upto)) shows.found
           ∙ ap (λ d. Some (raised_at d upto shows.entry)) is))) in
-          let top : mark (column_ours c (Some (raised c upto shows.entry))) epoch ≡ five_at (raised c upto shows.entry).highs c =
-          mark-high (column_ours c (Some (raised c upto shows.entry))) epoch (let a : length (map (λ five. five_at five c) shows.entry.bases) ≡ length shows.entry.bases = length-map shows.entry.bases (λ five. five_at five c) in let b : epoch ≡ length shows.entry.bases = shows.is_last in omega arith) in
-          let high : five_at (raised c upto shows.entry).highs c ≡ max (five_at shows.entry.highs c) (min upto (end_of shows.entry.sa c)) =
+          let top : column_mark (column_ours c (Some (entry_raised c upto shows.entry))) epoch ≡ five_at (entry_raised c upto shows.entry).highs c =
+          mark-high (column_ours c (Some (entry_raised c upto shows.entry))) epoch (let a : length (map (λ five. five_at five c) shows.entry.bases) ≡ length shows.entry.bases = length-map shows.entry.bases (λ five. five_at five c) in let b : epoch ≡ length shows.entry.bases = shows.is_last in omega arith) in
+          let high : five_at (entry_raised c upto shows.entry).highs c ≡ max (five_at shows.entry.highs c) (min upto (end_of shows.entry.sa c)) =
           five_at-with_five c c (max (five_at shows.entry.highs c) (min upto (end_of shows.entry.sa c))) shows.entry.highs
           ∙ ap (λ b. if b then max (five_at shows.entry.highs c) (min upto (end_of shows.entry.sa c)) else five_at shows.entry.highs c) (is_counter-same c) in
-          subst (λ o. upto ≤ mark (column_ours c o) epoch) (sym now) (omega arith)
+          subst (λ o. upto ≤ column_mark (column_ours c o) epoch) (sym now) (omega arith)

@@ -2,31 +2,31 @@
 use Rattle.std.proofs.Common.{◌≡◌, ℕ, zero, suc, ◌+◌, ◌<◌, ◌≤◌, List, [], ◌∷◌, ◌++◌, length, get_or, ⊎_elim, refl, sym, subst, arith}
 use Rattle.std.proofs.lemmas.Bool.{cases_lt}
 use Rattle.std.proofs.lemmas.List.{get_or_past, get_or_default}
-use Rattle.turn_laws.specs.Columns.{Column, GoesOn, IsRising, mark, nothing}
+use Rattle.turn_laws.specs.Columns.{Column, ColumnGoesOn, IsRising, column_mark, nothing}
 
 -- an epoch that did not begin has the high as its mark
-pub mark-high : (column : Column) (i : ℕ) → length column.bases ≤ i → mark column i ≡ column.high
+pub mark-high : (column : Column) (i : ℕ) → length column.bases ≤ i → column_mark column i ≡ column.high
 mark-high column i past = get_or_past column.bases i column.high past
 
 -- an epoch that began ends no lower
-pub mark-goes_on : (old new : Column) → GoesOn old new → (i : ℕ) → i ≤ length old.bases → mark old i ≤ mark new i
+pub mark-goes_on : (old new : Column) → ColumnGoesOn old new → (i : ℕ) → i ≤ length old.bases → column_mark old i ≤ column_mark new i
 mark-goes_on old new goes i within = ⊎_elim before last (cases_lt i (length old.bases))
   where
-    before : i < length old.bases → mark old i ≤ mark new i
-    before l = let same : mark new i ≡ mark old i = goes.same_bases i l in omega arith
+    before : i < length old.bases → column_mark old i ≤ column_mark new i
+    before l = let same : column_mark new i ≡ column_mark old i = goes.same_bases i l in omega arith
 
-    last : length old.bases ≤ i → mark old i ≤ mark new i
+    last : length old.bases ≤ i → column_mark old i ≤ column_mark new i
     last l =
         let is : i ≡ length old.bases = omega arith in
-        let top : mark old i ≡ old.high = mark-high old i l in
-        let no_lower : old.high ≤ mark new i = subst (λ k. old.high ≤ mark new k) (sym is) goes.no_lower in
+        let top : column_mark old i ≡ old.high = mark-high old i l in
+        let no_lower : old.high ≤ column_mark new i = subst (λ k. old.high ≤ column_mark new k) (sym is) goes.no_lower in
         omega arith
 
-pub goes_on-refl : (column : Column) → IsRising column → GoesOn column column
+pub goes_on-refl : (column : Column) → IsRising column → ColumnGoesOn column column
 goes_on-refl column rising = record {
   no_shorter = omega arith;
   same_bases = λ i l. refl;
-  no_lower = let e : mark column (length column.bases) ≡ column.high = mark-high column (length column.bases) (omega arith) in omega arith;
+  no_lower = let e : column_mark column (length column.bases) ≡ column.high = mark-high column (length column.bases) (omega arith) in omega arith;
   rising = rising;
   same_end = λ some. refl;
 }
@@ -36,7 +36,7 @@ pub rising-none : (high end : ℕ) → IsRising (record { bases = []; high = hig
 rising-none high end i j l = omega arith
 
 -- nothing was there before
-pub goes_on-first : (new : Column) → IsRising new → GoesOn nothing new
+pub goes_on-first : (new : Column) → IsRising new → ColumnGoesOn nothing new
 goes_on-first new rising = record {
   no_shorter = omega arith;
   same_bases = λ i l. absurd (omega arith);
@@ -49,14 +49,14 @@ goes_on-first new rising = record {
 abbrev pub with_high : Column → ℕ → Column
 with_high column high = record column { high = high }
 
-mark-with_high : (column : Column) (high i : ℕ) → i < length column.bases → mark (with_high column high) i ≡ mark column i
+mark-with_high : (column : Column) (high i : ℕ) → i < length column.bases → column_mark (with_high column high) i ≡ column_mark column i
 mark-with_high column high i l = get_or_default column.bases i high column.high l
 
-pub goes_on-higher : (column : Column) (high : ℕ) → IsRising column → column.high ≤ high → GoesOn column (with_high column high)
+pub goes_on-higher : (column : Column) (high : ℕ) → IsRising column → column.high ≤ high → ColumnGoesOn column (with_high column high)
 goes_on-higher column high rising higher = record {
   no_shorter = omega arith;
   same_bases = mark-with_high column high;
-  no_lower = let e : mark (with_high column high) (length column.bases) ≡ high = mark-high (with_high column high) (length column.bases) (omega arith) in omega arith;
+  no_lower = let e : column_mark (with_high column high) (length column.bases) ≡ high = mark-high (with_high column high) (length column.bases) (omega arith) in omega arith;
   rising = rises;
   same_end = λ some. refl;
 }
@@ -64,31 +64,31 @@ goes_on-higher column high rising higher = record {
     rises : IsRising (with_high column high)
     rises i j l = ⊎_elim inside past (cases_lt j (length column.bases))
       where
-        inside : j < length column.bases → mark (with_high column high) i ≤ mark (with_high column high) j
+        inside : j < length column.bases → column_mark (with_high column high) i ≤ column_mark (with_high column high) j
         inside b =
-            let a : mark (with_high column high) i ≡ mark column i = mark-with_high column high i (omega arith) in
-            let c : mark (with_high column high) j ≡ mark column j = mark-with_high column high j b in
-            let r : mark column i ≤ mark column j = rising i j l in
+            let a : column_mark (with_high column high) i ≡ column_mark column i = mark-with_high column high i (omega arith) in
+            let c : column_mark (with_high column high) j ≡ column_mark column j = mark-with_high column high j b in
+            let r : column_mark column i ≤ column_mark column j = rising i j l in
             omega arith
 
-        past : length column.bases ≤ j → mark (with_high column high) i ≤ mark (with_high column high) j
+        past : length column.bases ≤ j → column_mark (with_high column high) i ≤ column_mark (with_high column high) j
         past b = ⊎_elim before after (cases_lt i (length column.bases))
           where
-            top : mark (with_high column high) j ≡ high
+            top : column_mark (with_high column high) j ≡ high
             top = mark-high (with_high column high) j b
 
-            before : i < length column.bases → mark (with_high column high) i ≤ mark (with_high column high) j
+            before : i < length column.bases → column_mark (with_high column high) i ≤ column_mark (with_high column high) j
             before c =
-                let a : mark (with_high column high) i ≡ mark column i = mark-with_high column high i c in
-                let r : mark column i ≤ mark column (length column.bases) = rising i (length column.bases) (omega arith) in
-                let e : mark column (length column.bases) ≡ column.high = mark-high column (length column.bases) (omega arith) in
-                let t : mark (with_high column high) j ≡ high = top in
+                let a : column_mark (with_high column high) i ≡ column_mark column i = mark-with_high column high i c in
+                let r : column_mark column i ≤ column_mark column (length column.bases) = rising i (length column.bases) (omega arith) in
+                let e : column_mark column (length column.bases) ≡ column.high = mark-high column (length column.bases) (omega arith) in
+                let t : column_mark (with_high column high) j ≡ high = top in
                 omega arith
 
-            after : length column.bases ≤ i → mark (with_high column high) i ≤ mark (with_high column high) j
+            after : length column.bases ≤ i → column_mark (with_high column high) i ≤ column_mark (with_high column high) j
             after c =
-                let a : mark (with_high column high) i ≡ high = mark-high (with_high column high) i c in
-                let t : mark (with_high column high) j ≡ high = top in
+                let a : column_mark (with_high column high) i ≡ high = mark-high (with_high column high) i c in
+                let t : column_mark (with_high column high) j ≡ high = top in
                 omega arith
 
 -- one epoch more, which begins at the high: each mark is as it was
@@ -107,25 +107,25 @@ mark-append (b ∷ bs) high i = by_number (mark-append bs high) i
     by_number rest zero = refl
     by_number rest (suc i) = rest i
 
-pub mark-with_epoch : (column : Column) (i : ℕ) → mark (with_epoch column) i ≡ mark column i
+pub mark-with_epoch : (column : Column) (i : ℕ) → column_mark (with_epoch column) i ≡ column_mark column i
 mark-with_epoch column i = mark-append column.bases column.high i
 
 pub length-append_one : (xs : List ℕ) (x : ℕ) → length (xs ++ x ∷ []) ≡ length xs + 1
 length-append_one [] x = refl
 length-append_one (y ∷ ys) x = let e : length (ys ++ x ∷ []) ≡ length ys + 1 = length-append_one ys x in omega arith
 
-pub goes_on-epoch : (column : Column) → IsRising column → GoesOn column (with_epoch column)
+pub goes_on-epoch : (column : Column) → IsRising column → ColumnGoesOn column (with_epoch column)
 goes_on-epoch column rising = record {
   no_shorter = let e : length (column.bases ++ column.high ∷ []) ≡ length column.bases + 1 = length-append_one column.bases column.high in omega arith;
   same_bases = λ i l. mark-with_epoch column i;
   no_lower =
-      let e : mark (with_epoch column) (length column.bases) ≡ mark column (length column.bases) = mark-with_epoch column (length column.bases) in
-      let t : mark column (length column.bases) ≡ column.high = mark-high column (length column.bases) (omega arith) in
+      let e : column_mark (with_epoch column) (length column.bases) ≡ column_mark column (length column.bases) = mark-with_epoch column (length column.bases) in
+      let t : column_mark column (length column.bases) ≡ column.high = mark-high column (length column.bases) (omega arith) in
       omega arith;
   rising = λ i j l.
-      let a : mark (with_epoch column) i ≡ mark column i = mark-with_epoch column i in
-      let b : mark (with_epoch column) j ≡ mark column j = mark-with_epoch column j in
-      let r : mark column i ≤ mark column j = rising i j l in
+      let a : column_mark (with_epoch column) i ≡ column_mark column i = mark-with_epoch column i in
+      let b : column_mark (with_epoch column) j ≡ column_mark column j = mark-with_epoch column j in
+      let r : column_mark column i ≤ column_mark column j = rising i j l in
       omega arith;
   same_end = λ some. refl;
 }

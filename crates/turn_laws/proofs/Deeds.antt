@@ -20,11 +20,11 @@ use Rattle.turn_laws.proofs.Uses.{IsUse, number_at}
 use Rattle.turn_laws.specs.Acts.{Act, MayAsk, Move, Seals, entered_at}
 use Rattle.turn_laws.specs.Holdings.{Actor}
 use Rattle.turn_laws.specs.Places.{Ours, Place, Theirs, place_of}
-use Rattle.turn_laws.specs.Turns.{key_iv, taken, uses_of}
+use Rattle.turn_laws.specs.Turns.{key_iv, number_taken, uses_of}
 use Rattle.turn_rules.specs.Draws.{reach_of}
 use Rattle.turn_rules.specs.Ends.{Member, Peer, own, performer_at}
 use Rattle.turn_rules.specs.Held.{Held, granted, held_by, used, window_by}
-use Rattle.turn_rules.specs.Peers.{entered}
+use Rattle.turn_rules.specs.Peers.{record_entered}
 use Rattle.turn_rules.specs.Safe.{Packet, accepted_as}
 use Rattle.turn_rules.specs.Slots.{Slot, first_slot, slots_by}
 use Rattle.turn_rules.specs.Steps.{IsQuiet, Says}
@@ -73,7 +73,7 @@ pub record Spends (place : Place) (n : ℕ) (event : Event) (step : Step) : Type
 -- a number of the association is used, and own turns tell it
 pub record UsesIt (spir : ℕ) (c : Counter) (n : ℕ) (event : Event) (step : Step) : Type 0 where
   pub spends : Spends (Ours spir c) n event step
-  pub told : (other : ℕ) (d : Counter) → taken other d event step.verdict ≡ number_at (Ours other d) (Ours spir c) n
+  pub told : (other : ℕ) (d : Counter) → number_taken other d event step.verdict ≡ number_at (Ours other d) (Ours spir c) n
 
 -- a member that holds an association uses a number of it, once that is ready
 pub record MemberUses (past : List Turn) (event : Event) (calls : List Call) (step : Step) : Type 0 where
@@ -101,7 +101,7 @@ pub record PeerUses (past : List Turn) (event : Event) (calls : List Call) (step
   pub spends : Spends (Theirs slot.sa.spir c) number event step
   pub not_ours : (spir : ℕ) (d : Counter) → used spir d event step.verdict ≡ None
   pub told : (other : ℕ) (d : Counter) → number_theirs other d event step.verdict ≡ number_at (Theirs other d) (Theirs slot.sa.spir c) number
-  pub no_entry : entered event step.verdict ≡ None
+  pub no_entry : record_entered event step.verdict ≡ None
 
 -- one call is made that asks for no number
 pub record Asks (event : Event) (calls : List Call) (step : Step) : Type 0 where
@@ -109,11 +109,11 @@ pub record Asks (event : Event) (calls : List Call) (step : Step) : Type 0 where
   pub one : calls ≡ call ∷ []
   pub may : (acts : List Act) (w : Actor) → MayAsk acts w call.asked
   pub own_record : HasItsRecord call
-  pub entry : (spir : ℕ) → entered_at spir call.asked (seen call) ≡ came spir (entered event step.verdict)
+  pub entry : (spir : ℕ) → entered_at spir call.asked (seen call) ≡ came spir (record_entered event step.verdict)
   pub rests : Rests step
 
 pub data Deed (past : List Turn) (event : Event) (calls : List Call) (step : Step) : Type 0 where
-  Rested : calls ≡ [] → Rests step → entered event step.verdict ≡ None → Deed past event calls step
+  Rested : calls ≡ [] → Rests step → record_entered event step.verdict ≡ None → Deed past event calls step
   Asked : Asks event calls step → Deed past event calls step
   Ended : (member : ℕ) → performer_at event step.verdict ≡ Some (Member member) → calls ≡ [] → step.verdict ≡ out.Down → IsQuiet step → Deed past event calls step
   Used : MemberUses past event calls step → Deed past event calls step

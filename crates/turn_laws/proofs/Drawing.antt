@@ -15,7 +15,7 @@ use Rattle.turn_laws.proofs.Members.{member-performs, stop-of_member}
 use Rattle.turn_laws.proofs.Names.{number-failed, number-passed}
 use Rattle.turn_laws.proofs.Uses.{Counts, number_at}
 use Rattle.turn_laws.specs.Places.{Ours}
-use Rattle.turn_laws.specs.Turns.{taken}
+use Rattle.turn_laws.specs.Turns.{number_taken}
 use Rattle.turn_rules.specs.Draws.{Concludes, Draws, reach_of, refusal_of_stop}
 use Rattle.turn_rules.specs.Ends.{Member, is_refused_by_run, own}
 use Rattle.turn_rules.specs.Fits.{Quietly}
@@ -23,7 +23,7 @@ use Rattle.turn_rules.specs.Held.{Held, held_by, window_by}
 use Rattle.turn_rules.specs.Safe.{Packet, accepted_as}
 
 -- a number that was drawn
-drawn-told : (member spir n other : ℕ) (d : Counter) → taken other d (event.Draw member spir) (out.Number n) ≡ number_at (Ours other d) (Ours spir counter.EspOut) n
+drawn-told : (member spir n other : ℕ) (d : Counter) → number_taken other d (event.Draw member spir) (out.Number n) ≡ number_at (Ours other d) (Ours spir counter.EspOut) n
 drawn-told member spir n other counter.EspOut = number-passed (spir == other) n
 drawn-told member spir n other counter.EspIn = number-failed (spir == other) n
 drawn-told member spir n other counter.Iv = number-failed (spir == other) n
@@ -62,7 +62,7 @@ module _ (past : List Turn) (step : Step) (member spir : ℕ) (held : Held) (own
   draw-uses : step.verdict ≡ out.Number next → UsesIt spir counter.EspOut next (event.Draw member spir) step
   draw-uses said = record {
     spends = draw-spends said;
-    told = λ other d. ap (taken other d (event.Draw member spir)) said ∙ drawn-told member spir next other d;
+    told = λ other d. ap (number_taken other d (event.Draw member spir)) said ∙ drawn-told member spir next other d;
   }
 
   pub draws-deed : Deed past (event.Draw member spir) calls step

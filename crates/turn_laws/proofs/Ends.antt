@@ -4,7 +4,7 @@ use Rattle.std.proofs.lemmas.Option.{same_Some}
 use Rattle.std.specs.List.{AllByRecursion, filter_map}
 use Rattle.std.specs.Option.{option_map}
 use Rattle.events.specs.declared.turn.Turn.{Turn}
-use Rattle.keeper_book.specs.Book.{Book, EntersAll, Enters, Entry, empty, entry_of, fresh, raised, raised_at, taken_over}
+use Rattle.keeper_book.specs.Book.{Book, EntersAll, Enters, Entry, empty, entry_of, fresh, entry_raised, raised_at, taken_over}
 use Rattle.keeper_book.specs.CounterEnds.{end_of}
 use Rattle.keeper_book.specs.Counters.{counter_named, five_at}
 use Rattle.keeper_book.specs.declared.calls.Call.{Call}
@@ -17,7 +17,7 @@ use Rattle.turn_laws.proofs.Columns.{mark-high}
 use Rattle.turn_laws.proofs.Entries.{entry-entered, entry_after, five_at-with_five, is_counter-true, within_end}
 use Rattle.turn_laws.proofs.Numbers.{counters-hold}
 use Rattle.turn_laws.specs.Acts.{numbers_at, uses_at}
-use Rattle.turn_laws.specs.Columns.{Column, mark}
+use Rattle.turn_laws.specs.Columns.{Column, column_mark}
 use Rattle.turn_laws.specs.Holdings.{IsOwned, IsUseOf, Use}
 use Rattle.turn_laws.specs.Places.{Ours, Place, Theirs, column, column_ours, column_theirs, end_at}
 use Rattle.turn_laws.specs.Turns.{acts_of}
@@ -38,14 +38,14 @@ module _ (c : Counter) where
   raised-within None upto e within = within
   raised-within (Some d) upto e within = by_test (is_counter d c) refl
     where
-      by_test : (b : Bool) → is_counter d c ≡ b → five_at (raised d upto e).highs c ≤ end_of e.sa c
+      by_test : (b : Bool) → is_counter d c ≡ b → five_at (entry_raised d upto e).highs c ≤ end_of e.sa c
       by_test true t =
-          let is : five_at (raised d upto e).highs c ≡ max (five_at e.highs d) (min upto (end_of e.sa d)) = five_at-with_five d c (max (five_at e.highs d) (min upto (end_of e.sa d))) e.highs ∙ rw t in
+          let is : five_at (entry_raised d upto e).highs c ≡ max (five_at e.highs d) (min upto (end_of e.sa d)) = five_at-with_five d c (max (five_at e.highs d) (min upto (end_of e.sa d))) e.highs ∙ rw t in
           let high : five_at e.highs d ≡ five_at e.highs c = ap (five_at e.highs) (is_counter-true d c t) in
           let end : end_of e.sa d ≡ end_of e.sa c = ap (end_of e.sa) (is_counter-true d c t) in
           omega arith
       by_test false t =
-          let is : five_at (raised d upto e).highs c ≡ five_at e.highs c = five_at-with_five d c (max (five_at e.highs d) (min upto (end_of e.sa d))) e.highs ∙ rw t in
+          let is : five_at (entry_raised d upto e).highs c ≡ five_at e.highs c = five_at-with_five d c (max (five_at e.highs d) (min upto (end_of e.sa d))) e.highs ∙ rw t in
           omega arith
 
   entry-within : (spir : ℕ) (asked : KeeperAsk) (old : Option Entry) → IsWithin old → IsWithin (entry_after spir asked old)
@@ -92,15 +92,15 @@ high-within past book stands (Theirs spir c) = go (entry_of spir book.entries)
     go (Some e) = omega arith
 
 -- numbers of epochs that began lie below the high
-numbers-below : (column : Column) (end : ℕ) → ((i j : ℕ) → i ≤ j → mark column i ≤ mark column j) → column.high ≤ end → (uses : List Use) → AllByRecursion (IsUseOf column) uses → AllByRecursion (λ n. n < end) (map (λ u. u.number) uses)
+numbers-below : (column : Column) (end : ℕ) → ((i j : ℕ) → i ≤ j → column_mark column i ≤ column_mark column j) → column.high ≤ end → (uses : List Use) → AllByRecursion (IsUseOf column) uses → AllByRecursion (λ n. n < end) (map (λ u. u.number) uses)
 numbers-below column end rising high [] within = tt
 numbers-below column end rising high (u ∷ us) within = (below, numbers-below column end rising high us within.1)
   where
     below : u.number < end
     below =
-        let a : u.number < mark column u.epoch = within.0.below in
-        let b : mark column u.epoch ≤ mark column (length column.bases) = rising u.epoch (length column.bases) within.0.begun in
-        let d : mark column (length column.bases) ≡ column.high = mark-high column (length column.bases) (omega arith) in
+        let a : u.number < column_mark column u.epoch = within.0.below in
+        let b : column_mark column u.epoch ≤ column_mark column (length column.bases) = rising u.epoch (length column.bases) within.0.begun in
+        let d : column_mark column (length column.bases) ≡ column.high = mark-high column (length column.bases) (omega arith) in
         omega arith
 
 pub numbers-end : (boxes : ℕ) (past : List Turn) (book : Book) → Local boxes past → Stands past book → (p : Place) → AllByRecursion (λ n. n < end_at p book) (numbers_at p (acts_of past))

@@ -4,7 +4,7 @@ use Rattle.std.proofs.lemmas.Bool.{eqb-true, eqb-false}
 use Rattle.std.proofs.lemmas.List.{length-map, map-append}
 use Rattle.std.specs.Option.{option_map}
 use Rattle.keeper_book.proofs.EntryLemmas.{entry_of-edit_other, entry_of-edit_same}
-use Rattle.keeper_book.specs.Book.{Book, Entry, edit_at, entered, entry_of, fresh, raised, raised_at, taken_over}
+use Rattle.keeper_book.specs.Book.{Book, Entry, edit_at, book_entered, entry_of, fresh, entry_raised, raised_at, taken_over}
 use Rattle.keeper_book.specs.CounterEnds.{end_of}
 use Rattle.keeper_book.specs.Counters.{AreWithinEnds, counter_named, five_at, with_five}
 use Rattle.keeper_book.specs.declared.calls.KeeperAsk.{KeeperAsk}
@@ -14,23 +14,23 @@ use Rattle.keeper_book.specs.declared.counters.Counter.TheVariants as counter
 use Rattle.keeper_book.specs.declared.counters.Five.{Five}
 use Rattle.keeper_book.specs.declared.records.Record.{Record}
 use Rattle.turn_laws.proofs.Columns.{goes_on-epoch, goes_on-first, goes_on-higher, goes_on-refl, length-append_one, mark-high, mark-with_epoch, rising-none, rising-one, with_epoch}
-use Rattle.turn_laws.specs.Acts.{begun, begun_theirs}
-use Rattle.turn_laws.specs.Columns.{Column, GoesOn, IsRising, mark, nothing}
+use Rattle.turn_laws.specs.Acts.{holding_begun, begun_theirs}
+use Rattle.turn_laws.specs.Columns.{Column, ColumnGoesOn, IsRising, column_mark, nothing}
 use Rattle.turn_laws.specs.Holdings.{IsNew}
 use Rattle.turn_laws.specs.Places.{column_ours, column_theirs, mirrored, start_of}
-use Rattle.turn_rules.specs.Held.{first_of, is_counter}
+use Rattle.turn_rules.specs.Held.{first_some, is_counter}
 
 -- what a call makes of the association of a responder's SPI
 abbrev pub entry_after : ℕ → KeeperAsk → Option Entry → Option Entry
-entry_after spir (ask.Enter sa) old = first_of old (if sa.spir == spir then Some (fresh sa) else None)
+entry_after spir (ask.Enter sa) old = first_some old (if sa.spir == spir then Some (fresh sa) else None)
 entry_after spir (ask.TakeOver asked member) old = if asked == spir then option_map (taken_over member) old else old
 entry_after spir (ask.Cover asked kind child epoch upto) old = if asked == spir then option_map (raised_at (counter_named kind child) upto) old else old
 
-entry_of-append : (spir : ℕ) (es : List Entry) (x : Entry) → entry_of spir (es ++ x ∷ []) ≡ first_of (entry_of spir es) (if x.sa.spir == spir then Some x else None)
+entry_of-append : (spir : ℕ) (es : List Entry) (x : Entry) → entry_of spir (es ++ x ∷ []) ≡ first_some (entry_of spir es) (if x.sa.spir == spir then Some x else None)
 entry_of-append spir [] x = refl
 entry_of-append spir (e ∷ es) x = by_test (entry_of-append spir es x) (e.sa.spir == spir) refl
   where
-    by_test : entry_of spir (es ++ x ∷ []) ≡ first_of (entry_of spir es) (if x.sa.spir == spir then Some x else None) → (b : Bool) → (e.sa.spir == spir) ≡ b → (if e.sa.spir == spir then Some e else entry_of spir (es ++ x ∷ [])) ≡ first_of (if e.sa.spir == spir then Some e else entry_of spir es) (if x.sa.spir == spir then Some x else None)
+    by_test : entry_of spir (es ++ x ∷ []) ≡ first_some (entry_of spir es) (if x.sa.spir == spir then Some x else None) → (b : Bool) → (e.sa.spir == spir) ≡ b → (if e.sa.spir == spir then Some e else entry_of spir (es ++ x ∷ [])) ≡ first_some (if e.sa.spir == spir then Some e else entry_of spir es) (if x.sa.spir == spir then Some x else None)
     by_test rest true t = rw t
     by_test rest false t = rw t rest
 
@@ -47,7 +47,7 @@ edited_entry asked spir edit keeps es = by_test (asked == spir) refl
         rw t (subst (λ a. entry_of spir (edit_at a edit es) ≡ option_map edit (entry_of spir es)) (sym same) (entry_of-edit_same spir edit keeps es))
     by_test false t = rw t (entry_of-edit_other asked spir edit keeps (λ same. eqb-false asked spir t (sym same)) es)
 
-pub entry-entered : (spir : ℕ) (book : Book) (asked : KeeperAsk) → entry_of spir (entered book asked).entries ≡ entry_after spir asked (entry_of spir book.entries)
+pub entry-entered : (spir : ℕ) (book : Book) (asked : KeeperAsk) → entry_of spir (book_entered book asked).entries ≡ entry_after spir asked (entry_of spir book.entries)
 entry-entered spir book (ask.Enter sa) = entry_of-append spir book.entries (fresh sa)
 entry-entered spir book (ask.TakeOver asked member) = edited_entry asked spir (taken_over member) (λ e. refl) book.entries
 entry-entered spir book (ask.Cover asked kind child epoch upto) = edited_entry asked spir (raised_at (counter_named kind child) upto) (raised_keeps (counter_named kind child) upto) book.entries
@@ -97,43 +97,43 @@ module _ (c : Counter) where
   column-taken_over : (member : ℕ) (e : Entry) → column_ours c (Some (taken_over member e)) ≡ with_epoch (column_ours c (Some e))
   column-taken_over member e i = record { bases = map-append (λ (five : Five). five_at five c) e.bases (e.highs ∷ []) i; high = five_at e.highs c; end = end_of e.sa c }
 
-  raised_high : (d : Counter) (upto : ℕ) (e : Entry) → five_at e.highs c ≤ five_at (raised d upto e).highs c
+  raised_high : (d : Counter) (upto : ℕ) (e : Entry) → five_at e.highs c ≤ five_at (entry_raised d upto e).highs c
   raised_high d upto e = by_test (is_counter d c) refl
     where
-      by_test : (b : Bool) → is_counter d c ≡ b → five_at e.highs c ≤ five_at (raised d upto e).highs c
+      by_test : (b : Bool) → is_counter d c ≡ b → five_at e.highs c ≤ five_at (entry_raised d upto e).highs c
       by_test true t =
           let same : d ≡ c = is_counter-true d c t in
-          let is : five_at (raised d upto e).highs c ≡ max (five_at e.highs d) (min upto (end_of e.sa d)) = five_at-with_five d c (max (five_at e.highs d) (min upto (end_of e.sa d))) e.highs ∙ rw t in
+          let is : five_at (entry_raised d upto e).highs c ≡ max (five_at e.highs d) (min upto (end_of e.sa d)) = five_at-with_five d c (max (five_at e.highs d) (min upto (end_of e.sa d))) e.highs ∙ rw t in
           let at : five_at e.highs d ≡ five_at e.highs c = ap (five_at e.highs) same in
           omega arith
       by_test false t =
-          let is : five_at (raised d upto e).highs c ≡ five_at e.highs c = five_at-with_five d c (max (five_at e.highs d) (min upto (end_of e.sa d))) e.highs ∙ rw t in
+          let is : five_at (entry_raised d upto e).highs c ≡ five_at e.highs c = five_at-with_five d c (max (five_at e.highs d) (min upto (end_of e.sa d))) e.highs ∙ rw t in
           omega arith
 
-  goes_on-raised : (d : Option Counter) (upto : ℕ) (e : Entry) → IsRising (column_ours c (Some e)) → GoesOn (column_ours c (Some e)) (column_ours c (Some (raised_at d upto e)))
+  goes_on-raised : (d : Option Counter) (upto : ℕ) (e : Entry) → IsRising (column_ours c (Some e)) → ColumnGoesOn (column_ours c (Some e)) (column_ours c (Some (raised_at d upto e)))
   goes_on-raised None upto e rising = goes_on-refl (column_ours c (Some e)) rising
-  goes_on-raised (Some d) upto e rising = goes_on-higher (column_ours c (Some e)) (five_at (raised d upto e).highs c) rising (raised_high d upto e)
+  goes_on-raised (Some d) upto e rising = goes_on-higher (column_ours c (Some e)) (five_at (entry_raised d upto e).highs c) rising (raised_high d upto e)
 
-  goes_on-taken_over : (member : ℕ) (e : Entry) → IsRising (column_ours c (Some e)) → GoesOn (column_ours c (Some e)) (column_ours c (Some (taken_over member e)))
-  goes_on-taken_over member e rising = subst (λ col. GoesOn (column_ours c (Some e)) col) (sym (column-taken_over member e)) (goes_on-epoch (column_ours c (Some e)) rising)
+  goes_on-taken_over : (member : ℕ) (e : Entry) → IsRising (column_ours c (Some e)) → ColumnGoesOn (column_ours c (Some e)) (column_ours c (Some (taken_over member e)))
+  goes_on-taken_over member e rising = subst (λ col. ColumnGoesOn (column_ours c (Some e)) col) (sym (column-taken_over member e)) (goes_on-epoch (column_ours c (Some e)) rising)
 
   -- the cluster's column goes on
-  pub goes_on-ours : (spir : ℕ) (asked : KeeperAsk) (old : Option Entry) → IsRising (column_ours c old) → GoesOn (column_ours c old) (column_ours c (entry_after spir asked old))
+  pub goes_on-ours : (spir : ℕ) (asked : KeeperAsk) (old : Option Entry) → IsRising (column_ours c old) → ColumnGoesOn (column_ours c old) (column_ours c (entry_after spir asked old))
   goes_on-ours spir (ask.Enter sa) (Some e) rising = goes_on-refl (column_ours c (Some e)) rising
   goes_on-ours spir (ask.Enter sa) None rising = by_test (sa.spir == spir)
     where
-      by_test : (b : Bool) → GoesOn nothing (column_ours c (if b then Some (fresh sa) else None))
+      by_test : (b : Bool) → ColumnGoesOn nothing (column_ours c (if b then Some (fresh sa) else None))
       by_test true = goes_on-first (column_ours c (Some (fresh sa))) (rising-none (five_at sa.starts c) (end_of sa c))
       by_test false = goes_on-refl nothing (rising-none 0 0)
   goes_on-ours spir (ask.TakeOver asked member) old rising = by_test (asked == spir) old rising
     where
-      by_test : (b : Bool) (old : Option Entry) → IsRising (column_ours c old) → GoesOn (column_ours c old) (column_ours c (if b then option_map (taken_over member) old else old))
+      by_test : (b : Bool) (old : Option Entry) → IsRising (column_ours c old) → ColumnGoesOn (column_ours c old) (column_ours c (if b then option_map (taken_over member) old else old))
       by_test false old rising = goes_on-refl (column_ours c old) rising
       by_test true None rising = goes_on-refl nothing rising
       by_test true (Some e) rising = goes_on-taken_over member e rising
   goes_on-ours spir (ask.Cover asked kind child epoch upto) old rising = by_test (asked == spir) old rising
     where
-      by_test : (b : Bool) (old : Option Entry) → IsRising (column_ours c old) → GoesOn (column_ours c old) (column_ours c (if b then option_map (raised_at (counter_named kind child) upto) old else old))
+      by_test : (b : Bool) (old : Option Entry) → IsRising (column_ours c old) → ColumnGoesOn (column_ours c old) (column_ours c (if b then option_map (raised_at (counter_named kind child) upto) old else old))
       by_test false old rising = goes_on-refl (column_ours c old) rising
       by_test true None rising = goes_on-refl nothing rising
       by_test true (Some e) rising = goes_on-raised (counter_named kind child) upto e rising
@@ -142,43 +142,43 @@ module _ (c : Counter) where
   rising-theirs sa = rising-one (start_of sa c) (end_of sa c) (end_of sa c) (start_within sa c)
 
   -- the peer's column goes on
-  pub goes_on-theirs : (spir : ℕ) (asked : KeeperAsk) (old : Option Entry) → IsRising (column_theirs c old) → GoesOn (column_theirs c old) (column_theirs c (entry_after spir asked old))
+  pub goes_on-theirs : (spir : ℕ) (asked : KeeperAsk) (old : Option Entry) → IsRising (column_theirs c old) → ColumnGoesOn (column_theirs c old) (column_theirs c (entry_after spir asked old))
   goes_on-theirs spir (ask.Enter sa) (Some e) rising = goes_on-refl (column_theirs c (Some e)) rising
   goes_on-theirs spir (ask.Enter sa) None rising = by_test (sa.spir == spir)
     where
-      by_test : (b : Bool) → GoesOn nothing (column_theirs c (if b then Some (fresh sa) else None))
+      by_test : (b : Bool) → ColumnGoesOn nothing (column_theirs c (if b then Some (fresh sa) else None))
       by_test true = goes_on-first (column_theirs c (Some (fresh sa))) (rising-theirs sa)
       by_test false = goes_on-refl nothing (rising-none 0 0)
   goes_on-theirs spir (ask.TakeOver asked member) old rising = by_test (asked == spir) old rising
     where
-      by_test : (b : Bool) (old : Option Entry) → IsRising (column_theirs c old) → GoesOn (column_theirs c old) (column_theirs c (if b then option_map (taken_over member) old else old))
+      by_test : (b : Bool) (old : Option Entry) → IsRising (column_theirs c old) → ColumnGoesOn (column_theirs c old) (column_theirs c (if b then option_map (taken_over member) old else old))
       by_test false old rising = goes_on-refl (column_theirs c old) rising
       by_test true None rising = goes_on-refl nothing rising
       by_test true (Some e) rising = goes_on-refl (column_theirs c (Some e)) rising
   goes_on-theirs spir (ask.Cover asked kind child epoch upto) old rising = by_test (asked == spir) old rising
     where
-      kept : (d : Option Counter) (e : Entry) → IsRising (column_theirs c (Some e)) → GoesOn (column_theirs c (Some e)) (column_theirs c (Some (raised_at d upto e)))
+      kept : (d : Option Counter) (e : Entry) → IsRising (column_theirs c (Some e)) → ColumnGoesOn (column_theirs c (Some e)) (column_theirs c (Some (raised_at d upto e)))
       kept None e rising = goes_on-refl (column_theirs c (Some e)) rising
       kept (Some d) e rising = goes_on-refl (column_theirs c (Some e)) rising
 
-      by_test : (b : Bool) (old : Option Entry) → IsRising (column_theirs c old) → GoesOn (column_theirs c old) (column_theirs c (if b then option_map (raised_at (counter_named kind child) upto) old else old))
+      by_test : (b : Bool) (old : Option Entry) → IsRising (column_theirs c old) → ColumnGoesOn (column_theirs c old) (column_theirs c (if b then option_map (raised_at (counter_named kind child) upto) old else old))
       by_test false old rising = goes_on-refl (column_theirs c old) rising
       by_test true None rising = goes_on-refl nothing rising
       by_test true (Some e) rising = kept (counter_named kind child) e rising
 
   -- the epoch that a takeover begins is held by nobody yet
-  pub new-taken_over : (member : ℕ) (e : Entry) → IsNew (column_ours c (Some e)) (column_ours c (Some (taken_over member e))) (begun c (record { epoch = length e.bases + 1; bases = e.highs; sa = e.sa }))
-  new-taken_over member e = subst (λ col. IsNew was col (begun c (record { epoch = length e.bases + 1; bases = e.highs; sa = e.sa }))) (sym (column-taken_over member e)) (record {
+  pub new-taken_over : (member : ℕ) (e : Entry) → IsNew (column_ours c (Some e)) (column_ours c (Some (taken_over member e))) (holding_begun c (record { epoch = length e.bases + 1; bases = e.highs; sa = e.sa }))
+  new-taken_over member e = subst (λ col. IsNew was col (holding_begun c (record { epoch = length e.bases + 1; bases = e.highs; sa = e.sa }))) (sym (column-taken_over member e)) (record {
     next_epoch = ap (λ n. n + 1) (sym count);
     of_column = record {
       some = omega arith;
       begun = let a : length (with_epoch was).bases ≡ length was.bases + 1 = longer in let b : length was.bases ≡ length e.bases = count in omega arith;
       base =
-          let at : mark (with_epoch was) (length e.bases + 1 - 1) ≡ mark was (length e.bases + 1 - 1) = mark-with_epoch was (length e.bases + 1 - 1) in
+          let at : column_mark (with_epoch was) (length e.bases + 1 - 1) ≡ column_mark was (length e.bases + 1 - 1) = mark-with_epoch was (length e.bases + 1 - 1) in
           at ∙ mark-high was (length e.bases + 1 - 1) (let b : length was.bases ≡ length e.bases = count in omega arith);
       high =
-          let at : mark (with_epoch was) (length e.bases + 1) ≡ mark was (length e.bases + 1) = mark-with_epoch was (length e.bases + 1) in
-          let top : mark was (length e.bases + 1) ≡ was.high = mark-high was (length e.bases + 1) (let b : length was.bases ≡ length e.bases = count in omega arith) in
+          let at : column_mark (with_epoch was) (length e.bases + 1) ≡ column_mark was (length e.bases + 1) = mark-with_epoch was (length e.bases + 1) in
+          let top : column_mark was (length e.bases + 1) ≡ was.high = mark-high was (length e.bases + 1) (let b : length was.bases ≡ length e.bases = count in omega arith) in
           omega arith;
       end = refl;
     };

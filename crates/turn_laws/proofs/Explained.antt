@@ -19,7 +19,7 @@ use Rattle.turn_laws.proofs.Members.{own-held}
 use Rattle.turn_laws.proofs.Receiving.{Brings, member_takes-deed, peer_takes-deed}
 use Rattle.turn_laws.proofs.Sending.{peer_sends-deed, sends-deed}
 use Rattle.turn_rules.specs.Datagrams.{PlainDatagram, arrives}
-use Rattle.turn_rules.specs.Draws.{Enters}
+use Rattle.turn_rules.specs.Draws.{EntersRecord}
 use Rattle.turn_rules.specs.Ends.{Member, own}
 use Rattle.turn_rules.specs.Fits.{Does, DrawsOf, Performs, Quietly, Receives, Refuses, Refusing, SendsOf, run_refusal}
 use Rattle.turn_rules.specs.Held.{Held, held_by, window_by}
@@ -35,7 +35,7 @@ module _ (boxes : ℕ) (past : List Turn) (own_spir : (member spir : ℕ) (held 
   refused : (event : Event) (why : Refusal) → Refuses why calls step → Deed past event calls step
   refused event why r = refused-deed past step event calls why r
 
-  imported : (sa : Record) (b : Bool) → Refusing b refusal.SpiInUse calls step (Quietly (Enters sa) calls step) → Deed past (event.Import sa) calls step
+  imported : (sa : Record) (b : Bool) → Refusing b refusal.SpiInUse calls step (Quietly (EntersRecord sa) calls step) → Deed past (event.Import sa) calls step
   imported sa true r = refused (event.Import sa) refusal.SpiInUse r
   imported sa false quietly = enters-deed past step sa calls quietly
 

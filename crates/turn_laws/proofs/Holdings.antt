@@ -5,8 +5,8 @@ use Rattle.std.proofs.lemmas.Option.{same_Some}
 use Rattle.std.specs.List.{AllByRecursion}
 use Rattle.std.specs.Option.{option_map}
 use Rattle.turn_laws.proofs.Columns.{mark-goes_on}
-use Rattle.turn_laws.specs.Columns.{Column, GoesOn, mark}
-use Rattle.turn_laws.specs.Holdings.{Actor, Begins, Draws, Effect, End, Holding, IsHoldingOf, IsNew, IsNotIn, IsOwned, IsUseOf, MayUse, Nothing, Rises, Run, Use, drawn, epoch_of, held_after, is_actor, raised_to, uses_after}
+use Rattle.turn_laws.specs.Columns.{Column, ColumnGoesOn, column_mark}
+use Rattle.turn_laws.specs.Holdings.{Actor, Begins, Draws, Effect, End, Holding, IsHoldingOf, IsNew, IsNotIn, IsOwned, IsUseOf, MayUse, Nothing, Rises, Run, Use, drawn, epoch_of, holding_after, is_actor, raised_to, uses_after}
 use Rattle.turn_rules.specs.Ends.{Member, Peer, Performer, is_performer}
 
 pub all-map : {X : Type 0} {P Q : X → Type 0} (xs : List X) → ((x : X) → P x → Q x) → AllByRecursion P xs → AllByRecursion Q xs
@@ -34,28 +34,28 @@ is_actor-true (End a) Run e = absurd (cc)
 is_actor-true (End a) (End b) e = ap End (is_performer-true a b e)
 
 -- what is held of a column, once it goes on
-pub holding-goes_on : (old new : Column) (h : Holding) → GoesOn old new → IsHoldingOf old h → IsHoldingOf new h
+pub holding-goes_on : (old new : Column) (h : Holding) → ColumnGoesOn old new → IsHoldingOf old h → IsHoldingOf new h
 holding-goes_on old new h goes of = record {
   some = of.some;
   begun = let a : h.epoch ≤ length old.bases = of.begun in let b : length old.bases ≤ length new.bases = goes.no_shorter in omega arith;
   base = goes.same_bases (h.epoch - 1) (let a : h.epoch ≤ length old.bases = of.begun in let b : 1 ≤ h.epoch = of.some in omega arith) ∙ of.base;
-  high = let a : h.high ≤ mark old h.epoch = of.high in let b : mark old h.epoch ≤ mark new h.epoch = mark-goes_on old new goes h.epoch of.begun in omega arith;
+  high = let a : h.high ≤ column_mark old h.epoch = of.high in let b : column_mark old h.epoch ≤ column_mark new h.epoch = mark-goes_on old new goes h.epoch of.begun in omega arith;
   end = of.end ∙ sym (goes.same_end (let a : h.epoch ≤ length old.bases = of.begun in let b : 1 ≤ h.epoch = of.some in omega arith));
 }
 
-pub use-goes_on : (old new : Column) (u : Use) → GoesOn old new → IsUseOf old u → IsUseOf new u
+pub use-goes_on : (old new : Column) (u : Use) → ColumnGoesOn old new → IsUseOf old u → IsUseOf new u
 use-goes_on old new u goes of = record {
   some = of.some;
   begun = let a : u.epoch ≤ length old.bases = of.begun in let b : length old.bases ≤ length new.bases = goes.no_shorter in omega arith;
   from_base =
-      let s : mark new (u.epoch - 1) ≡ mark old (u.epoch - 1) = goes.same_bases (u.epoch - 1) (let a : u.epoch ≤ length old.bases = of.begun in let b : 1 ≤ u.epoch = of.some in omega arith) in
-      let f : mark old (u.epoch - 1) ≤ u.number = of.from_base in
+      let s : column_mark new (u.epoch - 1) ≡ column_mark old (u.epoch - 1) = goes.same_bases (u.epoch - 1) (let a : u.epoch ≤ length old.bases = of.begun in let b : 1 ≤ u.epoch = of.some in omega arith) in
+      let f : column_mark old (u.epoch - 1) ≤ u.number = of.from_base in
       omega arith;
-  below = let a : u.number < mark old u.epoch = of.below in let b : mark old u.epoch ≤ mark new u.epoch = mark-goes_on old new goes u.epoch of.begun in omega arith;
+  below = let a : u.number < column_mark old u.epoch = of.below in let b : column_mark old u.epoch ≤ column_mark new u.epoch = mark-goes_on old new goes u.epoch of.begun in omega arith;
 }
 
 -- A call of the keeper, answered, refused or failed: the column goes on.
-pub owned-goes_on : (held : Actor → Option Holding) (uses : List Use) (old new : Column) → IsOwned held uses old → GoesOn old new → IsOwned held uses new
+pub owned-goes_on : (held : Actor → Option Holding) (uses : List Use) (old new : Column) → IsOwned held uses old → ColumnGoesOn old new → IsOwned held uses new
 owned-goes_on held uses old new owned goes = record {
   rising = goes.rising;
   holdings = λ w h e. holding-goes_on old new h goes (owned.holdings w h e);
@@ -94,7 +94,7 @@ module _ (held : Actor → Option Holding) (uses : List Use) (column : Column) (
         by_test false t = there (ap (λ b. if b then to else held v) (sym t) ∙ e)
 
 -- The beginning of a holding, also in place of an earlier one of the same end.
-pub owned-begins : (held : Actor → Option Holding) (uses : List Use) (old new : Column) (w : Actor) (h : Holding) → IsOwned held uses old → GoesOn old new → IsNew old new h → IsOwned (held_after (Begins w h) held) uses new
+pub owned-begins : (held : Actor → Option Holding) (uses : List Use) (old new : Column) (w : Actor) (h : Holding) → IsOwned held uses old → ColumnGoesOn old new → IsNew old new h → IsOwned (holding_after (Begins w h) held) uses new
 owned-begins held uses old new w h owned goes fresh = record {
   rising = goes.rising;
   holdings = λ v g e. changed_cases held uses old owned w (Some h) v g e
@@ -140,7 +140,7 @@ module _ (held : Actor → Option Holding) (uses : List Use) (column : Column) (
       (λ was. owned.holdings v g was)
 
   -- A rise of a holding's high.
-  pub owned-raised : (upto : ℕ) → upto ≤ mark column h.epoch → IsOwned (changed held uses column owned w (Some (raised_to upto h))) uses column
+  pub owned-raised : (upto : ℕ) → upto ≤ column_mark column h.epoch → IsOwned (changed held uses column owned w (Some (raised_to upto h))) uses column
   owned-raised upto below = record {
     rising = owned.rising;
     holdings = holdings-changed (raised_to upto h) of;
@@ -163,7 +163,7 @@ module _ (held : Actor → Option Holding) (uses : List Use) (column : Column) (
         some = was.some;
         begun = was.begun;
         base = was.base;
-        high = let a : h.high ≤ mark column h.epoch = was.high in omega arith;
+        high = let a : h.high ≤ column_mark column h.epoch = was.high in omega arith;
         end = was.end;
       }
 
@@ -191,8 +191,8 @@ module _ (held : Actor → Option Holding) (uses : List Use) (column : Column) (
       of = record {
         some = was.some;
         begun = was.begun;
-        from_base = let a : mark column (h.epoch - 1) ≡ h.base = was.base in let b : h.base ≤ n = may.from_base in omega arith;
-        below = let a : n < h.high = may.below_high in let b : h.high ≤ mark column h.epoch = was.high in omega arith;
+        from_base = let a : column_mark column (h.epoch - 1) ≡ h.base = was.base in let b : h.base ≤ n = may.from_base in omega arith;
+        below = let a : n < h.high = may.below_high in let b : h.high ≤ column_mark column h.epoch = was.high in omega arith;
       }
 
       -- the end that holds the epoch is this one, and it holds what it holds now
@@ -213,29 +213,29 @@ module _ (held : Actor → Option Holding) (uses : List Use) (column : Column) (
             where
               below : u.epoch < h.epoch → u.number ≢ n
               below l same =
-                  let a : u.number < mark column u.epoch = of_column.0.below in
-                  let b : mark column u.epoch ≤ mark column (h.epoch - 1) = owned.rising u.epoch (h.epoch - 1) (omega arith) in
-                  let c : mark column (h.epoch - 1) ≡ h.base = was.base in
+                  let a : u.number < column_mark column u.epoch = of_column.0.below in
+                  let b : column_mark column u.epoch ≤ column_mark column (h.epoch - 1) = owned.rising u.epoch (h.epoch - 1) (omega arith) in
+                  let c : column_mark column (h.epoch - 1) ≡ h.base = was.base in
                   let d : h.base ≤ n = may.from_base in
                   absurd (omega arith)
 
               above : h.epoch < u.epoch → u.number ≢ n
               above l same =
-                  let a : mark column (u.epoch - 1) ≤ u.number = of_column.0.from_base in
-                  let b : mark column h.epoch ≤ mark column (u.epoch - 1) = owned.rising h.epoch (u.epoch - 1) (omega arith) in
-                  let c : h.high ≤ mark column h.epoch = was.high in
+                  let a : column_mark column (u.epoch - 1) ≤ u.number = of_column.0.from_base in
+                  let b : column_mark column h.epoch ≤ column_mark column (u.epoch - 1) = owned.rising h.epoch (u.epoch - 1) (omega arith) in
+                  let c : h.high ≤ column_mark column h.epoch = was.high in
                   let d : n < h.high = may.below_high in
                   absurd (omega arith)
 
 -- what an effect needs of the column before it, and of the one after it
 abbrev pub Keeps : Effect → (Actor → Option Holding) → Column → Column → Type 0
-Keeps Nothing held old new = GoesOn old new
-Keeps (Begins w h) held old new = GoesOn old new × IsNew old new h
-Keeps (Rises w upto) held old new = GoesOn old new × ((h : Holding) → held w ≡ Some h → upto ≤ mark new h.epoch)
-Keeps (Draws w n) held old new = GoesOn old new × (h : Holding) × (held w ≡ Some h) × MayUse h n
+Keeps Nothing held old new = ColumnGoesOn old new
+Keeps (Begins w h) held old new = ColumnGoesOn old new × IsNew old new h
+Keeps (Rises w upto) held old new = ColumnGoesOn old new × ((h : Holding) → held w ≡ Some h → upto ≤ column_mark new h.epoch)
+Keeps (Draws w n) held old new = ColumnGoesOn old new × (h : Holding) × (held w ≡ Some h) × MayUse h n
 
 -- every effect keeps the numbers of a counter apart
-pub owned-after : (held : Actor → Option Holding) (uses : List Use) (old new : Column) (effect : Effect) → IsOwned held uses old → Keeps effect held old new → IsOwned (held_after effect held) (uses_after effect held uses) new
+pub owned-after : (held : Actor → Option Holding) (uses : List Use) (old new : Column) (effect : Effect) → IsOwned held uses old → Keeps effect held old new → IsOwned (holding_after effect held) (uses_after effect held uses) new
 owned-after held uses old new Nothing owned keeps = owned-goes_on held uses old new owned keeps
 owned-after held uses old new (Begins w h) owned keeps = owned-begins held uses old new w h owned keeps.0 keeps.1
 owned-after held uses old new (Rises w upto) owned keeps = by_held (held w) refl
@@ -243,15 +243,15 @@ owned-after held uses old new (Rises w upto) owned keeps = by_held (held w) refl
     later : IsOwned held uses new
     later = owned-goes_on held uses old new owned keeps.0
 
-    by_held : (x : Option Holding) → held w ≡ x → IsOwned (held_after (Rises w upto) held) uses new
-    by_held None e = owned-agrees held (held_after (Rises w upto) held) uses new later (λ v. unchanged v (is_actor w v) refl)
+    by_held : (x : Option Holding) → held w ≡ x → IsOwned (holding_after (Rises w upto) held) uses new
+    by_held None e = owned-agrees held (holding_after (Rises w upto) held) uses new later (λ v. unchanged v (is_actor w v) refl)
       where
         unchanged : (v : Actor) (b : Bool) → is_actor w v ≡ b → held v ≡ (if is_actor w v then option_map (raised_to upto) (held v) else held v)
         unchanged v true t =
             let none : held v ≡ None = subst (λ u. held u ≡ None) (is_actor-true w v t) e in
             rw (t, none)
         unchanged v false t = rw t
-    by_held (Some h) e = owned-agrees (changed held uses new later w (Some (raised_to upto h))) (held_after (Rises w upto) held) uses new
+    by_held (Some h) e = owned-agrees (changed held uses new later w (Some (raised_to upto h))) (holding_after (Rises w upto) held) uses new
         (owned-raised held uses new later w h e upto (keeps.1 h e)) (λ v. same v (is_actor w v) refl)
       where
         same : (v : Actor) (b : Bool) → is_actor w v ≡ b → (if is_actor w v then Some (raised_to upto h) else held v) ≡ (if is_actor w v then option_map (raised_to upto) (held v) else held v)
@@ -262,8 +262,8 @@ owned-after held uses old new (Rises w upto) owned keeps = by_held (held w) refl
 owned-after held uses old new (Draws w n) owned keeps =
     let h : Holding = keeps.1 in
     let e : held w ≡ Some h = keeps.2 in
-    subst (λ us. IsOwned (held_after (Draws w n) held) us new) (ap (λ x. record { epoch = epoch_of x; number = n } ∷ uses) (sym e))
-    (owned-agrees (changed held uses new later w (Some (drawn n h))) (held_after (Draws w n) held) (record { epoch = h.epoch; number = n } ∷ uses) new
+    subst (λ us. IsOwned (holding_after (Draws w n) held) us new) (ap (λ x. record { epoch = epoch_of x; number = n } ∷ uses) (sym e))
+    (owned-agrees (changed held uses new later w (Some (drawn n h))) (holding_after (Draws w n) held) (record { epoch = h.epoch; number = n } ∷ uses) new
     (owned-drawn held uses new later w h e n keeps.3) (λ v. same h e v (is_actor w v) refl))
   where
     later : IsOwned held uses new

@@ -7,10 +7,10 @@ use Rattle.keeper_book.specs.declared.counters.Counter.TheVariants as counter
 use Rattle.keeper_book.specs.declared.records.Record.{Record}
 use Rattle.turn_laws.proofs.Entries.{is_counter-same}
 use Rattle.turn_laws.specs.Places.{Ours, Place, Theirs, is_place, place_of}
-use Rattle.turn_rules.specs.Draws.{child_of, counter_name, kind_of}
+use Rattle.turn_rules.specs.Draws.{child_of, counter_name, counter_kind}
 use Rattle.turn_rules.specs.Slots.{peer_counter}
 
-pub counter-named : (c : Counter) → counter_named (kind_of c) (child_of c) ≡ Some c
+pub counter-named : (c : Counter) → counter_named (counter_kind c) (child_of c) ≡ Some c
 counter-named counter.EspOut = refl
 counter-named counter.EspIn = refl
 counter-named counter.Iv = refl

@@ -16,10 +16,10 @@ use Rattle.turn_laws.proofs.Outcomes.{Idle, Ours_used, Outcome, Over, Theirs_use
 use Rattle.turn_laws.proofs.Records.{deed-of}
 use Rattle.turn_laws.proofs.Runs.{onto-append}
 use Rattle.turn_laws.proofs.Uses.{number_at, uses-use}
-use Rattle.turn_laws.specs.Acts.{Act, Calls, effect_of, effect_ours, effect_theirs, entered_at, held_at, numbers_at, onto, uses_at}
+use Rattle.turn_laws.specs.Acts.{Act, Calls, effect_of, effect_ours, effect_theirs, entered_at, holding_at, numbers_at, acts_onto, uses_at}
 use Rattle.turn_laws.specs.Holdings.{Actor, Draws, Holding, Nothing, Use, uses_after}
 use Rattle.turn_laws.specs.Places.{Ours, Place, Theirs, is_place}
-use Rattle.turn_laws.specs.Turns.{actor_of, acts_of, taken}
+use Rattle.turn_laws.specs.Turns.{actor_of, acts_of, number_taken}
 use Rattle.turn_rules.specs.Held.{covered, granted, number_of, used}
 use Rattle.turn_rules.specs.Local.{Local}
 
@@ -38,9 +38,9 @@ module _ (w : Actor) (held : Actor → Option Holding) (us : List Use) where
   call-uses (Ours spir c) call = ours-uses c (granted spir call.asked (seen call)) (covered spir c call.asked (seen call))
   call-uses (Theirs spir c) call = theirs-uses c (entered_at spir call.asked (seen call))
 
-calls-use : (p : Place) (w : Actor) (calls : List Call) (acts : List Act) → uses_at p (onto w (map Calls calls) acts) ≡ uses_at p acts
+calls-use : (p : Place) (w : Actor) (calls : List Call) (acts : List Act) → uses_at p (acts_onto w (map Calls calls) acts) ≡ uses_at p acts
 calls-use p w [] acts = refl
-calls-use p w (call ∷ calls) acts = calls-use p w calls (record { by = w; move = Calls call } ∷ acts) ∙ call-uses w (held_at p acts) (uses_at p acts) p call
+calls-use p w (call ∷ calls) acts = calls-use p w calls (record { by = w; move = Calls call } ∷ acts) ∙ call-uses w (holding_at p acts) (uses_at p acts) p call
 
 -- the number of a place that a turn used
 abbrev pub spent : {past : List Turn} {event : Event} {calls : List Call} {step : Step} → Place → Outcome past event calls step → Option ℕ
@@ -50,16 +50,16 @@ spent p (Ours_used u it) = number_at p (Ours u.held.sa.spir u.c) u.number
 spent p (Theirs_used u) = number_at p (Theirs u.slot.sa.spir u.c) u.number
 
 module _ (p : Place) (w : Actor) (acts : List Act) (event : Event) (step : Step) where
-  spends-numbers : (q : Place) (n : ℕ) → Spends q n event step → numbers_at p (onto w (rest_of event step) acts) ≡ cons_option (number_at p q n) (numbers_at p acts)
+  spends-numbers : (q : Place) (n : ℕ) → Spends q n event step → numbers_at p (acts_onto w (rest_of event step) acts) ≡ cons_option (number_at p q n) (numbers_at p acts)
   spends-numbers q n spends = ap (λ us. map (λ u. u.number) us) (uses-use p q n w acts (rest_of event step) spends.uses_it) ∙ by_test (is_place q p)
     where
-      by_test : (b : Bool) → map (λ u. u.number) (uses_after (if b then Draws w n else Nothing) (held_at p acts) (uses_at p acts)) ≡ cons_option (if b then Some n else None) (numbers_at p acts)
+      by_test : (b : Bool) → map (λ u. u.number) (uses_after (if b then Draws w n else Nothing) (holding_at p acts) (uses_at p acts)) ≡ cons_option (if b then Some n else None) (numbers_at p acts)
       by_test true = refl
       by_test false = refl
 
-  rest-numbers : {past : List Turn} {calls : List Call} (o : Outcome past event calls step) → numbers_at p (onto w (rest_of event step) acts) ≡ cons_option (spent p o) (numbers_at p acts)
-  rest-numbers (Idle rests) = ap (λ moves. numbers_at p (onto w moves acts)) (rests-rest event step rests)
-  rest-numbers (Over said quiet) = ap (λ moves. numbers_at p (onto w moves acts)) (over-rest event step said quiet)
+  rest-numbers : {past : List Turn} {calls : List Call} (o : Outcome past event calls step) → numbers_at p (acts_onto w (rest_of event step) acts) ≡ cons_option (spent p o) (numbers_at p acts)
+  rest-numbers (Idle rests) = ap (λ moves. numbers_at p (acts_onto w moves acts)) (rests-rest event step rests)
+  rest-numbers (Over said quiet) = ap (λ moves. numbers_at p (acts_onto w moves acts)) (over-rest event step said quiet)
   rest-numbers (Ours_used u it) = spends-numbers (Ours u.held.sa.spir u.c) u.number it.spends
   rest-numbers (Theirs_used u) = spends-numbers (Theirs u.slot.sa.spir u.c) u.number u.spends
 
@@ -67,12 +67,12 @@ module _ (p : Place) (w : Actor) (acts : List Act) (event : Event) (step : Step)
 pub turn-numbers : (p : Place) (past : List Turn) (turn : Turn) (o : Outcome past turn.event turn.calls turn.step) → numbers_at p (acts_of (turn ∷ past)) ≡ cons_option (spent p o) (numbers_at p (acts_of past))
 turn-numbers p past turn o =
     ap (λ acts. numbers_at p acts) (onto-append (actor_of turn) (map Calls turn.calls) (rest_of turn.event turn.step) (acts_of past))
-    ∙ (rest-numbers p (actor_of turn) (onto (actor_of turn) (map Calls turn.calls) (acts_of past)) turn.event turn.step o
+    ∙ (rest-numbers p (actor_of turn) (acts_onto (actor_of turn) (map Calls turn.calls) (acts_of past)) turn.event turn.step o
     ∙ ap (λ us. cons_option (spent p o) (map (λ u. u.number) us)) (calls-use p (actor_of turn) turn.calls (acts_of past)))
 
 -- a counter of which members receive no numbers
 abbrev IsToldUsed : ℕ → Counter → Type 0
-IsToldUsed spir c = (event : Event) (verdict : Verdict) → taken spir c event verdict ≡ used spir c event verdict
+IsToldUsed spir c = (event : Event) (verdict : Verdict) → number_taken spir c event verdict ≡ used spir c event verdict
 
 module _ (spir : ℕ) (c : Counter) (told_used : IsToldUsed spir c) where
   spent-used : (past : List Turn) (event : Event) (calls : List Call) (step : Step) (o : Outcome past event calls step) → spent (Ours spir c) o ≡ used spir c event step.verdict

@@ -16,14 +16,14 @@ use Rattle.turn_laws.proofs.Lists.{all-append, all-both, all-each}
 use Rattle.turn_laws.proofs.Theirs.{told_theirs-held}
 use Rattle.turn_laws.proofs.Unused.{fresh-unused, next-unused}
 use Rattle.turn_laws.proofs.Well.{PeerMayUse}
-use Rattle.turn_laws.specs.Acts.{HoldsFor, held_at}
+use Rattle.turn_laws.specs.Acts.{HoldsFor, holding_at}
 use Rattle.turn_laws.specs.Holdings.{End, Holding}
 use Rattle.turn_laws.specs.Places.{Theirs, start_of}
 use Rattle.turn_laws.specs.Turns.{acts_of}
 use Rattle.turn_rules.proofs.SlotTies.{first-has, records-slots_by}
 use Rattle.turn_rules.proofs.StateLaws.{associations-apart}
 use Rattle.turn_rules.specs.Ends.{Peer, own}
-use Rattle.turn_rules.specs.Held.{first_of, found, greatest, window_by}
+use Rattle.turn_rules.specs.Held.{first_some, found, greatest, window_by}
 use Rattle.turn_rules.specs.Local.{Local}
 use Rattle.turn_rules.specs.Peers.{AreDistinct, Differ, associations_by, entered_in}
 use Rattle.turn_rules.specs.Slots.{Slot, first_slot, since_entered, slot_by, slots_by}
@@ -52,17 +52,17 @@ all-found (turn ∷ past) apart = by_entry (all-found past) (entered_in turn) re
   where
     by_entry : (AreDistinct (associations_by past) → AllByRecursion (λ sa. found (came_in sa.spir) past ≡ Some sa) (associations_by past))
         → (x : Option Record) → entered_in turn ≡ x → AreDistinct (associations_by past ++ option_to_list x)
-        → AllByRecursion (λ sa. first_of (came sa.spir (entered_in turn)) (found (came_in sa.spir) past) ≡ Some sa) (associations_by past ++ option_to_list x)
-    by_entry before None e apart = all-append (λ sa. first_of (came sa.spir (entered_in turn)) (found (came_in sa.spir) past) ≡ Some sa) (associations_by past) []
-        (all-each (associations_by past) (λ sa is. ap (λ (x : Option Record). first_of (came sa.spir x) (found (came_in sa.spir) past)) e ∙ is)
+        → AllByRecursion (λ sa. first_some (came sa.spir (entered_in turn)) (found (came_in sa.spir) past) ≡ Some sa) (associations_by past ++ option_to_list x)
+    by_entry before None e apart = all-append (λ sa. first_some (came sa.spir (entered_in turn)) (found (came_in sa.spir) past) ≡ Some sa) (associations_by past) []
+        (all-each (associations_by past) (λ sa is. ap (λ (x : Option Record). first_some (came sa.spir x) (found (came_in sa.spir) past)) e ∙ is)
         (before (subst (λ list. AreDistinct list) (append-nil (associations_by past)) apart)))
         tt
     by_entry before (Some new) e apart =
         let parts : AreDistinct (associations_by past) × AllByRecursion (λ x. Differ x new) (associations_by past) = apart-before (associations_by past) new apart in
-        all-append (λ sa. first_of (came sa.spir (entered_in turn)) (found (came_in sa.spir) past) ≡ Some sa) (associations_by past) (new ∷ [])
-        (all-both (associations_by past) (λ sa is differ. ap (λ (x : Option Record). first_of (came sa.spir x) (found (came_in sa.spir) past)) e
-        ∙ (ap (λ (x : Option Record). first_of x (found (came_in sa.spir) past)) (came-other sa new differ) ∙ is)) (before parts.0) parts.1)
-        (ap (λ (x : Option Record). first_of (came new.spir x) (found (came_in new.spir) past)) e ∙ ap (λ (x : Option Record). first_of x (found (came_in new.spir) past)) (came-same new), tt)
+        all-append (λ sa. first_some (came sa.spir (entered_in turn)) (found (came_in sa.spir) past) ≡ Some sa) (associations_by past) (new ∷ [])
+        (all-both (associations_by past) (λ sa is differ. ap (λ (x : Option Record). first_some (came sa.spir x) (found (came_in sa.spir) past)) e
+        ∙ (ap (λ (x : Option Record). first_some x (found (came_in sa.spir) past)) (came-other sa new differ) ∙ is)) (before parts.0) parts.1)
+        (ap (λ (x : Option Record). first_some (came new.spir x) (found (came_in new.spir) past)) e ∙ ap (λ (x : Option Record). first_some x (found (came_in new.spir) past)) (came-same new), tt)
 
 slot-among : (size : ℕ) (past : List Turn) (test : Slot → Bool) (slot : Slot) (associations : List Record) → first_slot test (map (slot_by size past) associations) ≡ Some slot → slot ≡ slot_by size past slot.sa
 slot-among size past test slot [] is = absurd (cc)
@@ -91,13 +91,13 @@ module _ (boxes : ℕ) (past : List Turn) (local : Local boxes past) (test : Slo
       (all-found (own Peer past) (associations-apart boxes past local)))
       is
 
-  holds_it : (c : Counter) → held_at (Theirs slot.sa.spir c) (acts_of past) (End Peer) ≡ Some (its_holding c)
+  holds_it : (c : Counter) → holding_at (Theirs slot.sa.spir c) (acts_of past) (End Peer) ≡ Some (its_holding c)
   holds_it c =
       sym (told_theirs-held boxes past local slot.sa.spir c)
       ∙ ap (option_map (λ (sa : Record). record { epoch = 1; base = start_of sa c; high = end_of sa c; end = end_of sa c; numbers = numbers c })) its_association
 
   -- the peer may use the number that it sends next
-  peer-may-send : slot.next < end_of slot.sa counter.EspOut → HoldsFor (held_at (Theirs slot.sa.spir counter.EspOut) (acts_of past) (End Peer)) slot.next
+  peer-may-send : slot.next < end_of slot.sa counter.EspOut → HoldsFor (holding_at (Theirs slot.sa.spir counter.EspOut) (acts_of past) (End Peer)) slot.next
   peer-may-send below =
       let next : slot.next ≡ greatest slot.sa.starts.esp_in (map (λ n. n + 1) (numbers counter.EspOut)) = ap (λ (s : Slot). s.next) (slot-told (window_by past) (own Peer past) test slot is) in
       record {
@@ -111,7 +111,7 @@ module _ (boxes : ℕ) (past : List Turn) (local : Local boxes past) (test : Slo
       }
 
   -- and each number that its window takes
-  peer-may-take : (n : ℕ) → n < end_of slot.sa counter.EspIn → judged slot.window n ≡ judgement.Fresh → HoldsFor (held_at (Theirs slot.sa.spir counter.EspIn) (acts_of past) (End Peer)) n
+  peer-may-take : (n : ℕ) → n < end_of slot.sa counter.EspIn → judged slot.window n ≡ judgement.Fresh → HoldsFor (holding_at (Theirs slot.sa.spir counter.EspIn) (acts_of past) (End Peer)) n
   peer-may-take n below fresh =
       let window = ap (λ (s : Slot). s.window) (slot-told (window_by past) (own Peer past) test slot is) in
       let told : judged (window_of (window_by past) slot.sa.starts.esp_out (numbers counter.EspIn)) n ≡ judgement.Fresh = subst (λ window. judged window n ≡ judgement.Fresh) window fresh in
@@ -128,7 +128,7 @@ module _ (boxes : ℕ) (past : List Turn) (local : Local boxes past) (test : Slo
 -- the peer may use the numbers that are open to it
 pub peer-may : (boxes : ℕ) (past : List Turn) → Local boxes past → PeerMayUse past (acts_of past)
 peer-may boxes past local test slot is_first counter.EspOut n is_open =
-    subst (λ k. HoldsFor (held_at (Theirs slot.sa.spir counter.EspOut) (acts_of past) (End Peer)) k) (sym is_open.0)
+    subst (λ k. HoldsFor (holding_at (Theirs slot.sa.spir counter.EspOut) (acts_of past) (End Peer)) k) (sym is_open.0)
     (peer-may-send boxes past local test slot is_first (subst (λ k. k < end_of slot.sa counter.EspOut) is_open.0 is_open.1))
 peer-may boxes past local test slot is_first counter.EspIn n is_open = peer-may-take boxes past local test slot is_first n is_open.0 is_open.1
 peer-may boxes past local test slot is_first c n is_open = absurd is_open

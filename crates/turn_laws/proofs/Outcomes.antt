@@ -13,7 +13,7 @@ use Rattle.keeper_book.specs.declared.counters.Counter.TheVariants as counter
 use Rattle.turn_laws.proofs.Covers.{ready-calls}
 use Rattle.turn_laws.proofs.Deeds.{Asked, Deed, Ended, IsIdle, MemberUses, PeerUses, Rested, Rests, Used, Used_theirs, UsesIt, rest_of}
 use Rattle.turn_laws.specs.Acts.{Ends}
-use Rattle.turn_laws.specs.Turns.{taken, uses_of}
+use Rattle.turn_laws.specs.Turns.{number_taken, uses_of}
 use Rattle.turn_rules.specs.Draws.{reach_of}
 use Rattle.turn_rules.specs.Datagrams.{Delivery, delivery_of}
 use Rattle.turn_rules.specs.Held.{accepted, received, used, received_in}
@@ -86,7 +86,7 @@ idle-used spir counter.EspOut (event.Draw member asked) verdict idle = drawn-non
 idle-used spir counter.EspOut (event.Send (parties.Member member) asked payload) verdict idle = sent-none spir member asked payload verdict idle
 idle-used spir c event verdict idle = refl
 
-pub idle-taken : (spir : ℕ) (c : Counter) (event : Event) (verdict : Verdict) → IsIdle verdict → taken spir c event verdict ≡ None
+pub idle-taken : (spir : ℕ) (c : Counter) (event : Event) (verdict : Verdict) → IsIdle verdict → number_taken spir c event verdict ≡ None
 idle-taken spir counter.EspIn event verdict idle = idle-received spir event verdict idle
 idle-taken spir counter.EspOut event verdict idle = idle-used spir counter.EspOut event verdict idle
 idle-taken spir c event verdict idle = refl
@@ -110,7 +110,7 @@ over-received spir event = go (delivery_of event)
     go None = refl
     go (Some delivery) = refl
 
-pub over-taken : (spir : ℕ) (c : Counter) (event : Event) → taken spir c event out.Down ≡ None
+pub over-taken : (spir : ℕ) (c : Counter) (event : Event) → number_taken spir c event out.Down ≡ None
 over-taken spir counter.EspIn event = over-received spir event
 over-taken spir counter.EspOut event = over-used spir counter.EspOut event
 over-taken spir c event = refl

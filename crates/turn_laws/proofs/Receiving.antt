@@ -30,14 +30,14 @@ use Rattle.turn_laws.proofs.Members.{member-performs, own-held, stop-of_member}
 use Rattle.turn_laws.proofs.Names.{number-failed, number-passed, place-ours, place-theirs}
 use Rattle.turn_laws.proofs.Uses.{Counts, number_at}
 use Rattle.turn_laws.specs.Places.{Ours, Place, Theirs, place_of}
-use Rattle.turn_laws.specs.Turns.{taken}
+use Rattle.turn_laws.specs.Turns.{number_taken}
 use Rattle.turn_rules.specs.Deliveries.{PeerTakes}
 use Rattle.turn_rules.specs.Draws.{counter_name, reach_of, refusal_of_stop}
 use Rattle.turn_rules.specs.Ends.{Member, Peer, end_of_party, is_refused_by_run, own, performer_of}
 use Rattle.turn_rules.specs.Held.{Held, accepted, held_by, is_of_spir, received, used, window_by}
 use Rattle.turn_rules.specs.MemberPackets.{DropsQuietly, IsReceived, MemberReceives, TakesPacket, inbound_of}
-use Rattle.turn_rules.specs.Packets.{Drops, IsVerdictOf, Opens}
-use Rattle.turn_rules.specs.Peers.{entered}
+use Rattle.turn_rules.specs.Packets.{Drops, IsVerdictOf, OpensEsp}
+use Rattle.turn_rules.specs.Peers.{record_entered}
 use Rattle.turn_rules.specs.Safe.{Packet, accepted_as}
 use Rattle.turn_rules.specs.States.{told_state}
 use Rattle.turn_rules.specs.Slots.{Slot, SlotReceives, SlotTakes, first_slot, peer_counter, receives_at, sent, slot_inbound, slots_by}
@@ -49,7 +49,7 @@ pub record Brings (event : Event) (to : Party) : Type 0 where
   pub receives : (spir : ℕ) (verdict : Verdict) → received spir event verdict ≡ accepted spir verdict
   pub uses_none : (spir : ℕ) (verdict : Verdict) → used spir counter.EspOut event verdict ≡ None
   pub sends_none : (spir : ℕ) (verdict : Verdict) → sent spir event verdict ≡ None
-  pub no_entry : (verdict : Verdict) → entered event verdict ≡ None
+  pub no_entry : (verdict : Verdict) → record_entered event verdict ≡ None
 
 -- what is delivered uses no number of a member but for those that it receives
 delivered-not_ours : (event : Event) (to : Party) → Brings event to → (verdict : Verdict) (spir : ℕ) (d : Counter) → used spir d event verdict ≡ None
@@ -92,7 +92,7 @@ accepted-number sa name n verdict same a other =
 
 module _ (event : Event) (to : Party) (brings : Brings event to) (sa : Record) (n : ℕ) (verdict : Verdict) where
   -- by a member, and by the peer
-  accepted-told : Accepts (counter_name sa counter.EspIn) n verdict → (other : ℕ) (d : Counter) → taken other d event verdict ≡ number_at (Ours other d) (Ours sa.spir counter.EspIn) n
+  accepted-told : Accepts (counter_name sa counter.EspIn) n verdict → (other : ℕ) (d : Counter) → number_taken other d event verdict ≡ number_at (Ours other d) (Ours sa.spir counter.EspIn) n
   accepted-told a other counter.EspOut = brings.uses_none other verdict ∙ number-failed (sa.spir == other) n
   accepted-told a other counter.Iv = number-failed (sa.spir == other) n
   accepted-told a other counter.Ask = number-failed (sa.spir == other) n
@@ -135,7 +135,7 @@ module _ (boxes : ℕ) (past : List Turn) (own_spir : (member spir : ℕ) (held 
       told = accepted-told event (parties.Member member) brings held.sa packet.number step.verdict (took is);
     }
 
-    takes-deed : (octets : List ℕ) → Opens (inbound_of held) octets (Ok packet) after → TakesPacket held (Ok packet) calls answer → Deed past event calls step
+    takes-deed : (octets : List ℕ) → OpensEsp (inbound_of held) octets (Ok packet) after → TakesPacket held (Ok packet) calls answer → Deed past event calls step
     takes-deed octets opens takes = Used (record {
       member = member;
       held = held;
@@ -151,7 +151,7 @@ module _ (boxes : ℕ) (past : List Turn) (own_spir : (member spir : ℕ) (held 
     })
 
   module _ (member : ℕ) (brings : Brings event (parties.Member member)) (octets : List ℕ) where
-    opened-deed : (held : Held) → held_by (window_by past) (own (Member member) past) held.sa.spir ≡ Some held → (opened : Result EspOpened EspDrop) → Opens (inbound_of held) octets opened after → TakesPacket held opened calls answer → Deed past event calls step
+    opened-deed : (held : Held) → held_by (window_by past) (own (Member member) past) held.sa.spir ≡ Some held → (opened : Result EspOpened EspDrop) → OpensEsp (inbound_of held) octets opened after → TakesPacket held opened calls answer → Deed past event calls step
     opened-deed held is_held (Err why) opens takes = Rested takes.0 (dropped-rests step why answer after quiet takes.1 worded) (brings.no_entry step.verdict)
     opened-deed held is_held (Ok packet) opens takes = takes-deed member brings held is_held packet octets opens takes
 
@@ -172,7 +172,7 @@ module _ (boxes : ℕ) (past : List Turn) (own_spir : (member spir : ℕ) (held 
 
 -- the peer receives a packet, by its associations
 module _ (past : List Turn) (event : Event) (brings : Brings event parties.Peer) (octets : List ℕ) (calls : List Call) (step : Step) (takes : PeerTakes (slots_by (window_by past) (own Peer past)) octets calls step) where
-  slot_opened-deed : (slot : Slot) → first_slot (receives_at (spi_of octets)) (slots_by (window_by past) (own Peer past)) ≡ Some slot → (opened : Result EspOpened EspDrop) → Opens (slot_inbound slot) octets opened takes.after → SlotTakes slot opened takes.answer → Deed past event calls step
+  slot_opened-deed : (slot : Slot) → first_slot (receives_at (spi_of octets)) (slots_by (window_by past) (own Peer past)) ≡ Some slot → (opened : Result EspOpened EspDrop) → OpensEsp (slot_inbound slot) octets opened takes.after → SlotTakes slot opened takes.answer → Deed past event calls step
   slot_opened-deed slot is_first (Err why) opens slot_takes = Rested takes.no_calls (dropped-rests step why takes.answer takes.after takes.quiet slot_takes takes.worded) (brings.no_entry step.verdict)
   slot_opened-deed slot is_first (Ok packet) opens slot_takes =
       let took : Accepts (peer_counter slot.sa counter.EspIn) packet.number step.verdict = accepts (peer_counter slot.sa counter.EspIn) packet takes.answer takes.after step.verdict slot_takes takes.worded in

@@ -16,7 +16,7 @@ use Rattle.turn_laws.proofs.Lists.{all-each, all-filter}
 use Rattle.turn_rules.proofs.StateLaws.{does-told}
 use Rattle.turn_rules.specs.Draws.{reach_of}
 use Rattle.turn_rules.specs.Ends.{Member, is_by, own}
-use Rattle.turn_rules.specs.Held.{Held, first_of, found, grant_of, granted, held_by, holding, window_by}
+use Rattle.turn_rules.specs.Held.{Held, first_some, found, grant_of, granted, held_by, holding, window_by}
 use Rattle.turn_rules.specs.Local.{IsExplained, Local}
 
 abbrev pub HaveTheirRecords : List Turn → Type 0
@@ -27,7 +27,7 @@ found-holds : {X Y : Type 0} (P : Y → Type 0) (f : X → Option Y) (xs : List 
 found-holds P f [] y all is = absurd (cc)
 found-holds {X} {Y} P f (x ∷ xs) y all is = go (found-holds P f xs y all.1) (f x) refl is
   where
-    go : (found f xs ≡ Some y → P y) → (o : Option Y) → f x ≡ o → first_of o (found f xs) ≡ Some y → P y
+    go : (found f xs ≡ Some y → P y) → (o : Option Y) → f x ≡ o → first_some o (found f xs) ≡ Some y → P y
     go later None e is = later is
     go later (Some z) e is = all.0 y (e ∙ is)
 

@@ -10,12 +10,12 @@ use Rattle.keeper_book.specs.declared.counters.Counter.{Counter}
 use Rattle.keeper_book.specs.declared.records.Record.{Record}
 use Rattle.keeper_book.specs.declared.records.Taken.{Taken}
 use Rattle.turn_laws.proofs.Holdings.{is_actor-same}
-use Rattle.turn_laws.specs.Acts.{Act, Calls, Ends, MayDoAll, Move, Seals, Uses, begun, effect_of, effect_of_use, effect_ours, effect_theirs, entered_at, held_at, onto}
-use Rattle.turn_laws.specs.Holdings.{Actor, Begins, Draws, Effect, Holding, Nothing, Rises, held_after, is_actor, raised_to}
+use Rattle.turn_laws.specs.Acts.{Act, Calls, Ends, MayDoAll, Move, Seals, Uses, holding_begun, effect_of, effect_of_use, effect_ours, effect_theirs, entered_at, holding_at, acts_onto}
+use Rattle.turn_laws.specs.Holdings.{Actor, Begins, Draws, Effect, Holding, Nothing, Rises, holding_after, is_actor, raised_to}
 use Rattle.turn_laws.specs.Owned.{Lawful, Writes}
 use Rattle.turn_laws.specs.Places.{Ours, Place, Theirs, is_place, place_of}
 use Rattle.turn_rules.specs.Ends.{Member, Peer, Performer, is_performer}
-use Rattle.turn_rules.specs.Held.{covered, covers_in, first_of, grant_in, granted, greatest}
+use Rattle.turn_rules.specs.Held.{covered, covers_in, first_some, grant_in, granted, greatest}
 
 -- an effect changes what one end holds
 abbrev IsBy : Actor → Effect → Type 0
@@ -50,32 +50,32 @@ module _ (w : Actor) where
   by-move p Ends = tt
 
 -- an effect of one end leaves what another one holds
-other-effect : (w v : Actor) → is_actor w v ≡ false → (held : Actor → Option Holding) (e : Effect) → IsBy w e → held_after e held v ≡ held v
+other-effect : (w v : Actor) → is_actor w v ≡ false → (held : Actor → Option Holding) (e : Effect) → IsBy w e → holding_after e held v ≡ held v
 other-effect w v differs held Nothing by = refl
 other-effect w v differs held (Begins u h) by = let no : is_actor u v ≡ false = subst (λ x. is_actor x v ≡ false) (sym by) differs in rw no
 other-effect w v differs held (Rises u n) by = let no : is_actor u v ≡ false = subst (λ x. is_actor x v ≡ false) (sym by) differs in rw no
 other-effect w v differs held (Draws u n) by = let no : is_actor u v ≡ false = subst (λ x. is_actor x v ≡ false) (sym by) differs in rw no
 
 -- moves of one end leave what another one holds
-pub others-hold : (p : Place) (w v : Actor) → is_actor w v ≡ false → (moves : List Move) (acts : List Act) → held_at p (onto w moves acts) v ≡ held_at p acts v
+pub others-hold : (p : Place) (w v : Actor) → is_actor w v ≡ false → (moves : List Move) (acts : List Act) → holding_at p (acts_onto w moves acts) v ≡ holding_at p acts v
 others-hold p w v differs [] acts = refl
 others-hold p w v differs (move ∷ moves) acts =
     others-hold p w v differs moves (record { by = w; move = move } ∷ acts)
-    ∙ other-effect w v differs (held_at p acts) (effect_of p w move) (by-move w p move)
+    ∙ other-effect w v differs (holding_at p acts) (effect_of p w move) (by-move w p move)
 
 -- one list of moves, and then another one
-pub onto-append : (w : Actor) (xs ys : List Move) (acts : List Act) → onto w (xs ++ ys) acts ≡ onto w ys (onto w xs acts)
+pub onto-append : (w : Actor) (xs ys : List Move) (acts : List Act) → acts_onto w (xs ++ ys) acts ≡ acts_onto w ys (acts_onto w xs acts)
 onto-append w [] ys acts = refl
 onto-append w (x ∷ xs) ys acts = onto-append w xs ys (record { by = w; move = x } ∷ acts)
 
-pub may_do-append : (w : Actor) (xs ys : List Move) (acts : List Act) → MayDoAll acts w (xs ++ ys) → MayDoAll acts w xs × MayDoAll (onto w xs acts) w ys
+pub may_do-append : (w : Actor) (xs ys : List Move) (acts : List Act) → MayDoAll acts w (xs ++ ys) → MayDoAll acts w xs × MayDoAll (acts_onto w xs acts) w ys
 may_do-append w [] ys acts may = (tt, may)
 may_do-append w (x ∷ xs) ys acts may =
-    let rest : MayDoAll (record { by = w; move = x } ∷ acts) w xs × MayDoAll (onto w xs (record { by = w; move = x } ∷ acts)) w ys = may_do-append w xs ys (record { by = w; move = x } ∷ acts) may.1 in
+    let rest : MayDoAll (record { by = w; move = x } ∷ acts) w xs × MayDoAll (acts_onto w xs (record { by = w; move = x } ∷ acts)) w ys = may_do-append w xs ys (record { by = w; move = x } ∷ acts) may.1 in
     ((may.0, rest.0), rest.1)
 
 -- the book of the calls
-pub lawful-calls : (w : Actor) (calls : List Call) (acts : List Act) (old new : Book) → Lawful acts old → EntersAll old calls new → MayDoAll acts w (map Calls calls) → Lawful (onto w (map Calls calls) acts) new
+pub lawful-calls : (w : Actor) (calls : List Call) (acts : List Act) (old new : Book) → Lawful acts old → EntersAll old calls new → MayDoAll acts w (map Calls calls) → Lawful (acts_onto w (map Calls calls) acts) new
 lawful-calls w [] acts old new lawful enters may = subst (λ b. Lawful acts b) (sym enters) lawful
 lawful-calls w (call ∷ calls) acts old new lawful enters may =
     lawful-calls w calls (record { by = w; move = Calls call } ∷ acts) enters.0 new (old, lawful, may.0, enters.1) enters.2 may.1
@@ -84,7 +84,7 @@ lawful-calls w (call ∷ calls) acts old new lawful enters may =
 abbrev pub LeavesBook : Move → Type 0
 LeavesBook move = (book : Book) → Writes book move book
 
-pub lawful-quiet : (w : Actor) (moves : List Move) (acts : List Act) (book : Book) → AllByRecursion LeavesBook moves → Lawful acts book → MayDoAll acts w moves → Lawful (onto w moves acts) book
+pub lawful-quiet : (w : Actor) (moves : List Move) (acts : List Act) (book : Book) → AllByRecursion LeavesBook moves → Lawful acts book → MayDoAll acts w moves → Lawful (acts_onto w moves acts) book
 lawful-quiet w [] acts book leaves lawful may = lawful
 lawful-quiet w (move ∷ moves) acts book leaves lawful may =
     lawful-quiet w moves (record { by = w; move = move } ∷ acts) book leaves.1 (book, lawful, may.0, leaves.0 book) may.1
@@ -125,7 +125,7 @@ module _ (spir : ℕ) (c : Counter) (w : Actor) where
   covered_by calls h = record h { high = greatest h.high (covers_in spir c calls) }
 
   -- an answer to a call begins a holding, raises it, or leaves it
-  by_answers : (held : Actor → Option Holding) (grant : Option Taken) (upto : Option ℕ) (x : Option Holding) → held w ≡ x → held_after (effect_ours w c grant upto) held w ≡ first_of (option_map (begun c) grant) (option_map (raised_by upto) x)
+  by_answers : (held : Actor → Option Holding) (grant : Option Taken) (upto : Option ℕ) (x : Option Holding) → held w ≡ x → holding_after (effect_ours w c grant upto) held w ≡ first_some (option_map (holding_begun c) grant) (option_map (raised_by upto) x)
   by_answers held (Some taken) upto x e = let here : is_actor w w ≡ true = is_actor-same w in rw here
   by_answers held None (Some n) x e = let here : is_actor w w ≡ true = is_actor-same w in rw (here, e)
   by_answers held None None None e = e
@@ -139,19 +139,19 @@ module _ (spir : ℕ) (c : Counter) (w : Actor) where
       go None = refl
       go (Some n) = refl
 
-  granted_once : (call : Call) → option_map (begun c) (granted spir call.asked (seen call)) ≡ option_map (begun c) (grant_in spir (call ∷ []))
+  granted_once : (call : Call) → option_map (holding_begun c) (granted spir call.asked (seen call)) ≡ option_map (holding_begun c) (grant_in spir (call ∷ []))
   granted_once call = go (granted spir call.asked (seen call))
     where
-      go : (grant : Option Taken) → option_map (begun c) grant ≡ option_map (begun c) (first_of grant None)
+      go : (grant : Option Taken) → option_map (holding_begun c) grant ≡ option_map (holding_begun c) (first_some grant None)
       go None = refl
       go (Some taken) = refl
 
   -- what one call leaves
-  pub held-call : (call : Call) (acts : List Act) → held_at (Ours spir c) (record { by = w; move = Calls call } ∷ acts) w ≡ first_of (option_map (begun c) (grant_in spir (call ∷ []))) (option_map (covered_by (call ∷ [])) (held_at (Ours spir c) acts w))
+  pub held-call : (call : Call) (acts : List Act) → holding_at (Ours spir c) (record { by = w; move = Calls call } ∷ acts) w ≡ first_some (option_map (holding_begun c) (grant_in spir (call ∷ []))) (option_map (covered_by (call ∷ [])) (holding_at (Ours spir c) acts w))
   held-call call acts =
-      by_answers (held_at (Ours spir c) acts) (granted spir call.asked (seen call)) (covered spir c call.asked (seen call)) (held_at (Ours spir c) acts w) refl
-      ∙ (ap (λ g. first_of g (option_map (raised_by (covered spir c call.asked (seen call))) (held_at (Ours spir c) acts w))) (granted_once call)
-      ∙ ap (first_of (option_map (begun c) (grant_in spir (call ∷ [])))) (raised_once call (held_at (Ours spir c) acts w)))
+      by_answers (holding_at (Ours spir c) acts) (granted spir call.asked (seen call)) (covered spir c call.asked (seen call)) (holding_at (Ours spir c) acts w) refl
+      ∙ (ap (λ g. first_some g (option_map (raised_by (covered spir c call.asked (seen call))) (holding_at (Ours spir c) acts w))) (granted_once call)
+      ∙ ap (first_some (option_map (holding_begun c) (grant_in spir (call ∷ [])))) (raised_once call (holding_at (Ours spir c) acts w)))
 
   covered_more : (call : Call) (calls : List Call) (x : Option Holding) → option_map (covered_by calls) (option_map (raised_by (covered spir c call.asked (seen call))) x) ≡ option_map (covered_by (call ∷ calls)) x
   covered_more call calls None = refl
@@ -162,8 +162,8 @@ module _ (spir : ℕ) (c : Counter) (w : Actor) where
       go (Some n) = ap (λ high. Some (record h { high = high })) (greatest-max n h.high (covers_in spir c calls))
 
   -- calls that grant nothing leave a holding that their covers raise
-  pub held-covers : (calls : List Call) (acts : List Act) → AllByRecursion (λ call. granted spir call.asked (seen call) ≡ None) calls → held_at (Ours spir c) (onto w (map Calls calls) acts) w ≡ option_map (covered_by calls) (held_at (Ours spir c) acts w)
-  held-covers [] acts none = go (held_at (Ours spir c) acts w)
+  pub held-covers : (calls : List Call) (acts : List Act) → AllByRecursion (λ call. granted spir call.asked (seen call) ≡ None) calls → holding_at (Ours spir c) (acts_onto w (map Calls calls) acts) w ≡ option_map (covered_by calls) (holding_at (Ours spir c) acts w)
+  held-covers [] acts none = go (holding_at (Ours spir c) acts w)
     where
       go : (x : Option Holding) → x ≡ option_map (covered_by []) x
       go None = refl
@@ -171,6 +171,6 @@ module _ (spir : ℕ) (c : Counter) (w : Actor) where
   held-covers (call ∷ calls) acts none =
       held-covers calls (record { by = w; move = Calls call } ∷ acts) none.1
       ∙ (ap (option_map (covered_by calls))
-      (by_answers (held_at (Ours spir c) acts) (granted spir call.asked (seen call)) (covered spir c call.asked (seen call)) (held_at (Ours spir c) acts w) refl
-      ∙ ap (λ g. first_of (option_map (begun c) g) (option_map (raised_by (covered spir c call.asked (seen call))) (held_at (Ours spir c) acts w))) none.0)
-      ∙ covered_more call calls (held_at (Ours spir c) acts w))
+      (by_answers (holding_at (Ours spir c) acts) (granted spir call.asked (seen call)) (covered spir c call.asked (seen call)) (holding_at (Ours spir c) acts w) refl
+      ∙ ap (λ g. first_some (option_map (holding_begun c) g) (option_map (raised_by (covered spir c call.asked (seen call))) (holding_at (Ours spir c) acts w))) none.0)
+      ∙ covered_more call calls (holding_at (Ours spir c) acts w))

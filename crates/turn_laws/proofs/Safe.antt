@@ -12,7 +12,7 @@ use Rattle.turn_laws.proofs.Outcomes.{outcome-of, outcome-served}
 use Rattle.turn_laws.proofs.Records.{deed-of}
 use Rattle.turn_laws.proofs.Runs.{others-hold}
 use Rattle.turn_laws.proofs.Sealed.{no-nonce-reuse}
-use Rattle.turn_laws.specs.Acts.{Act, Move, held_at, onto}
+use Rattle.turn_laws.specs.Acts.{Act, Move, holding_at, acts_onto}
 use Rattle.turn_laws.specs.Holdings.{Actor, is_actor}
 use Rattle.turn_laws.specs.Places.{Place}
 use Rattle.turn_rules.specs.Local.{Local, Stands}
@@ -43,9 +43,9 @@ safe-run boxes past book local stands accepted = record {
 }
 
 -- moves of one end leave what every other one holds
-pub others-differ : (p : Place) (w v : Actor) → w ≢ v → (moves : List Move) (acts : List Act) → held_at p (onto w moves acts) v ≡ held_at p acts v
+pub others-differ : (p : Place) (w v : Actor) → w ≢ v → (moves : List Move) (acts : List Act) → holding_at p (acts_onto w moves acts) v ≡ holding_at p acts v
 others-differ p w v differs moves acts = by_test (is_actor w v) refl
   where
-    by_test : (b : Bool) → is_actor w v ≡ b → held_at p (onto w moves acts) v ≡ held_at p acts v
+    by_test : (b : Bool) → is_actor w v ≡ b → holding_at p (acts_onto w moves acts) v ≡ holding_at p acts v
     by_test true t = absurd (differs (is_actor-true w v t))
     by_test false t = others-hold p w v t moves acts

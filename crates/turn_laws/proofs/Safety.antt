@@ -18,8 +18,8 @@ use Rattle.turn_laws.proofs.Books.{ShowsCovered, answers-entry, column-goes_on, 
 use Rattle.turn_laws.proofs.Columns.{goes_on-refl, rising-none}
 use Rattle.turn_laws.proofs.Entries.{entry_after, entry-entered, is_counter-true}
 use Rattle.turn_laws.proofs.Holdings.{Keeps, owned-after}
-use Rattle.turn_laws.specs.Acts.{Act, Calls, Ends, HoldsFor, MayAsk, MayCover, MayDo, Move, Seals, Uses, begun_theirs, effect_of, effect_of_call, effect_of_use, held_at, uses_at}
-use Rattle.turn_laws.specs.Columns.{GoesOn, IsRising, mark, nothing}
+use Rattle.turn_laws.specs.Acts.{Act, Calls, Ends, HoldsFor, MayAsk, MayCover, MayDo, Move, Seals, Uses, begun_theirs, effect_of, effect_of_call, effect_of_use, holding_at, uses_at}
+use Rattle.turn_laws.specs.Columns.{ColumnGoesOn, IsRising, column_mark, nothing}
 use Rattle.turn_laws.specs.Holdings.{Actor, Draws, Holding, IsNew, IsOwned, Nothing}
 use Rattle.turn_laws.specs.Owned.{Lawful, Owned, Writes}
 use Rattle.turn_laws.specs.Places.{Ours, Place, Theirs, column, is_place, place_of}
@@ -40,47 +40,47 @@ named-counter c None e = absurd (cc)
 named-counter c (Some d) e = ap Some (sym (is_counter-true c d e))
 
 module _ (acts : List Act) (old new : Book) (w : Actor) where
-  module _ (rising : (p : Place) → IsRising (column p old)) (ends : (p : Place) (h : Holding) → held_at p acts w ≡ Some h → h.end ≡ (column p old).end) where
+  module _ (rising : (p : Place) → IsRising (column p old)) (ends : (p : Place) (h : Holding) → holding_at p acts w ≡ Some h → h.end ≡ (column p old).end) where
     -- what a call that was answered so does at a place
-    keeps-answered : (p : Place) (asked : KeeperAsk) (answered : KeeperAnswer) → MayAsk acts w asked → Answers old asked answered new → Keeps (effect_of_call p w asked answered) (held_at p acts) (column p old) (column p new)
+    keeps-answered : (p : Place) (asked : KeeperAsk) (answered : KeeperAnswer) → MayAsk acts w asked → Answers old asked answered new → Keeps (effect_of_call p w asked answered) (holding_at p acts) (column p old) (column p new)
     keeps-answered (Ours spir c) (ask.TakeOver asked member) (answer.Taken taken) may a = by_test (asked == spir) refl
       where
-        goes : GoesOn (column (Ours spir c) old) (column (Ours spir c) new)
+        goes : ColumnGoesOn (column (Ours spir c) old) (column (Ours spir c) new)
         goes = column-goes_on old new (ask.TakeOver asked member) (answer.Taken taken) a (Ours spir c) (rising (Ours spir c))
 
-        by_test : (b : Bool) → (asked == spir) ≡ b → Keeps (effect_of_call (Ours spir c) w (ask.TakeOver asked member) (answer.Taken taken)) (held_at (Ours spir c) acts) (column (Ours spir c) old) (column (Ours spir c) new)
-        by_test true t = rw t (goes, keeps-taken old new (held_at (Ours spir c) acts) w spir c member taken (subst (λ n. Answers old (ask.TakeOver n member) (answer.Taken taken) new) (eqb-true asked spir t) a))
+        by_test : (b : Bool) → (asked == spir) ≡ b → Keeps (effect_of_call (Ours spir c) w (ask.TakeOver asked member) (answer.Taken taken)) (holding_at (Ours spir c) acts) (column (Ours spir c) old) (column (Ours spir c) new)
+        by_test true t = rw t (goes, keeps-taken old new (holding_at (Ours spir c) acts) w spir c member taken (subst (λ n. Answers old (ask.TakeOver n member) (answer.Taken taken) new) (eqb-true asked spir t) a))
         by_test false t = rw t goes
     keeps-answered (Ours spir c) (ask.Cover asked kind child epoch upto) answer.Done may a = by_test ((asked == spir) && is_named c (counter_named kind child)) refl
       where
-        goes : GoesOn (column (Ours spir c) old) (column (Ours spir c) new)
+        goes : ColumnGoesOn (column (Ours spir c) old) (column (Ours spir c) new)
         goes = column-goes_on old new (ask.Cover asked kind child epoch upto) answer.Done a (Ours spir c) (rising (Ours spir c))
 
-        raises : (asked == spir) ≡ true → is_named c (counter_named kind child) ≡ true → (h : Holding) → held_at (Ours spir c) acts w ≡ Some h → upto ≤ mark (column (Ours spir c) new) h.epoch
+        raises : (asked == spir) ≡ true → is_named c (counter_named kind child) ≡ true → (h : Holding) → holding_at (Ours spir c) acts w ≡ Some h → upto ≤ column_mark (column (Ours spir c) new) h.epoch
         raises t named h holds =
             let same : asked ≡ spir = eqb-true asked spir t in
             let is : counter_named kind child ≡ Some c = named-counter c (counter_named kind child) named in
-            let cover : MayCover (held_at (Ours spir c) acts w) epoch upto =
-            subst (λ n. MayCover (held_at (Ours n c) acts w) epoch upto) same
-            (subst (λ o. MatchOption o ⊥ (λ d. MayCover (held_at (Ours asked d) acts w) epoch upto)) is may) in
+            let cover : MayCover (holding_at (Ours spir c) acts w) epoch upto =
+            subst (λ n. MayCover (holding_at (Ours n c) acts w) epoch upto) same
+            (subst (λ o. MatchOption o ⊥ (λ d. MayCover (holding_at (Ours asked d) acts w) epoch upto)) is may) in
             let held : h ≡ cover.holding = same_Some h cover.holding (sym holds ∙ cover.holds) in
             let at : h.epoch ≡ epoch = ap (λ (x : Holding). x.epoch) held ∙ cover.in_epoch in
-            subst (λ e. upto ≤ mark (column (Ours spir c) new) e) (sym at)
-            (keeps-covered old new (held_at (Ours spir c) acts) w spir c (ask.Cover asked kind child epoch upto) (counter_named kind child) epoch upto
+            subst (λ e. upto ≤ column_mark (column (Ours spir c) new) e) (sym at)
+            (keeps-covered old new (holding_at (Ours spir c) acts) w spir c (ask.Cover asked kind child epoch upto) (counter_named kind child) epoch upto
             (ap (λ n. cover_refusal (entry_of n old.entries) (counter_named kind child) epoch) same) is
             (ap (λ b. if b then option_map (raised_at (counter_named kind child) upto) (entry_of spir old.entries) else entry_of spir old.entries) t)
             (subst (λ n. upto ≤ n) (ends (Ours spir c) cover.holding cover.holds) cover.within_end) a.0 a.1)
 
-        by_test : (b : Bool) → ((asked == spir) && is_named c (counter_named kind child)) ≡ b → Keeps (effect_of_call (Ours spir c) w (ask.Cover asked kind child epoch upto) answer.Done) (held_at (Ours spir c) acts) (column (Ours spir c) old) (column (Ours spir c) new)
+        by_test : (b : Bool) → ((asked == spir) && is_named c (counter_named kind child)) ≡ b → Keeps (effect_of_call (Ours spir c) w (ask.Cover asked kind child epoch upto) answer.Done) (holding_at (Ours spir c) acts) (column (Ours spir c) old) (column (Ours spir c) new)
         by_test true t = rw t (goes, raises (and_parts (asked == spir) (is_named c (counter_named kind child)) t).0 (and_parts (asked == spir) (is_named c (counter_named kind child)) t).1)
         by_test false t = rw t goes
     keeps-answered (Theirs spir c) (ask.Enter sa) answer.Done may a = by_test (sa.spir == spir) refl
       where
-        goes : GoesOn (column (Theirs spir c) old) (column (Theirs spir c) new)
+        goes : ColumnGoesOn (column (Theirs spir c) old) (column (Theirs spir c) new)
         goes = column-goes_on old new (ask.Enter sa) answer.Done a (Theirs spir c) (rising (Theirs spir c))
 
-        by_test : (b : Bool) → (sa.spir == spir) ≡ b → Keeps (effect_of_call (Theirs spir c) w (ask.Enter sa) answer.Done) (held_at (Theirs spir c) acts) (column (Theirs spir c) old) (column (Theirs spir c) new)
-        by_test true t = rw t (goes, subst (λ n. IsNew (column (Theirs n c) old) (column (Theirs n c) new) (begun_theirs c sa)) (eqb-true sa.spir spir t) (keeps-entered old new (held_at (Theirs spir c) acts) w sa c a))
+        by_test : (b : Bool) → (sa.spir == spir) ≡ b → Keeps (effect_of_call (Theirs spir c) w (ask.Enter sa) answer.Done) (holding_at (Theirs spir c) acts) (column (Theirs spir c) old) (column (Theirs spir c) new)
+        by_test true t = rw t (goes, subst (λ n. IsNew (column (Theirs n c) old) (column (Theirs n c) new) (begun_theirs c sa)) (eqb-true sa.spir spir t) (keeps-entered old new (holding_at (Theirs spir c) acts) w sa c a))
         by_test false t = rw t goes
     keeps-answered p asked answered may a = column-goes_on old new asked answered a p (rising p)
 
@@ -93,33 +93,33 @@ module _ (acts : List Act) (old new : Book) (w : Actor) where
     failed_effect (Theirs spir c) (ask.TakeOver asked member) why = refl
     failed_effect (Theirs spir c) (ask.Cover asked kind child epoch upto) why = refl
 
-    keeps-call : (p : Place) (call : Call) → MayAsk acts w call.asked → Enters old call new → Keeps (effect_of p w (Calls call)) (held_at p acts) (column p old) (column p new)
+    keeps-call : (p : Place) (call : Call) → MayAsk acts w call.asked → Enters old call new → Keeps (effect_of p w (Calls call)) (holding_at p acts) (column p old) (column p new)
     keeps-call p call may enters = by_test call.hidden refl
       where
-        by_test : (b : Bool) → call.hidden ≡ b → Keeps (effect_of_call p w call.asked (seen call)) (held_at p acts) (column p old) (column p new)
-        by_test true t = rw t (subst (λ e. Keeps e (held_at p acts) (column p old) (column p new)) (failed_effect p call.asked fault.Failed) (column-goes_on old new call.asked call.answer enters p (rising p)))
+        by_test : (b : Bool) → call.hidden ≡ b → Keeps (effect_of_call p w call.asked (seen call)) (holding_at p acts) (column p old) (column p new)
+        by_test true t = rw t (subst (λ e. Keeps e (holding_at p acts) (column p old) (column p new)) (failed_effect p call.asked fault.Failed) (column-goes_on old new call.asked call.answer enters p (rising p)))
         by_test false t = rw t (keeps-answered p call.asked call.answer may enters)
 
   -- a number is used at a place, and at no other
-  keeps-use : (p q : Place) (n : ℕ) → HoldsFor (held_at q acts w) n → GoesOn (column p old) (column p new) → Keeps (effect_of_use p (Some q) w n) (held_at p acts) (column p old) (column p new)
+  keeps-use : (p q : Place) (n : ℕ) → HoldsFor (holding_at q acts w) n → ColumnGoesOn (column p old) (column p new) → Keeps (effect_of_use p (Some q) w n) (holding_at p acts) (column p old) (column p new)
   keeps-use p q n may goes = by_test (is_place q p) refl
     where
-      by_test : (b : Bool) → is_place q p ≡ b → Keeps (if is_place q p then Draws w n else Nothing) (held_at p acts) (column p old) (column p new)
+      by_test : (b : Bool) → is_place q p ≡ b → Keeps (if is_place q p then Draws w n else Nothing) (holding_at p acts) (column p old) (column p new)
       by_test true t =
-          let here : HoldsFor (held_at p acts w) n = subst (λ x. HoldsFor (held_at x acts w) n) (is_place-true q p t) may in
+          let here : HoldsFor (holding_at p acts w) n = subst (λ x. HoldsFor (holding_at x acts w) n) (is_place-true q p t) may in
           rw t (goes, here.holding, here.holds, here.may)
       by_test false t = rw t goes
 
-  keeps-seal : (p : Place) (place : Option Place) (n : ℕ) → MatchOption place ⊥ (λ q. HoldsFor (held_at q acts w) n) → GoesOn (column p old) (column p new) → Keeps (effect_of_use p place w n) (held_at p acts) (column p old) (column p new)
+  keeps-seal : (p : Place) (place : Option Place) (n : ℕ) → MatchOption place ⊥ (λ q. HoldsFor (holding_at q acts w) n) → ColumnGoesOn (column p old) (column p new) → Keeps (effect_of_use p place w n) (holding_at p acts) (column p old) (column p new)
   keeps-seal p None n may goes = goes
   keeps-seal p (Some q) n may goes = keeps-use p q n may goes
 
   module _ (owned : Owned acts old) where
-    still : (p : Place) → new ≡ old → GoesOn (column p old) (column p new)
-    still p same = subst (λ b. GoesOn (column p old) (column p b)) (sym same) (goes_on-refl (column p old) (owned.numbers p).rising)
+    still : (p : Place) → new ≡ old → ColumnGoesOn (column p old) (column p new)
+    still p same = subst (λ b. ColumnGoesOn (column p old) (column p b)) (sym same) (goes_on-refl (column p old) (owned.numbers p).rising)
 
     -- what a move does at a place
-    pub keeps-move : (p : Place) (move : Move) → MayDo acts w move → Writes old move new → Keeps (effect_of p w move) (held_at p acts) (column p old) (column p new)
+    pub keeps-move : (p : Place) (move : Move) → MayDo acts w move → Writes old move new → Keeps (effect_of p w move) (holding_at p acts) (column p old) (column p new)
     keeps-move p (Calls call) may writes = keeps-call (λ q. (owned.numbers q).rising) (λ q h holds. ((owned.numbers q).holdings w h holds).end) p call may writes
     keeps-move p (Uses q n) may writes = keeps-use p q n may (still p writes)
     keeps-move p (Seals key) may writes = keeps-seal p (place_of key.name) key.iv may (still p writes)
@@ -149,7 +149,7 @@ module _ (acts : List Act) (old new : Book) (w : Actor) where
         no_epoch : asked ≡ spir → (f : Entry) → entry_of spir old.entries ≡ Some f → f.bases ≡ [] → ⊥
         no_epoch same f found none = go (shows-covered (entry_of asked old.entries) (counter_named kind child) epoch granted) (counter_named kind child) may
           where
-            go : ShowsCovered (entry_of asked old.entries) (counter_named kind child) epoch → (named : Option Counter) → MatchOption named ⊥ (λ c. MayCover (held_at (Ours asked c) acts w) epoch upto) → ⊥
+            go : ShowsCovered (entry_of asked old.entries) (counter_named kind child) epoch → (named : Option Counter) → MatchOption named ⊥ (λ c. MayCover (holding_at (Ours asked c) acts w) epoch upto) → ⊥
             go shows None may = may
             go shows (Some c) may =
                 let some : 1 ≤ may.holding.epoch = ((owned.numbers (Ours asked c)).holdings w may.holding may.holds).some in
@@ -187,7 +187,7 @@ module _ (acts : List Act) (old new : Book) (w : Actor) where
     -- one move more
     pub owned-move : (move : Move) → MayDo acts w move → Writes old move new → Owned (record { by = w; move = move } ∷ acts) new
     owned-move move may writes = record {
-      numbers = λ p. owned-after (held_at p acts) (uses_at p acts) (column p old) (column p new) (effect_of p w move) (owned.numbers p) (keeps-move p move may writes);
+      numbers = λ p. owned-after (holding_at p acts) (uses_at p acts) (column p old) (column p new) (effect_of p w move) (owned.numbers p) (keeps-move p move may writes);
       starts = starts-move move may writes;
     }
 
@@ -205,7 +205,7 @@ owned-none held none = record {
 pub owned-empty : Owned [] empty
 owned-empty = record { numbers = numbers; starts = λ spir e found none. absurd (cc) }
   where
-    numbers : (p : Place) → IsOwned (held_at p []) (uses_at p []) (column p empty)
+    numbers : (p : Place) → IsOwned (holding_at p []) (uses_at p []) (column p empty)
     numbers (Ours spir c) = owned-none (λ w. None) (λ w. refl)
     numbers (Theirs spir c) = owned-none (λ w. None) (λ w. refl)
 

@@ -10,7 +10,7 @@ use Rattle.turn_laws.proofs.Lists.{all-each}
 use Rattle.turn_laws.proofs.Moves.{IsUseOrEnd, are-uses}
 use Rattle.turn_laws.proofs.Names.{is_place-same}
 use Rattle.turn_laws.proofs.Safety.{owned-lawful}
-use Rattle.turn_laws.specs.Acts.{Act, Calls, Ends, HoldsFor, MayDo, Move, Seals, Uses, effect_of, effect_of_use, held_at, numbers_at, onto, uses_at}
+use Rattle.turn_laws.specs.Acts.{Act, Calls, Ends, HoldsFor, MayDo, Move, Seals, Uses, effect_of, effect_of_use, holding_at, numbers_at, acts_onto, uses_at}
 use Rattle.turn_laws.specs.Holdings.{Actor, Begins, Draws, Effect, Holding, IsNotIn, Nothing, Rises, Use, uses_after}
 use Rattle.turn_laws.specs.Owned.{Lawful, Owned}
 use Rattle.turn_laws.specs.Places.{Place, is_place, place_of}
@@ -47,10 +47,10 @@ module _ (p : Place) (n : ℕ) where
 
   pub not-sealed : (acts : List Act) → IsNotIn n (numbers_at p acts) → AllByRecursion IsOther (sealed_in acts)
   not-sealed [] none = tt
-  not-sealed (act ∷ acts) none = by_move act.move none (not-sealed acts (fewer (effect_of p act.by act.move) (held_at p acts) (uses_at p acts) none))
+  not-sealed (act ∷ acts) none = by_move act.move none (not-sealed acts (fewer (effect_of p act.by act.move) (holding_at p acts) (uses_at p acts) none))
     where
-      by_move : (move : Move) → IsNotIn n (map (λ u. u.number) (uses_after (effect_of p act.by move) (held_at p acts) (uses_at p acts))) → AllByRecursion IsOther (sealed_in acts) → AllByRecursion IsOther (sealed_by move (sealed_in acts))
-      by_move (Seals key) none rest = (seal-used act.by key (held_at p acts) (uses_at p acts) none, rest)
+      by_move : (move : Move) → IsNotIn n (map (λ u. u.number) (uses_after (effect_of p act.by move) (holding_at p acts) (uses_at p acts))) → AllByRecursion IsOther (sealed_in acts) → AllByRecursion IsOther (sealed_by move (sealed_in acts))
+      by_move (Seals key) none rest = (seal-used act.by key (holding_at p acts) (uses_at p acts) none, rest)
       by_move move none rest = rest
 
 -- no key and IV stands twice among the seals of acts, each of which may come after those before it
@@ -67,14 +67,14 @@ sealed-once (act ∷ acts) book lawful = by_move act.move refl (sealed-once acts
     by_move Ends is rest = rest
     by_move (Seals key) is rest = (new-key key (place_of key.name) refl (subst (λ move. MayDo acts act.by move) is lawful.2) is, rest)
       where
-        new-key : (key : KeyIv) (q : Option Place) → place_of key.name ≡ q → MatchOption (place_of key.name) ⊥ (λ p. HoldsFor (held_at p acts act.by) key.iv) → act.move ≡ Seals key → AllByRecursion (λ y. y ≢ key) (sealed_in acts)
+        new-key : (key : KeyIv) (q : Option Place) → place_of key.name ≡ q → MatchOption (place_of key.name) ⊥ (λ p. HoldsFor (holding_at p acts act.by) key.iv) → act.move ≡ Seals key → AllByRecursion (λ y. y ≢ key) (sealed_in acts)
         new-key key None e may is = absurd (rw e at may)
         new-key key (Some p) e may is =
             let here : is_place p p ≡ true = is_place-same p in
             let effect : effect_of p act.by act.move ≡ Draws act.by key.iv =
             ap (effect_of p act.by) is ∙ (ap (λ q. effect_of_use p q act.by key.iv) e ∙ ap (λ b. if b then Draws act.by key.iv else Nothing) here) in
-            let once : IsEachOnce (map (λ u. u.number) (uses_after (Draws act.by key.iv) (held_at p acts) (uses_at p acts))) =
-            subst (λ x. IsEachOnce (map (λ u. u.number) (uses_after x (held_at p acts) (uses_at p acts)))) effect (owned.numbers p).once in
+            let once : IsEachOnce (map (λ u. u.number) (uses_after (Draws act.by key.iv) (holding_at p acts) (uses_at p acts))) =
+            subst (λ x. IsEachOnce (map (λ u. u.number) (uses_after x (holding_at p acts) (uses_at p acts)))) effect (owned.numbers p).once in
             all-each (sealed_in acts)
             (λ y other same. other (ap (λ (k : KeyIv). place_of k.name) same ∙ e) (ap (λ (k : KeyIv). k.iv) same))
             (not-sealed p key.iv acts once.0)
@@ -101,11 +101,11 @@ each_once-in {X} (x ∷ xs) y ys once = (all-in (λ z. z ≢ x) xs once.1.0 (λ 
 
 -- what was sealed before some moves
 module _ (w : Actor) where
-  sealed-calls : (calls : List Call) (rest : List Move) (acts : List Act) → (now : List Act) × (onto w (map Calls calls ++ rest) acts ≡ onto w rest now) × (sealed_in now ≡ sealed_in acts)
+  sealed-calls : (calls : List Call) (rest : List Move) (acts : List Act) → (now : List Act) × (acts_onto w (map Calls calls ++ rest) acts ≡ acts_onto w rest now) × (sealed_in now ≡ sealed_in acts)
   sealed-calls [] rest acts = (acts, refl, refl)
   sealed-calls (call ∷ calls) rest acts = sealed-calls calls rest (record { by = w; move = Calls call } ∷ acts)
 
-  sealed-uses : (moves : List Move) → AllByRecursion IsUseOrEnd moves → (rest : List Move) (acts : List Act) → (now : List Act) × (onto w (moves ++ rest) acts ≡ onto w rest now) × (sealed_in now ≡ sealed_in acts)
+  sealed-uses : (moves : List Move) → AllByRecursion IsUseOrEnd moves → (rest : List Move) (acts : List Act) → (now : List Act) × (acts_onto w (moves ++ rest) acts ≡ acts_onto w rest now) × (sealed_in now ≡ sealed_in acts)
   sealed-uses [] uses rest acts = (acts, refl, refl)
   sealed-uses (Calls call ∷ moves) uses rest acts = absurd uses.0
   sealed-uses (Uses place n ∷ moves) uses rest acts = sealed-uses moves uses.1 rest (record { by = w; move = Uses place n } ∷ acts)
@@ -113,7 +113,7 @@ module _ (w : Actor) where
   sealed-uses (Ends ∷ moves) uses rest acts = sealed-uses moves uses.1 rest (record { by = w; move = Ends } ∷ acts)
 
   -- seals of a turn stand before those of earlier turns
-  sealed-seals : (seals : List Seal) (before : List KeyIv) (acts : List Act) → IsEachOnce (before ++ sealed_in (onto w (map (λ seal. Seals (key_iv seal)) seals) acts)) → IsEachOnce ((before ++ map key_iv seals) ++ sealed_in acts)
+  sealed-seals : (seals : List Seal) (before : List KeyIv) (acts : List Act) → IsEachOnce (before ++ sealed_in (acts_onto w (map (λ seal. Seals (key_iv seal)) seals) acts)) → IsEachOnce ((before ++ map key_iv seals) ++ sealed_in acts)
   sealed-seals [] before acts once = subst (λ ks. IsEachOnce (ks ++ sealed_in acts)) (sym (append-nil before)) once
   sealed-seals (seal ∷ seals) before acts once =
       let rest : IsEachOnce ((before ++ map key_iv seals) ++ (key_iv seal ∷ sealed_in acts)) = sealed-seals seals before (record { by = w; move = Seals (key_iv seal) } ∷ acts) once in
@@ -130,7 +130,7 @@ key_ivs-once (turn ∷ past) before once =
     let seals : List Move = map (λ seal. Seals (key_iv seal)) turn.step.seals in
     let one = sealed-calls w turn.calls (uses_of turn.event turn.step.verdict ++ seals) (acts_of past) in
     let two = sealed-uses w (uses_of turn.event turn.step.verdict) (are-uses turn.event turn.step.verdict) seals one.0 in
-    let moved : IsEachOnce (before ++ sealed_in (onto w seals two.0)) = subst (λ acts. IsEachOnce (before ++ sealed_in acts)) (one.1 ∙ two.1) once in
+    let moved : IsEachOnce (before ++ sealed_in (acts_onto w seals two.0)) = subst (λ acts. IsEachOnce (before ++ sealed_in acts)) (one.1 ∙ two.1) once in
     let apart : IsEachOnce ((before ++ map key_iv turn.step.seals) ++ sealed_in (acts_of past)) =
     subst (λ ks. IsEachOnce ((before ++ map key_iv turn.step.seals) ++ ks)) (two.2 ∙ one.2) (sealed-seals w turn.step.seals before two.0 moved) in
     subst (λ ks. IsEachOnce ks) (append_assoc before (map key_iv turn.step.seals) (key_ivs past))

@@ -23,19 +23,19 @@ use Rattle.turn_laws.proofs.Members.{member-performs, stop-of_member}
 use Rattle.turn_laws.proofs.Names.{number-failed, number-passed, place-ours, place-theirs}
 use Rattle.turn_laws.proofs.Uses.{Seals_it, number_at}
 use Rattle.turn_laws.specs.Places.{Ours, Place, Theirs, place_of}
-use Rattle.turn_laws.specs.Turns.{key_iv, taken}
+use Rattle.turn_laws.specs.Turns.{key_iv, number_taken}
 use Rattle.turn_rules.proofs.SlotTies.{first-passes}
 use Rattle.turn_rules.specs.Draws.{reach_of, refusal_of_stop}
 use Rattle.turn_rules.specs.Ends.{Member, Peer, is_refused_by_run, own}
 use Rattle.turn_rules.specs.Held.{Held, held_by, used, window_by}
 use Rattle.turn_rules.specs.MemberPackets.{SendsData, outbound_of}
-use Rattle.turn_rules.specs.Packets.{Outbound, Sends}
+use Rattle.turn_rules.specs.Packets.{Outbound, SendsEsp}
 use Rattle.turn_rules.specs.Safe.{Packet, accepted_as}
 use Rattle.turn_rules.specs.Slots.{PeerSends, Slot, SlotSends, first_slot, has_spir, slot_outbound, slots_by}
 use Rattle.turn_rules.specs.Steps.{Says}
 
 -- the seal of a packet uses its number
-sends-spends : (event : Event) (outbound : Outbound) (place : Place) (n : ℕ) (payload : List ℕ) (step : Step) → place_of outbound.key.name ≡ Some place → Sends outbound n payload step → Spends place n event step
+sends-spends : (event : Event) (outbound : Outbound) (place : Place) (n : ℕ) (payload : List ℕ) (step : Step) → place_of outbound.key.name ≡ Some place → SendsEsp outbound n payload step → Spends place n event step
 sends-spends event outbound place n payload step named sends = record {
   served = sends.served;
   uses_it = Seals_it (key_iv sends.seal) (ap place_of sends.named ∙ named) sends.iv (let said : _ = sends.said in let seals : _ = sends.seals in rw (said, seals));
@@ -46,7 +46,7 @@ sends-spends event outbound place n payload step named sends = record {
     no_packet packet is = absurd (cc)
 
 -- a number that a member sent under
-sent-told : (member spir n other : ℕ) (d : Counter) (payload : WithRoom) → taken other d (event.Send (parties.Member member) spir payload) (out.Sent n) ≡ number_at (Ours other d) (Ours spir counter.EspOut) n
+sent-told : (member spir n other : ℕ) (d : Counter) (payload : WithRoom) → number_taken other d (event.Send (parties.Member member) spir payload) (out.Sent n) ≡ number_at (Ours other d) (Ours spir counter.EspOut) n
 sent-told member spir n other counter.EspOut payload = number-passed (spir == other) n
 sent-told member spir n other counter.EspIn payload = number-failed (spir == other) n
 sent-told member spir n other counter.Iv payload = number-failed (spir == other) n
@@ -76,7 +76,7 @@ module _ (past : List Turn) (step : Step) (member spir : ℕ) (payload : WithRoo
   Stopped why rest = (rest ≡ []) × Says (out.Refused (refusal_of_stop why)) step
 
   abbrev Sent : ℕ → List Call → Type 0
-  Sent high rest = (rest ≡ []) × Sends (outbound_of held) next payload.octets step
+  Sent high rest = (rest ≡ []) × SendsEsp (outbound_of held) next payload.octets step
 
   send-not_run : is_refused_by_run step.verdict ≡ false
   send-not_run = ready-calls (λ calls. is_refused_by_run step.verdict ≡ false) (reach_of held counter.EspOut) next Stopped Sent
@@ -85,11 +85,11 @@ module _ (past : List Turn) (step : Step) (member spir : ℕ) (payload : WithRoo
       (λ high rest s. let said : _ = s.1.said in rw said refl)
       calls sends
 
-  send-uses : Sends (outbound_of held) next payload.octets step → UsesIt held.sa.spir counter.EspOut next (event.Send (parties.Member member) spir payload) step
+  send-uses : SendsEsp (outbound_of held) next payload.octets step → UsesIt held.sa.spir counter.EspOut next (event.Send (parties.Member member) spir payload) step
   send-uses s = record {
     spends = sends-spends (event.Send (parties.Member member) spir payload) (outbound_of held) (Ours held.sa.spir counter.EspOut) next payload.octets step (place-ours held.sa counter.EspOut) s;
     told = λ other d.
-        ap (taken other d (event.Send (parties.Member member) spir payload)) s.said
+        ap (number_taken other d (event.Send (parties.Member member) spir payload)) s.said
         ∙ (sent-told member spir next other d payload
         ∙ ap (λ n. number_at (Ours other d) (Ours n counter.EspOut) next) (sym own_spir));
   }
@@ -117,7 +117,7 @@ module _ (past : List Turn) (step : Step) (spir : ℕ) (payload : WithRoom) (cal
       (λ ended. Rested no_calls (says-rests step (out.Refused refusal.Exhausted) tt (sends.ended ended)) refl)
       (cases_lt slot.next (2 ^ 63))
     where
-      sent : slot.next < end_of slot.sa counter.EspOut → Sends (slot_outbound slot) slot.next payload.octets step → Deed past (event.Send parties.Peer spir payload) calls step
+      sent : slot.next < end_of slot.sa counter.EspOut → SendsEsp (slot_outbound slot) slot.next payload.octets step → Deed past (event.Send parties.Peer spir payload) calls step
       sent within s = Used_theirs (record {
         test = has_spir spir;
         slot = slot;

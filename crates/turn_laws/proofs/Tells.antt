@@ -12,9 +12,9 @@ use Rattle.keeper_book.specs.declared.records.Taken.{Taken}
 use Rattle.turn_laws.proofs.Deeds.{IsOpen}
 use Rattle.turn_laws.proofs.Unused.{fresh-unused, next-unused}
 use Rattle.turn_laws.specs.Holdings.{Holding, IsNotIn}
-use Rattle.turn_laws.specs.Turns.{taken_of, told}
+use Rattle.turn_laws.specs.Turns.{turn_taken, told}
 use Rattle.turn_rules.proofs.Ties.{five_at-five_of}
-use Rattle.turn_rules.specs.Held.{Held, found, grant_of, held_by, high_of, holding, next_of, number_of, received_of, since}
+use Rattle.turn_rules.specs.Held.{Held, found, grant_of, held_by, high_of, holding, next_number_of, number_of, received_of, since}
 
 -- what own turns say that a member holds, at one counter
 pub record Tells (mine : List Turn) (spir : ℕ) (c : Counter) (held : Held) (h : Holding) : Type 0 where
@@ -27,9 +27,9 @@ pub record Tells (mine : List Turn) (spir : ℕ) (c : Counter) (held : Held) (h 
 
 module _ (size spir : ℕ) (mine : List Turn) (taken : Taken) where
   next-open : (c : Counter) (n : ℕ) → n ≡ five_at (holding size spir mine taken).nexts c → (five_at taken.bases c ≤ n) × IsNotIn n (filter_map (number_of spir c) (since spir mine))
-  next-open c n is = next-unused (five_at taken.bases c) n (filter_map (number_of spir c) (since spir mine)) (is ∙ five_at-five_of (λ d. next_of spir d taken.bases mine) c)
+  next-open c n is = next-unused (five_at taken.bases c) n (filter_map (number_of spir c) (since spir mine)) (is ∙ five_at-five_of (λ d. next_number_of spir d taken.bases mine) c)
 
-  open-unused : (c : Counter) (n : ℕ) → IsOpen (holding size spir mine taken) c n → (five_at taken.bases c ≤ n) × IsNotIn n (filter_map (taken_of spir c) (since spir mine))
+  open-unused : (c : Counter) (n : ℕ) → IsOpen (holding size spir mine taken) c n → (five_at taken.bases c ≤ n) × IsNotIn n (filter_map (turn_taken spir c) (since spir mine))
   open-unused counter.EspOut n is = next-open counter.EspOut n is
   open-unused counter.EspIn n fresh = fresh-unused size taken.bases.esp_in n (filter_map (received_of spir) (since spir mine)) fresh
   open-unused counter.Iv n is = next-open counter.Iv n is
@@ -37,7 +37,7 @@ module _ (size spir : ℕ) (mine : List Turn) (taken : Taken) where
   open-unused counter.Answer n is = next-open counter.Answer n is
 
   abbrev as_told : Counter → Taken → Holding
-  as_told c t = record { epoch = t.epoch; base = five_at t.bases c; high = high_of spir c t.bases mine; end = end_of t.sa c; numbers = filter_map (taken_of spir c) (since spir mine) }
+  as_told c t = record { epoch = t.epoch; base = five_at t.bases c; high = high_of spir c t.bases mine; end = end_of t.sa c; numbers = filter_map (turn_taken spir c) (since spir mine) }
 
 pub tells : (size : ℕ) (mine : List Turn) (spir : ℕ) (c : Counter) (held : Held) → held_by size mine spir ≡ Some held → (h : Holding) × Tells mine spir c held h
 tells size mine spir c held is = go (found (grant_of spir) mine) refl is

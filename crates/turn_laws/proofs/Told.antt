@@ -21,24 +21,24 @@ use Rattle.turn_laws.proofs.Outcomes.{Idle, Ours_used, Outcome, Over, Theirs_use
 use Rattle.turn_laws.proofs.Records.{deed-of}
 use Rattle.turn_laws.proofs.Runs.{covered_by, held-call, held-covers, is_performer-sym, onto-append, others-hold}
 use Rattle.turn_laws.proofs.Uses.{held-use}
-use Rattle.turn_laws.specs.Acts.{Act, Calls, begun, held_at, onto}
-use Rattle.turn_laws.specs.Holdings.{Actor, Draws, End, Holding, Nothing, held_after, is_actor}
+use Rattle.turn_laws.specs.Acts.{Act, Calls, holding_begun, holding_at, acts_onto}
+use Rattle.turn_laws.specs.Holdings.{Actor, Draws, End, Holding, Nothing, holding_after, is_actor}
 use Rattle.turn_laws.specs.Places.{Ours, is_place}
-use Rattle.turn_laws.specs.Turns.{actor_as, actor_of, acts_of, moves_of, taken, taken_of, told}
+use Rattle.turn_laws.specs.Turns.{actor_as, actor_of, acts_of, moves_of, number_taken, turn_taken, told}
 use Rattle.turn_rules.proofs.Ties.{greatest-append}
 use Rattle.turn_rules.specs.Draws.{reach_of}
 use Rattle.turn_rules.specs.Ends.{Member, Peer, Performer, is_by, is_end, own, performer, performer_at}
-use Rattle.turn_rules.specs.Held.{covers_in, covers_of, first_of, found, grant_in, grant_of, granted, greatest, since}
+use Rattle.turn_rules.specs.Held.{covers_in, covers_of, first_some, found, grant_in, grant_of, granted, greatest, since}
 use Rattle.turn_rules.specs.Local.{Local}
 use Rattle.turn_rules.specs.Steps.{IsQuiet}
 
 -- what a turn makes of what is held, where it grants nothing
 abbrev pub told_more : ℕ → Counter → Event → List Call → Verdict → Holding → Holding
-told_more spir c event calls verdict h = record h { high = greatest h.high (covers_in spir c calls); numbers = cons_option (taken spir c event verdict) h.numbers }
+told_more spir c event calls verdict h = record h { high = greatest h.high (covers_in spir c calls); numbers = cons_option (number_taken spir c event verdict) h.numbers }
 
 -- what is held after one more turn of its own
 abbrev pub told_after : ℕ → Counter → Event → List Call → Verdict → Option Holding → Option Holding
-told_after spir c event calls verdict held = first_of (option_map (begun c) (grant_in spir calls)) (option_map (told_more spir c event calls verdict) held)
+told_after spir c event calls verdict held = first_some (option_map (holding_begun c) (grant_in spir calls)) (option_map (told_more spir c event calls verdict) held)
 
 module _ (spir : ℕ) (c : Counter) (turn : Turn) (past : List Turn) where
   abbrev turns_since : Option Taken → List Turn
@@ -50,7 +50,7 @@ module _ (spir : ℕ) (c : Counter) (turn : Turn) (past : List Turn) where
     base = five_at taken.bases c;
     high = greatest (five_at taken.bases c) (flat_map (covers_of spir c) turns);
     end = end_of taken.sa c;
-    numbers = filter_map (taken_of spir c) turns;
+    numbers = filter_map (turn_taken spir c) turns;
   }
 
   told_later : (taken : Taken) → told_as (turn ∷ since spir past) taken ≡ told_more spir c turn.event turn.calls turn.step.verdict (told_as (since spir past) taken)
@@ -59,14 +59,14 @@ module _ (spir : ℕ) (c : Counter) (turn : Turn) (past : List Turn) where
     base = five_at taken.bases c;
     high = greatest-append (five_at taken.bases c) (covers_of spir c turn) (flat_map (covers_of spir c) (since spir past)) i;
     end = end_of taken.sa c;
-    numbers = filter_map (taken_of spir c) (turn ∷ since spir past);
+    numbers = filter_map (turn_taken spir c) (turn ∷ since spir past);
   }
 
   told_found : (taken : Option Taken) → option_map (told_as (turn ∷ since spir past)) taken ≡ option_map (told_more spir c turn.event turn.calls turn.step.verdict) (option_map (told_as (since spir past)) taken)
   told_found None = refl
   told_found (Some taken) = ap Some (told_later taken)
 
-  told_first : (grant : Option Taken) → option_map (told_as (turns_since grant)) (first_of grant (found (grant_of spir) past)) ≡ first_of (option_map (begun c) grant) (option_map (told_more spir c turn.event turn.calls turn.step.verdict) (told spir c past))
+  told_first : (grant : Option Taken) → option_map (told_as (turns_since grant)) (first_some grant (found (grant_of spir) past)) ≡ first_some (option_map (holding_begun c) grant) (option_map (told_more spir c turn.event turn.calls turn.step.verdict) (told spir c past))
   told_first None = told_found (found (grant_of spir) past)
   told_first (Some taken) = refl
 
@@ -83,30 +83,30 @@ noted_none (Some h) = refl
 
 -- what the moves of a turn beside its calls make of what its end holds
 abbrev Notes : ℕ → Counter → Actor → Event → Step → Type 0
-Notes spir c w event step = (acts : List Act) → held_at (Ours spir c) (onto w (rest_of event step) acts) w ≡ option_map (noted (taken spir c event step.verdict)) (held_at (Ours spir c) acts w)
+Notes spir c w event step = (acts : List Act) → holding_at (Ours spir c) (acts_onto w (rest_of event step) acts) w ≡ option_map (noted (number_taken spir c event step.verdict)) (holding_at (Ours spir c) acts w)
 
 module _ (spir : ℕ) (c : Counter) (w : Actor) (event : Event) (step : Step) where
   idle-notes : Rests step → Notes spir c w event step
   idle-notes rests acts =
-      ap (λ moves. held_at (Ours spir c) (onto w moves acts) w) (rests-rest event step rests)
-      ∙ (noted_none (held_at (Ours spir c) acts w)
-      ∙ ap (λ number. option_map (noted number) (held_at (Ours spir c) acts w)) (sym (idle-taken spir c event step.verdict rests.idle)))
+      ap (λ moves. holding_at (Ours spir c) (acts_onto w moves acts) w) (rests-rest event step rests)
+      ∙ (noted_none (holding_at (Ours spir c) acts w)
+      ∙ ap (λ number. option_map (noted number) (holding_at (Ours spir c) acts w)) (sym (idle-taken spir c event step.verdict rests.idle)))
 
   over-notes : step.verdict ≡ out.Down → IsQuiet step → Notes spir c w event step
   over-notes said quiet acts =
-      ap (λ moves. held_at (Ours spir c) (onto w moves acts) w) (over-rest event step said quiet)
-      ∙ (noted_none (held_at (Ours spir c) acts w)
-      ∙ ap (λ number. option_map (noted number) (held_at (Ours spir c) acts w)) (sym (ap (taken spir c event) said ∙ over-taken spir c event)))
+      ap (λ moves. holding_at (Ours spir c) (acts_onto w moves acts) w) (over-rest event step said quiet)
+      ∙ (noted_none (holding_at (Ours spir c) acts w)
+      ∙ ap (λ number. option_map (noted number) (holding_at (Ours spir c) acts w)) (sym (ap (number_taken spir c event) said ∙ over-taken spir c event)))
 
   use-notes : (a : ℕ) (d : Counter) (n : ℕ) → UsesIt a d n event step → Notes spir c w event step
   use-notes a d n it acts =
       held-use (Ours spir c) (Ours a d) n w acts (rest_of event step) it.spends.uses_it
       ∙ (by_test (is_place (Ours a d) (Ours spir c))
-      ∙ ap (λ number. option_map (noted number) (held_at (Ours spir c) acts w)) (sym (it.told spir c)))
+      ∙ ap (λ number. option_map (noted number) (holding_at (Ours spir c) acts w)) (sym (it.told spir c)))
     where
-      by_test : (b : Bool) → held_after (if b then Draws w n else Nothing) (held_at (Ours spir c) acts) w ≡ option_map (noted (if b then Some n else None)) (held_at (Ours spir c) acts w)
+      by_test : (b : Bool) → holding_after (if b then Draws w n else Nothing) (holding_at (Ours spir c) acts) w ≡ option_map (noted (if b then Some n else None)) (holding_at (Ours spir c) acts w)
       by_test true = let here : is_actor w w ≡ true = is_actor-same w in rw here refl
-      by_test false = noted_none (held_at (Ours spir c) acts w)
+      by_test false = noted_none (holding_at (Ours spir c) acts w)
 
 -- so it is in each turn of a member
 member-notes : (spir : ℕ) (c : Counter) (w : Actor) (member : ℕ) (past : List Turn) (event : Event) (calls : List Call) (step : Step) → performer_at event step.verdict ≡ Some (Member member) → Outcome past event calls step → Notes spir c w event step
@@ -124,11 +124,11 @@ GrantNone spir calls = AllByRecursion (λ call. granted spir call.asked (seen ca
 
 grants-none : (spir : ℕ) (calls : List Call) → GrantNone spir calls → grant_in spir calls ≡ None
 grants-none spir [] none = refl
-grants-none spir (call ∷ calls) none = ap (λ g. first_of g (grant_in spir calls)) none.0 ∙ grants-none spir calls none.1
+grants-none spir (call ∷ calls) none = ap (λ g. first_some g (grant_in spir calls)) none.0 ∙ grants-none spir calls none.1
 
 -- the calls of a turn grant nothing, or there is one call and nothing is used
 abbrev IsPlain : ℕ → Counter → Event → List Call → Verdict → Type 0
-IsPlain spir c event calls verdict = GrantNone spir calls ⊎ ((call : Call) × (calls ≡ call ∷ []) × (taken spir c event verdict ≡ None))
+IsPlain spir c event calls verdict = GrantNone spir calls ⊎ ((call : Call) × (calls ≡ call ∷ []) × (number_taken spir c event verdict ≡ None))
 
 none-made : (spir : ℕ) (calls : List Call) → calls ≡ [] → GrantNone spir calls
 none-made spir calls none = subst (λ cs. GrantNone spir cs) (sym none) tt
@@ -147,36 +147,36 @@ deed-plain spir c past event calls step (Used u) = inl (ready-calls (GrantNone s
     calls u.ready)
 
 module _ (spir : ℕ) (c : Counter) (w : Actor) (event : Event) (calls : List Call) (step : Step) where
-  told_none : (x : Option Holding) → GrantNone spir calls → option_map (noted (taken spir c event step.verdict)) (option_map (covered_by spir c w calls) x) ≡ told_after spir c event calls step.verdict x
-  told_none x none = go x ∙ sym (ap (λ g. first_of (option_map (begun c) g) (option_map (told_more spir c event calls step.verdict) x)) (grants-none spir calls none))
+  told_none : (x : Option Holding) → GrantNone spir calls → option_map (noted (number_taken spir c event step.verdict)) (option_map (covered_by spir c w calls) x) ≡ told_after spir c event calls step.verdict x
+  told_none x none = go x ∙ sym (ap (λ g. first_some (option_map (holding_begun c) g) (option_map (told_more spir c event calls step.verdict) x)) (grants-none spir calls none))
     where
-      go : (x : Option Holding) → option_map (noted (taken spir c event step.verdict)) (option_map (covered_by spir c w calls) x) ≡ option_map (told_more spir c event calls step.verdict) x
+      go : (x : Option Holding) → option_map (noted (number_taken spir c event step.verdict)) (option_map (covered_by spir c w calls) x) ≡ option_map (told_more spir c event calls step.verdict) x
       go None = refl
       go (Some h) = refl
 
-  told_once : (x : Option Holding) → taken spir c event step.verdict ≡ None → option_map (noted (taken spir c event step.verdict)) (first_of (option_map (begun c) (grant_in spir calls)) (option_map (covered_by spir c w calls) x)) ≡ told_after spir c event calls step.verdict x
+  told_once : (x : Option Holding) → number_taken spir c event step.verdict ≡ None → option_map (noted (number_taken spir c event step.verdict)) (first_some (option_map (holding_begun c) (grant_in spir calls)) (option_map (covered_by spir c w calls) x)) ≡ told_after spir c event calls step.verdict x
   told_once x none = go (grant_in spir calls) x
     where
-      go : (g : Option Taken) (x : Option Holding) → option_map (noted (taken spir c event step.verdict)) (first_of (option_map (begun c) g) (option_map (covered_by spir c w calls) x)) ≡ first_of (option_map (begun c) g) (option_map (told_more spir c event calls step.verdict) x)
+      go : (g : Option Taken) (x : Option Holding) → option_map (noted (number_taken spir c event step.verdict)) (first_some (option_map (holding_begun c) g) (option_map (covered_by spir c w calls) x)) ≡ first_some (option_map (holding_begun c) g) (option_map (told_more spir c event calls step.verdict) x)
       go (Some taken) x = rw none
       go None None = refl
       go None (Some h) = refl
 
   -- what an end holds after a turn of its own
-  held-turn : (acts : List Act) → Notes spir c w event step → IsPlain spir c event calls step.verdict → held_at (Ours spir c) (onto w (map Calls calls ++ rest_of event step) acts) w ≡ told_after spir c event calls step.verdict (held_at (Ours spir c) acts w)
+  held-turn : (acts : List Act) → Notes spir c w event step → IsPlain spir c event calls step.verdict → holding_at (Ours spir c) (acts_onto w (map Calls calls ++ rest_of event step) acts) w ≡ told_after spir c event calls step.verdict (holding_at (Ours spir c) acts w)
   held-turn acts notes plain =
-      ap (λ more. held_at (Ours spir c) more w) (onto-append w (map Calls calls) (rest_of event step) acts)
-      ∙ (notes (onto w (map Calls calls) acts)
+      ap (λ more. holding_at (Ours spir c) more w) (onto-append w (map Calls calls) (rest_of event step) acts)
+      ∙ (notes (acts_onto w (map Calls calls) acts)
       ∙ ⊎_elim several one plain)
     where
-      several : GrantNone spir calls → option_map (noted (taken spir c event step.verdict)) (held_at (Ours spir c) (onto w (map Calls calls) acts) w) ≡ told_after spir c event calls step.verdict (held_at (Ours spir c) acts w)
-      several none = ap (option_map (noted (taken spir c event step.verdict))) (held-covers spir c w calls acts none) ∙ told_none (held_at (Ours spir c) acts w) none
+      several : GrantNone spir calls → option_map (noted (number_taken spir c event step.verdict)) (holding_at (Ours spir c) (acts_onto w (map Calls calls) acts) w) ≡ told_after spir c event calls step.verdict (holding_at (Ours spir c) acts w)
+      several none = ap (option_map (noted (number_taken spir c event step.verdict))) (held-covers spir c w calls acts none) ∙ told_none (holding_at (Ours spir c) acts w) none
 
-      one : (call : Call) × (calls ≡ call ∷ []) × (taken spir c event step.verdict ≡ None) → option_map (noted (taken spir c event step.verdict)) (held_at (Ours spir c) (onto w (map Calls calls) acts) w) ≡ told_after spir c event calls step.verdict (held_at (Ours spir c) acts w)
+      one : (call : Call) × (calls ≡ call ∷ []) × (number_taken spir c event step.verdict ≡ None) → option_map (noted (number_taken spir c event step.verdict)) (holding_at (Ours spir c) (acts_onto w (map Calls calls) acts) w) ≡ told_after spir c event calls step.verdict (holding_at (Ours spir c) acts w)
       one is =
-          ap (option_map (noted (taken spir c event step.verdict)))
-          (subst (λ cs. held_at (Ours spir c) (onto w (map Calls cs) acts) w ≡ first_of (option_map (begun c) (grant_in spir cs)) (option_map (covered_by spir c w cs) (held_at (Ours spir c) acts w))) (sym is.1) (held-call spir c w is.0 acts))
-          ∙ told_once (held_at (Ours spir c) acts w) is.2
+          ap (option_map (noted (number_taken spir c event step.verdict)))
+          (subst (λ cs. holding_at (Ours spir c) (acts_onto w (map Calls cs) acts) w ≡ first_some (option_map (holding_begun c) (grant_in spir cs)) (option_map (covered_by spir c w cs) (holding_at (Ours spir c) acts w))) (sym is.1) (held-call spir c w is.0 acts))
+          ∙ told_once (holding_at (Ours spir c) acts w) is.2
 
 is_end-true : (end : Performer) (x : Option Performer) → is_end end x ≡ true → x ≡ Some end
 is_end-true end None e = absurd (cc)
@@ -187,19 +187,19 @@ is_end-false end None e = refl
 is_end-false end (Some other) e = is_performer-sym other end ∙ e
 
 -- what a member's own turns say that it holds is what the acts of all turns make of it
-pub told-held : (boxes : ℕ) (past : List Turn) → Local boxes past → (member spir : ℕ) (c : Counter) → told spir c (own (Member member) past) ≡ held_at (Ours spir c) (acts_of past) (End (Member member))
+pub told-held : (boxes : ℕ) (past : List Turn) → Local boxes past → (member spir : ℕ) (c : Counter) → told spir c (own (Member member) past) ≡ holding_at (Ours spir c) (acts_of past) (End (Member member))
 told-held boxes [] local member spir c = refl
 told-held boxes (turn ∷ past) local member spir c = by_test (told-held boxes past local.1 member spir c) (is_by (Member member) turn) refl
   where
     deed : Deed past turn.event turn.calls turn.step
     deed = deed-of boxes past turn local.0 local.1
 
-    mine : performer turn ≡ Some (Member member) → held_at (Ours spir c) (onto (actor_of turn) (moves_of turn) (acts_of past)) (actor_of turn) ≡ told_after spir c turn.event turn.calls turn.step.verdict (held_at (Ours spir c) (acts_of past) (actor_of turn))
+    mine : performer turn ≡ Some (Member member) → holding_at (Ours spir c) (acts_onto (actor_of turn) (moves_of turn) (acts_of past)) (actor_of turn) ≡ told_after spir c turn.event turn.calls turn.step.verdict (holding_at (Ours spir c) (acts_of past) (actor_of turn))
     mine by = held-turn spir c (actor_of turn) turn.event turn.calls turn.step (acts_of past)
         (member-notes spir c (actor_of turn) member past turn.event turn.calls turn.step by (outcome-of past turn.event turn.calls turn.step deed))
         (deed-plain spir c past turn.event turn.calls turn.step deed)
 
-    by_test : told spir c (own (Member member) past) ≡ held_at (Ours spir c) (acts_of past) (End (Member member)) → (b : Bool) → is_by (Member member) turn ≡ b → told spir c (own (Member member) (turn ∷ past)) ≡ held_at (Ours spir c) (acts_of (turn ∷ past)) (End (Member member))
+    by_test : told spir c (own (Member member) past) ≡ holding_at (Ours spir c) (acts_of past) (End (Member member)) → (b : Bool) → is_by (Member member) turn ≡ b → told spir c (own (Member member) (turn ∷ past)) ≡ holding_at (Ours spir c) (acts_of (turn ∷ past)) (End (Member member))
     by_test before true t =
         let by : performer turn ≡ Some (Member member) = is_end-true (Member member) (performer turn) t in
         let is : actor_of turn ≡ End (Member member) = ap actor_as by in
@@ -207,7 +207,7 @@ told-held boxes (turn ∷ past) local member spir c = by_test (told-held boxes p
         ap (told spir c) more
         ∙ (told-cons spir c turn (own (Member member) past)
         ∙ (ap (told_after spir c turn.event turn.calls turn.step.verdict) before
-        ∙ sym (subst (λ w. held_at (Ours spir c) (onto (actor_of turn) (moves_of turn) (acts_of past)) w ≡ told_after spir c turn.event turn.calls turn.step.verdict (held_at (Ours spir c) (acts_of past) w)) is (mine by))))
+        ∙ sym (subst (λ w. holding_at (Ours spir c) (acts_onto (actor_of turn) (moves_of turn) (acts_of past)) w ≡ told_after spir c turn.event turn.calls turn.step.verdict (holding_at (Ours spir c) (acts_of past) w)) is (mine by))))
     by_test before false t =
         let same : own (Member member) (turn ∷ past) ≡ own (Member member) past = ap (λ b. if b then turn ∷ own (Member member) past else own (Member member) past) t in
         ap (told spir c) same

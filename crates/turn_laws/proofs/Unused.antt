@@ -4,7 +4,7 @@ use Rattle.std.proofs.lemmas.Bool.{cases_lt}
 use Rattle.std.specs.List.{Contains}
 use Rattle.replay_set.proofs.Numbers.{judging_by}
 use Rattle.replay_set.specs.Laws.{IsJudgedBy}
-use Rattle.replay_set.specs.Window.{judged, next_of as next_noted, window_of}
+use Rattle.replay_set.specs.Window.{judged, next_noted, window_of}
 use Rattle.replay_set.specs.declared.judgement.Judgement.TheVariants.{Fresh, Seen, Stale}
 use Rattle.turn_laws.proofs.Runs.{greatest-least}
 use Rattle.turn_laws.specs.Holdings.{IsNotIn}

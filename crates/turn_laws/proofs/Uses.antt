@@ -1,7 +1,7 @@
 -- Moves that use a number of a place, once.
 use Rattle.std.proofs.Common.{◌≡◌, ℕ, Option, Some, None, List, [], ◌∷◌, ap, ◌∙◌, if◌then◌else◌}
-use Rattle.turn_laws.specs.Acts.{Act, HoldsFor, MayDoAll, Move, Seals, Uses, effect_of_use, held_at, onto, uses_at}
-use Rattle.turn_laws.specs.Holdings.{Actor, held_after, uses_after}
+use Rattle.turn_laws.specs.Acts.{Act, HoldsFor, MayDoAll, Move, Seals, Uses, effect_of_use, holding_at, acts_onto, uses_at}
+use Rattle.turn_laws.specs.Holdings.{Actor, holding_after, uses_after}
 use Rattle.turn_laws.specs.Places.{Place, is_place, place_of}
 use Rattle.turn_rules.specs.Safe.{KeyIv}
 
@@ -16,21 +16,21 @@ number_at p q n = if is_place q p then Some n else None
 
 module _ (p q : Place) (n : ℕ) (w : Actor) (acts : List Act) where
   -- what is held then, and what was used
-  pub held-use : (moves : List Move) → IsUse q n moves → held_at p (onto w moves acts) w ≡ held_after (effect_of_use p (Some q) w n) (held_at p acts) w
-  held-use moves (Counts is) = ap (λ ms. held_at p (onto w ms acts) w) is
+  pub held-use : (moves : List Move) → IsUse q n moves → holding_at p (acts_onto w moves acts) w ≡ holding_after (effect_of_use p (Some q) w n) (holding_at p acts) w
+  held-use moves (Counts is) = ap (λ ms. holding_at p (acts_onto w ms acts) w) is
   held-use moves (Seals_it key place iv is) =
-      ap (λ ms. held_at p (onto w ms acts) w) is
-      ∙ (ap (λ o. held_after (effect_of_use p o w key.iv) (held_at p acts) w) place
-      ∙ ap (λ k. held_after (effect_of_use p (Some q) w k) (held_at p acts) w) iv)
+      ap (λ ms. holding_at p (acts_onto w ms acts) w) is
+      ∙ (ap (λ o. holding_after (effect_of_use p o w key.iv) (holding_at p acts) w) place
+      ∙ ap (λ k. holding_after (effect_of_use p (Some q) w k) (holding_at p acts) w) iv)
 
-  pub uses-use : (moves : List Move) → IsUse q n moves → uses_at p (onto w moves acts) ≡ uses_after (effect_of_use p (Some q) w n) (held_at p acts) (uses_at p acts)
-  uses-use moves (Counts is) = ap (λ ms. uses_at p (onto w ms acts)) is
+  pub uses-use : (moves : List Move) → IsUse q n moves → uses_at p (acts_onto w moves acts) ≡ uses_after (effect_of_use p (Some q) w n) (holding_at p acts) (uses_at p acts)
+  uses-use moves (Counts is) = ap (λ ms. uses_at p (acts_onto w ms acts)) is
   uses-use moves (Seals_it key place iv is) =
-      ap (λ ms. uses_at p (onto w ms acts)) is
-      ∙ (ap (λ o. uses_after (effect_of_use p o w key.iv) (held_at p acts) (uses_at p acts)) place
-      ∙ ap (λ k. uses_after (effect_of_use p (Some q) w k) (held_at p acts) (uses_at p acts)) iv)
+      ap (λ ms. uses_at p (acts_onto w ms acts)) is
+      ∙ (ap (λ o. uses_after (effect_of_use p o w key.iv) (holding_at p acts) (uses_at p acts)) place
+      ∙ ap (λ k. uses_after (effect_of_use p (Some q) w k) (holding_at p acts) (uses_at p acts)) iv)
 
 -- the moves may be made by who may use the number
-pub may-use : (p : Place) (n : ℕ) (w : Actor) (acts : List Act) (moves : List Move) → IsUse p n moves → HoldsFor (held_at p acts w) n → MayDoAll acts w moves
+pub may-use : (p : Place) (n : ℕ) (w : Actor) (acts : List Act) (moves : List Move) → IsUse p n moves → HoldsFor (holding_at p acts w) n → MayDoAll acts w moves
 may-use p n w acts moves (Counts is) may = rw is (may, tt)
 may-use p n w acts moves (Seals_it key place iv is) may = rw (is, place, iv) (may, tt)

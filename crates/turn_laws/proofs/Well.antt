@@ -24,7 +24,7 @@ use Rattle.turn_laws.proofs.Names.{counter-named}
 use Rattle.turn_laws.proofs.Outcomes.{over-rest, rests-rest}
 use Rattle.turn_laws.proofs.Tells.{Tells, tells}
 use Rattle.turn_laws.proofs.Uses.{may-use}
-use Rattle.turn_laws.specs.Acts.{Act, Calls, HoldsFor, MayDo, MayDoAll, held_at}
+use Rattle.turn_laws.specs.Acts.{Act, Calls, HoldsFor, MayDo, MayDoAll, holding_at}
 use Rattle.turn_laws.specs.Holdings.{Actor, End, Holding, IsNotIn, is_actor, raised_to}
 use Rattle.turn_laws.specs.Places.{Ours, Theirs}
 use Rattle.turn_laws.specs.Turns.{actor_as, told}
@@ -51,14 +51,14 @@ pub record IsReadied (h now : Holding) (at : ℕ) : Type 0 where
 module _ (w : Actor) (R : List Act → List Call → Type 0) (r : Reach) (at : ℕ) (stops : Stop → List Call → Type 0) (goes : ℕ → List Call → Type 0)
     (step : (acts : List Act) (call : Call) (rest : List Call) → MayDo acts w (Calls call) → R (record { by = w; move = Calls call } ∷ acts) rest → R acts (call ∷ rest))
     (stopped : (acts : List Act) (why : Stop) (rest : List Call) → stops why rest → R acts rest)
-    (acts : List Act) (h : Holding) (holds : held_at (Ours r.spir r.counter) acts w ≡ Some h) (epoch : h.epoch ≡ r.epoch) (high : h.high ≡ r.high) (end : h.end ≡ r.end) (named : counter_named r.name.kind r.name.child ≡ Some r.counter)
-    (gone : (acts : List Act) (now : Holding) (high : ℕ) (rest : List Call) → held_at (Ours r.spir r.counter) acts w ≡ Some now → IsReadied h now at → goes high rest → R acts rest) where
+    (acts : List Act) (h : Holding) (holds : holding_at (Ours r.spir r.counter) acts w ≡ Some h) (epoch : h.epoch ≡ r.epoch) (high : h.high ≡ r.high) (end : h.end ≡ r.end) (named : counter_named r.name.kind r.name.child ≡ Some r.counter)
+    (gone : (acts : List Act) (now : Holding) (high : ℕ) (rest : List Call) → holding_at (Ours r.spir r.counter) acts w ≡ Some now → IsReadied h now at → goes high rest → R acts rest) where
   module _ (call : Call) (asked : call.asked ≡ ask.Cover r.spir r.name.kind r.name.child r.epoch (cover_of r at)) where
     may_cover : MayDo acts w (Calls call)
     may_cover = rw (asked, named) (record { holding = h; holds = holds; in_epoch = epoch; within_end = let last : h.end ≡ r.end = end in omega arith })
 
     -- what is held after a cover that was acknowledged
-    held_covered : seen call ≡ answer.Done → held_at (Ours r.spir r.counter) (record { by = w; move = Calls call } ∷ acts) w ≡ Some (raised_to (cover_of r at) h)
+    held_covered : seen call ≡ answer.Done → holding_at (Ours r.spir r.counter) (record { by = w; move = Calls call } ∷ acts) w ≡ Some (raised_to (cover_of r at) h)
     held_covered sees =
         let here : (r.spir == r.spir) ≡ true = eq-eqb r.spir r.spir refl in
         let this : is_named r.counter (Some r.counter) ≡ true = is_counter-same r.counter in
@@ -96,7 +96,7 @@ module _ (past : List Turn) (event : Event) (step : Step) (member spir : ℕ) wh
   rests-well : (acts : List Act) (rest : List Call) → rest ≡ [] → Rests step → MayMake acts rest
   rests-well acts rest none rests = let quiet : _ = rests-rest event step rests in rw (none, quiet) tt
 
-  uses-well : (calls : List Call) (u : MemberUses past event calls step) (h : Holding) → Tells (own (Member member) past) u.held.sa.spir u.c u.held h → (acts : List Act) → held_at (Ours u.held.sa.spir u.c) acts w ≡ Some h → MayMake acts calls
+  uses-well : (calls : List Call) (u : MemberUses past event calls step) (h : Holding) → Tells (own (Member member) past) u.held.sa.spir u.c u.held h → (acts : List Act) → holding_at (Ours u.held.sa.spir u.c) acts w ≡ Some h → MayMake acts calls
   uses-well calls u h tells acts holds = ready-well w MayMake (reach_of u.held u.c) u.number
       (λ why rest. (rest ≡ []) × Rests step)
       (λ high rest. (rest ≡ []) × UsesIt u.held.sa.spir u.c u.number event step)
@@ -106,7 +106,7 @@ module _ (past : List Turn) (event : Event) (step : Step) (member spir : ℕ) wh
       (λ acts now high rest holds readied s. used acts now rest holds readied s.0 s.1)
       calls u.ready
     where
-      used : (acts : List Act) (now : Holding) (rest : List Call) → held_at (Ours u.held.sa.spir u.c) acts w ≡ Some now → IsReadied h now u.number → rest ≡ [] → UsesIt u.held.sa.spir u.c u.number event step → MayMake acts rest
+      used : (acts : List Act) (now : Holding) (rest : List Call) → holding_at (Ours u.held.sa.spir u.c) acts w ≡ Some now → IsReadied h now u.number → rest ≡ [] → UsesIt u.held.sa.spir u.c u.number event step → MayMake acts rest
       used acts now rest holds readied none it = rw none (may-use (Ours u.held.sa.spir u.c) u.number w acts (rest_of event step) it.spends.uses_it (record {
         holding = now;
         holds = holds;
@@ -119,9 +119,9 @@ module _ (past : List Turn) (event : Event) (step : Step) (member spir : ℕ) wh
 
 -- the peer may use what is open to it
 abbrev pub PeerMayUse : List Turn → List Act → Type 0
-PeerMayUse past acts = (test : Slot → Bool) (slot : Slot) → first_slot test (slots_by (window_by past) (own Peer past)) ≡ Some slot → (c : Counter) (n : ℕ) → IsOpenTo slot c n → HoldsFor (held_at (Theirs slot.sa.spir c) acts (End Peer)) n
+PeerMayUse past acts = (test : Slot → Bool) (slot : Slot) → first_slot test (slots_by (window_by past) (own Peer past)) ≡ Some slot → (c : Counter) (n : ℕ) → IsOpenTo slot c n → HoldsFor (holding_at (Theirs slot.sa.spir c) acts (End Peer)) n
 
-module _ (past : List Turn) (acts : List Act) (agrees : (member spir : ℕ) (c : Counter) → told spir c (own (Member member) past) ≡ held_at (Ours spir c) acts (End (Member member))) (peer_may : PeerMayUse past acts)
+module _ (past : List Turn) (acts : List Act) (agrees : (member spir : ℕ) (c : Counter) → told spir c (own (Member member) past) ≡ holding_at (Ours spir c) acts (End (Member member))) (peer_may : PeerMayUse past acts)
     (event : Event) (calls : List Call) (step : Step) where
   -- the moves of a deed may be made
   pub deed-well : Deed past event calls step → MayDoAll acts (actor_as (performer_at event step.verdict)) (map Calls calls ++ rest_of event step)

@@ -11,7 +11,7 @@ use Rattle.keeper_book.specs.declared.calls.KeeperAsk.TheVariants as ask
 use Rattle.keeper_book.specs.declared.counters.Counter.{Counter}
 use Rattle.keeper_book.specs.declared.records.Record.{Record}
 use Rattle.keeper_book.specs.declared.records.Taken.{Taken}
-use Rattle.turn_laws.specs.Holdings.{Actor, Begins, Draws, Effect, Holding, MayUse, Nothing, Rises, Use, held_after, uses_after}
+use Rattle.turn_laws.specs.Holdings.{Actor, Begins, Draws, Effect, Holding, MayUse, Nothing, Rises, Use, holding_after, uses_after}
 use Rattle.turn_laws.specs.Places.{Place, Ours, Theirs, is_place, place_of, start_of}
 use Rattle.turn_rules.specs.Held.{covered, granted}
 use Rattle.turn_rules.specs.Safe.{KeyIv}
@@ -31,8 +31,8 @@ pub record Act : Type 0 where
   pub move : Move
 
 -- a holding of an epoch that was granted: of each counter it begins and ends at the base
-abbrev pub begun : Counter → Taken → Holding
-begun c taken = record { epoch = taken.epoch; base = five_at taken.bases c; high = five_at taken.bases c; end = end_of taken.sa c; numbers = [] }
+abbrev pub holding_begun : Counter → Taken → Holding
+holding_begun c taken = record { epoch = taken.epoch; base = five_at taken.bases c; high = five_at taken.bases c; end = end_of taken.sa c; numbers = [] }
 
 -- what the peer holds of an association that came to it: all numbers of its counter
 abbrev pub begun_theirs : Counter → Record → Holding
@@ -40,7 +40,7 @@ begun_theirs c sa = record { epoch = 1; base = start_of sa c; high = end_of sa c
 
 -- by what was granted, and up to where was covered
 abbrev pub effect_ours : Actor → Counter → Option Taken → Option ℕ → Effect
-effect_ours w c (Some taken) upto = Begins w (begun c taken)
+effect_ours w c (Some taken) upto = Begins w (holding_begun c taken)
 effect_ours w c None (Some upto) = Rises w upto
 effect_ours w c None None = Nothing
 
@@ -70,14 +70,14 @@ effect_of p w (Seals key) = effect_of_use p (place_of key.name) w key.iv
 effect_of p w Ends = Nothing
 
 -- what each end holds at a place
-abbrev pub held_at : Place → List Act → Actor → Option Holding
-held_at p [] = λ w. None
-held_at p (act ∷ acts) = held_after (effect_of p act.by act.move) (held_at p acts)
+abbrev pub holding_at : Place → List Act → Actor → Option Holding
+holding_at p [] = λ w. None
+holding_at p (act ∷ acts) = holding_after (effect_of p act.by act.move) (holding_at p acts)
 
 -- the numbers of a place that were used
 abbrev pub uses_at : Place → List Act → List Use
 uses_at p [] = []
-uses_at p (act ∷ acts) = uses_after (effect_of p act.by act.move) (held_at p acts) (uses_at p acts)
+uses_at p (act ∷ acts) = uses_after (effect_of p act.by act.move) (holding_at p acts) (uses_at p acts)
 
 abbrev pub numbers_at : Place → List Act → List ℕ
 numbers_at p acts = map (λ u. u.number) (uses_at p acts)
@@ -97,14 +97,14 @@ pub record MayCover (held : Option Holding) (epoch upto : ℕ) : Type 0 where
 
 -- what a call needs beside the book
 abbrev pub MayAsk : List Act → Actor → KeeperAsk → Type 0
-MayAsk acts w (ask.Cover spir kind child epoch upto) = MatchOption (counter_named kind child) ⊥ (λ c. MayCover (held_at (Ours spir c) acts w) epoch upto)
+MayAsk acts w (ask.Cover spir kind child epoch upto) = MatchOption (counter_named kind child) ⊥ (λ c. MayCover (holding_at (Ours spir c) acts w) epoch upto)
 MayAsk acts w asked = Unit {0}
 
 -- what a move needs beside the book
 abbrev pub MayDo : List Act → Actor → Move → Type 0
 MayDo acts w (Calls call) = MayAsk acts w call.asked
-MayDo acts w (Uses p n) = HoldsFor (held_at p acts w) n
-MayDo acts w (Seals key) = MatchOption (place_of key.name) ⊥ (λ p. HoldsFor (held_at p acts w) key.iv)
+MayDo acts w (Uses p n) = HoldsFor (holding_at p acts w) n
+MayDo acts w (Seals key) = MatchOption (place_of key.name) ⊥ (λ p. HoldsFor (holding_at p acts w) key.iv)
 MayDo acts w Ends = Unit {0}
 
 -- each of these moves of one end may come after those before it
@@ -113,6 +113,6 @@ MayDoAll acts w [] = Unit {0}
 MayDoAll acts w (move ∷ moves) = MayDo acts w move × MayDoAll (record { by = w; move = move } ∷ acts) w moves
 
 -- the acts with these moves after them
-abbrev pub onto : Actor → List Move → List Act → List Act
-onto w [] acts = acts
-onto w (move ∷ moves) acts = onto w moves (record { by = w; move = move } ∷ acts)
+abbrev pub acts_onto : Actor → List Move → List Act → List Act
+acts_onto w [] acts = acts
+acts_onto w (move ∷ moves) acts = acts_onto w moves (record { by = w; move = move } ∷ acts)

@@ -12,17 +12,17 @@ abbrev pub nothing : Column
 nothing = record { bases = []; high = 0; end = 0 }
 
 -- where an epoch begins, counted from 0: its base, or the high where it did not begin yet. It is where the one before ends.
-abbrev pub mark : Column → ℕ → ℕ
-mark column i = slice_index_or column.bases i column.high
+abbrev pub column_mark : Column → ℕ → ℕ
+column_mark column i = slice_index_or column.bases i column.high
 
 -- the bases do not fall, and the last is at most the high
 abbrev pub IsRising : Column → Type 0
-IsRising column = (i j : ℕ) → i ≤ j → mark column i ≤ mark column j
+IsRising column = (i j : ℕ) → i ≤ j → column_mark column i ≤ column_mark column j
 
 -- each epoch that began keeps the numbers that it has, and the bases still do not fall
-pub record GoesOn (old new : Column) : Type 0 where
+pub record ColumnGoesOn (old new : Column) : Type 0 where
   pub no_shorter : length old.bases ≤ length new.bases
-  pub same_bases : (i : ℕ) → i < length old.bases → mark new i ≡ mark old i
-  pub no_lower : old.high ≤ mark new (length old.bases)
+  pub same_bases : (i : ℕ) → i < length old.bases → column_mark new i ≡ column_mark old i
+  pub no_lower : old.high ≤ column_mark new (length old.bases)
   pub rising : IsRising new
   pub same_end : 0 < length old.bases → new.end ≡ old.end

@@ -2,7 +2,7 @@
 use Rattle.std.specs.Prelude.{ℕ, ◌+◌, ◌-◌, ◌<◌, ◌≤◌, ◌≡◌, ◌≢◌, max, Bool, true, false, Option, Some, None, List, [], ◌∷◌, length, map, if◌then◌else◌}
 use Rattle.std.specs.List.{AllByRecursion}
 use Rattle.std.specs.Option.{option_map}
-use Rattle.turn_laws.specs.Columns.{Column, IsRising, mark}
+use Rattle.turn_laws.specs.Columns.{Column, IsRising, column_mark}
 use Rattle.turn_rules.specs.Ends.{Performer, is_performer}
 use Rattle.turn_rules.specs.Safe.{IsEachOnce}
 
@@ -55,11 +55,11 @@ raised_to upto h = record h { high = max upto h.high }
 abbrev pub drawn : ℕ → Holding → Holding
 drawn n h = record h { numbers = n ∷ h.numbers }
 
-abbrev pub held_after : Effect → (Actor → Option Holding) → Actor → Option Holding
-held_after Nothing held v = held v
-held_after (Begins w h) held v = if is_actor w v then Some h else held v
-held_after (Rises w upto) held v = if is_actor w v then option_map (raised_to upto) (held v) else held v
-held_after (Draws w n) held v = if is_actor w v then option_map (drawn n) (held v) else held v
+abbrev pub holding_after : Effect → (Actor → Option Holding) → Actor → Option Holding
+holding_after Nothing held v = held v
+holding_after (Begins w h) held v = if is_actor w v then Some h else held v
+holding_after (Rises w upto) held v = if is_actor w v then option_map (raised_to upto) (held v) else held v
+holding_after (Draws w n) held v = if is_actor w v then option_map (drawn n) (held v) else held v
 
 -- 0 is no epoch: nothing is held
 abbrev pub epoch_of : Option Holding → ℕ
@@ -75,16 +75,16 @@ uses_after effect held uses = uses
 pub record IsHoldingOf (column : Column) (h : Holding) : Type 0 where
   pub some : 1 ≤ h.epoch
   pub begun : h.epoch ≤ length column.bases
-  pub base : mark column (h.epoch - 1) ≡ h.base
-  pub high : h.high ≤ mark column h.epoch
+  pub base : column_mark column (h.epoch - 1) ≡ h.base
+  pub high : h.high ≤ column_mark column h.epoch
   pub end : h.end ≡ column.end
 
 -- a number of an epoch that began
 pub record IsUseOf (column : Column) (u : Use) : Type 0 where
   pub some : 1 ≤ u.epoch
   pub begun : u.epoch ≤ length column.bases
-  pub from_base : mark column (u.epoch - 1) ≤ u.number
-  pub below : u.number < mark column u.epoch
+  pub from_base : column_mark column (u.epoch - 1) ≤ u.number
+  pub below : u.number < column_mark column u.epoch
 
 -- a holding of the epoch that begins as the column goes on: nobody holds it yet, and no number of it was used
 pub record IsNew (old new : Column) (h : Holding) : Type 0 where

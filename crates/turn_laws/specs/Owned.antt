@@ -1,13 +1,13 @@
 -- The numbers of the book's epochs belong to one end each.
 use Rattle.std.specs.Prelude.{ℕ, ◌≡◌, Some, List, [], ◌∷◌}
 use Rattle.keeper_book.specs.Book.{Book, Entry, Enters, empty, entry_of}
-use Rattle.turn_laws.specs.Acts.{Act, Calls, Ends, MayDo, Move, Seals, Uses, held_at, uses_at}
+use Rattle.turn_laws.specs.Acts.{Act, Calls, Ends, MayDo, Move, Seals, Uses, holding_at, uses_at}
 use Rattle.turn_laws.specs.Holdings.{IsOwned}
 use Rattle.turn_laws.specs.Places.{Place, column}
 
 pub record Owned (acts : List Act) (book : Book) : Type 0 where
   -- of every counter of every association, the cluster's and the peer's
-  pub numbers : (p : Place) → IsOwned (held_at p acts) (uses_at p acts) (column p book)
+  pub numbers : (p : Place) → IsOwned (holding_at p acts) (uses_at p acts) (column p book)
   -- before the first epoch the highs are the starts
   pub starts : (spir : ℕ) (e : Entry) → entry_of spir book.entries ≡ Some e → e.bases ≡ [] → e.highs ≡ e.sa.starts
 

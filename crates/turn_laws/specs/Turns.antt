@@ -13,7 +13,7 @@ use Rattle.keeper_book.specs.CounterEnds.{end_of}
 use Rattle.keeper_book.specs.Counters.{five_at}
 use Rattle.keeper_book.specs.declared.counters.Counter.{Counter}
 use Rattle.keeper_book.specs.declared.counters.Counter.TheVariants as counter
-use Rattle.turn_laws.specs.Acts.{Act, Calls, Ends, Move, Seals, Uses, onto}
+use Rattle.turn_laws.specs.Acts.{Act, Calls, Ends, Move, Seals, Uses, acts_onto}
 use Rattle.turn_laws.specs.Holdings.{Actor, End, Holding, Run}
 use Rattle.turn_laws.specs.Owned.{Owned}
 use Rattle.turn_laws.specs.Places.{Ours, Place, place_of}
@@ -55,19 +55,19 @@ actor_of turn = actor_as (performer turn)
 -- what the ends did in a trace
 abbrev pub acts_of : List Turn → List Act
 acts_of [] = []
-acts_of (turn ∷ past) = onto (actor_of turn) (moves_of turn) (acts_of past)
+acts_of (turn ∷ past) = acts_onto (actor_of turn) (moves_of turn) (acts_of past)
 
 -- the numbers of the book's epochs belong to one end each, after these turns
 abbrev pub AreOwned : List Turn → Book → Type 0
 AreOwned past book = Owned (acts_of past) book
 
 -- the number of the counter of the association that an event used, or received
-abbrev pub taken : ℕ → Counter → Event → Verdict → Option ℕ
-taken spir counter.EspIn event verdict = received spir event verdict
-taken spir c event verdict = used spir c event verdict
+abbrev pub number_taken : ℕ → Counter → Event → Verdict → Option ℕ
+number_taken spir counter.EspIn event verdict = received spir event verdict
+number_taken spir c event verdict = used spir c event verdict
 
-abbrev pub taken_of : ℕ → Counter → Turn → Option ℕ
-taken_of spir c turn = taken spir c turn.event turn.step.verdict
+abbrev pub turn_taken : ℕ → Counter → Turn → Option ℕ
+turn_taken spir c turn = number_taken spir c turn.event turn.step.verdict
 
 -- what an end with these turns of its own holds of a counter of the association, and what it used of it
 abbrev pub told : ℕ → Counter → List Turn → Option Holding
@@ -76,5 +76,5 @@ told spir c past = option_map (λ taken. record {
   base = five_at taken.bases c;
   high = high_of spir c taken.bases past;
   end = end_of taken.sa c;
-  numbers = filter_map (taken_of spir c) (since spir past);
+  numbers = filter_map (turn_taken spir c) (since spir past);
 }) (found (grant_of spir) past)

@@ -3,15 +3,15 @@
 ghost use Rattle.std.specs.Prelude.{◌≡◌, ◌≢◌, ◌<◌, ◌≤◌, ◌⊎◌, ℕ, Option, Some, None, List, [], ◌∷◌};
 ghost use Rattle.std.specs.List.{AllByRecursion, filter_map};
 ghost use Rattle.events.specs.declared.turn.Turn.{Turn};
-ghost use Rattle.keeper_book.specs.Book.{Book, Enters, after};
+ghost use Rattle.keeper_book.specs.Book.{Book, Enters, book_after};
 ghost use Rattle.keeper_book.specs.Counters.{five_at};
 ghost use Rattle.keeper_book.specs.declared.calls.Call.{Call};
 ghost use Rattle.keeper_book.specs.declared.calls.KeeperAnswer.TheVariants as answer;
 ghost use Rattle.keeper_book.specs.declared.counters.Counter.{Counter};
 ghost use Rattle.keeper_book.specs.declared.faults.KeeperFault.TheVariants as fault;
-ghost use Rattle.turn_laws.specs.Acts.{Act, Calls, Ends, MayAsk, MayDo, MayDoAll, Move, held_at, numbers_at, onto};
-ghost use Rattle.turn_laws.specs.Columns.{Column, GoesOn, mark};
-ghost use Rattle.turn_laws.specs.Holdings.{Actor, Begins, Draws, End, Holding, IsNew, IsOwned, MayUse, Rises, Use, held_after, uses_after};
+ghost use Rattle.turn_laws.specs.Acts.{Act, Calls, Ends, MayAsk, MayDo, MayDoAll, Move, holding_at, numbers_at, acts_onto};
+ghost use Rattle.turn_laws.specs.Columns.{Column, ColumnGoesOn, column_mark};
+ghost use Rattle.turn_laws.specs.Holdings.{Actor, Begins, Draws, End, Holding, IsNew, IsOwned, MayUse, Rises, Use, holding_after, uses_after};
 ghost use Rattle.turn_laws.specs.OwnTurns.{OwnTurnsTell};
 ghost use Rattle.turn_laws.specs.Owned.{Owned, Writes};
 ghost use Rattle.turn_laws.specs.Places.{Ours, Place, end_at};
@@ -28,22 +28,22 @@ use esp_packets::sealed_packets_open;
 /// that failed, whether the book took its entry or was left.
 pub fn calls_keep_owned()
     ensures answered { (acts : List Act) (w : Actor) (call : Call) (old new : Book) → Owned acts old → MayAsk acts w call.asked
-        → call.answer ≢ answer.Refused fault.Failed → Enters old call new → Owned (onto w (Calls call ∷ []) acts) new }
+        → call.answer ≢ answer.Refused fault.Failed → Enters old call new → Owned (acts_onto w (Calls call ∷ []) acts) new }
     ensures failed { (acts : List Act) (w : Actor) (call : Call) (old new : Book) → Owned acts old → MayAsk acts w call.asked
-        → call.answer ≡ answer.Refused fault.Failed → (new ≡ old) ⊎ (new ≡ after old call.asked) → Owned (onto w (Calls call ∷ []) acts) new }
+        → call.answer ≡ answer.Refused fault.Failed → (new ≡ old) ⊎ (new ≡ book_after old call.asked) → Owned (acts_onto w (Calls call ∷ []) acts) new }
 {}
 
 /// The beginning of a holding of a new epoch keeps the numbers of a counter apart, also in place of an earlier holding of the
 /// same end.
 pub fn beginnings_keep_owned()
     ensures { (held : Actor → Option Holding) (uses : List Use) (old new : Column) (w : Actor) (h : Holding)
-        → IsOwned held uses old → GoesOn old new → IsNew old new h → IsOwned (held_after (Begins w h) held) uses new }
+        → IsOwned held uses old → ColumnGoesOn old new → IsNew old new h → IsOwned (holding_after (Begins w h) held) uses new }
 {}
 
 /// The rise of a holding's high, as far as its epoch goes, keeps the numbers of a counter apart.
 pub fn rises_keep_owned()
     ensures { (held : Actor → Option Holding) (uses : List Use) (column : Column) (w : Actor) (upto : ℕ) → IsOwned held uses column
-        → ((h : Holding) → held w ≡ Some h → upto ≤ mark column h.epoch) → IsOwned (held_after (Rises w upto) held) uses column }
+        → ((h : Holding) → held w ≡ Some h → upto ≤ column_mark column h.epoch) → IsOwned (holding_after (Rises w upto) held) uses column }
 {}
 
 /// The use of a number from a holding's base on and below its high, which the holder did not use, keeps the numbers of a
@@ -51,29 +51,29 @@ pub fn rises_keep_owned()
 pub fn uses_keep_owned()
     ensures { (held : Actor → Option Holding) (uses : List Use) (column : Column) (w : Actor) (h : Holding) (n : ℕ)
         → IsOwned held uses column → held w ≡ Some h → MayUse h n
-        → IsOwned (held_after (Draws w n) held) (uses_after (Draws w n) held uses) column }
+        → IsOwned (holding_after (Draws w n) held) (uses_after (Draws w n) held uses) column }
 {}
 
 /// The end of a member keeps what is owned: what it holds is used by nobody any more.
 pub fn ends_keep_owned()
-    ensures { (acts : List Act) (w : Actor) (book : Book) → Owned acts book → Owned (onto w (Ends ∷ []) acts) book }
+    ensures { (acts : List Act) (w : Actor) (book : Book) → Owned acts book → Owned (acts_onto w (Ends ∷ []) acts) book }
 {}
 
 /// A move that may be made, whatever it is, keeps what is owned.
 pub fn moves_keep_owned()
     ensures { (acts : List Act) (w : Actor) (move : Move) (old new : Book) → Owned acts old → MayDo acts w move → Writes old move new
-        → Owned (onto w (move ∷ []) acts) new }
+        → Owned (acts_onto w (move ∷ []) acts) new }
 {}
 
 /// Moves leave what every other end holds.
 pub fn others_change_nothing()
-    ensures { (p : Place) (w v : Actor) → w ≢ v → (moves : List Move) (acts : List Act) → held_at p (onto w moves acts) v ≡ held_at p acts v }
+    ensures { (p : Place) (w v : Actor) → w ≢ v → (moves : List Move) (acts : List Act) → holding_at p (acts_onto w moves acts) v ≡ holding_at p acts v }
 {}
 
 /// What a member's own turns say that it holds of a counter is what the moves of all turns make of it.
 pub fn own_turns_tell_holdings()
     ensures { (boxes : ℕ) (past : List Turn) → Local boxes past → (member spir : ℕ) (c : Counter)
-        → told spir c (own (Member member) past) ≡ held_at (Ours spir c) (acts_of past) (End (Member member)) }
+        → told spir c (own (Member member) past) ≡ holding_at (Ours spir c) (acts_of past) (End (Member member)) }
 {}
 
 /// What the turns of a run make of what its ends hold, each end's own turns tell.

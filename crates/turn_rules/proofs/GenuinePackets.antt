@@ -19,7 +19,7 @@ use Rattle.turn_rules.specs.Draws.{reach_of}
 use Rattle.turn_rules.specs.Genuine.{IsAcknowledged, IsGenuine}
 use Rattle.turn_rules.specs.Held.{Held}
 use Rattle.turn_rules.specs.MemberPackets.{IsReceiver}
-use Rattle.turn_rules.specs.Packets.{Inbound, Opens}
+use Rattle.turn_rules.specs.Packets.{Inbound, OpensEsp}
 
 -- the key of what is received with has one of the two lengths that there are
 abbrev pub IsSized : Inbound → Type 0
@@ -27,7 +27,7 @@ IsSized inbound = (length inbound.key ≡ 20) ⊎ (length inbound.key ≡ 36)
 
 module _ (law : SealedPacketsOpen) (inbound : Inbound) (sized : IsSized inbound) (number : ℕ) (payload octets : List ℕ) (genuine : IsGenuine inbound number payload octets) where
   -- a genuine packet opens, with its number and its payload
-  pub genuine-opens : (opened : Result EspOpened EspDrop) (after : List ℕ) → Opens inbound octets opened after → Accepts number payload 4 opened after
+  pub genuine-opens : (opened : Result EspOpened EspDrop) (after : List ℕ) → OpensEsp inbound octets opened after → Accepts number payload 4 opened after
   genuine-opens opened after opens = law inbound.key inbound.spi number payload 4 octets inbound.window opened after sized genuine.spi genuine.sealed genuine.covered genuine.first opens
 
   -- and is not too short

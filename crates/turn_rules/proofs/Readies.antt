@@ -17,8 +17,8 @@ use Rattle.keeper_book.specs.declared.calls.KeeperAsk.TheVariants as ask
 use Rattle.keeper_book.specs.declared.counters.Counter.{Counter}
 use Rattle.keeper_book.specs.declared.counters.Counter.TheVariants as counter
 use Rattle.keeper_book.specs.declared.counters.Five.{Five}
-use Rattle.turn_rules.specs.Draws.{child_of, kind_of, reach_of}
-use Rattle.turn_rules.specs.Held.{Held, covered, covers_in, first_of, five_of, grant_in, granted, greatest, is_counter, is_named}
+use Rattle.turn_rules.specs.Draws.{child_of, counter_kind, reach_of}
+use Rattle.turn_rules.specs.Held.{Held, covered, covers_in, first_some, five_of, grant_in, granted, greatest, is_counter, is_named}
 
 -- at most one call, by which nothing was granted or covered
 pub record AreVain (calls : List Call) : Type 0 where
@@ -51,7 +51,7 @@ none-covers held c calls none = subst (λ cs. AreCovers held c cs (five_at held.
   here = same_high c held.highs;
 })
 
-named : (c : Counter) → counter_named (kind_of c) (child_of c) ≡ Some c
+named : (c : Counter) → counter_named (counter_kind c) (child_of c) ≡ Some c
 named counter.EspOut = refl
 named counter.EspIn = refl
 named counter.Iv = refl
@@ -69,9 +69,9 @@ raised counter.Answer upto highs low = let more : max upto highs.answer ≡ upto
 covers_first : (held : Held) (c : Counter) (at : ℕ) → five_at held.highs c ≤ at → at < end_of held.sa c → five_at held.highs c ≤ cover_of (reach_of held c) at
 covers_first held c at low below = omega (arith, low, below)
 
-module _ (held : Held) (c : Counter) (call : Call) (upto : ℕ) (asked : call.asked ≡ ask.Cover held.sa.spir (kind_of c) (child_of c) held.epoch upto) where
+module _ (held : Held) (c : Counter) (call : Call) (upto : ℕ) (asked : call.asked ≡ ask.Cover held.sa.spir (counter_kind c) (child_of c) held.epoch upto) where
   no-grant : (spir : ℕ) → grant_in spir (call ∷ []) ≡ None
-  no-grant spir = ap (λ a. first_of (granted spir a (seen call)) None) asked
+  no-grant spir = ap (λ a. first_some (granted spir a (seen call)) None) asked
 
   one-vain : (why : _) → seen call ≡ answer.Refused why → AreVain (call ∷ [])
   one-vain why sees = record {
@@ -79,14 +79,14 @@ module _ (held : Held) (c : Counter) (call : Call) (upto : ℕ) (asked : call.as
     no_grant = no-grant;
     no_cover = λ spir d.
         ap (λ a. cons_option (covered spir d a (seen call)) []) asked
-        ∙ ap (λ s. cons_option (covered spir d (ask.Cover held.sa.spir (kind_of c) (child_of c) held.epoch upto) s) []) sees;
+        ∙ ap (λ s. cons_option (covered spir d (ask.Cover held.sa.spir (counter_kind c) (child_of c) held.epoch upto) s) []) sees;
   }
 
   module _ (sees : seen call ≡ answer.Done) where
     covers-one : (spir : ℕ) (d : Counter) → covers_in spir d (call ∷ []) ≡ cons_option (if (held.sa.spir == spir) && is_counter d c then Some upto else None) []
     covers-one spir d =
         ap (λ a. cons_option (covered spir d a (seen call)) []) asked
-        ∙ ap (λ s. cons_option (covered spir d (ask.Cover held.sa.spir (kind_of c) (child_of c) held.epoch upto) s) []) sees
+        ∙ ap (λ s. cons_option (covered spir d (ask.Cover held.sa.spir (counter_kind c) (child_of c) held.epoch upto) s) []) sees
         ∙ ap (λ n. cons_option (if (held.sa.spir == spir) && is_named d n then Some upto else None) []) (named c)
 
     one-covers : five_at held.highs c ≤ upto → AreCovers held c (call ∷ []) upto
@@ -103,7 +103,7 @@ module _ (held : Held) (c : Counter) (call : Call) (upto : ℕ) (asked : call.as
 module _ {P : Type 0} (held : Held) (c : Counter) (at : ℕ) (S : Stop → List Call → Type 0) (G : ℕ → List Call → Type 0)
     (stops_end : (why : Stop) (rest : List Call) → S why rest → rest ≡ []) (goes_end : (high : ℕ) (rest : List Call) → G high rest → rest ≡ []) where
   answered-elim : (call : Call) (rest : List Call) (upto : ℕ) (answered : KeeperAnswer) → ((why : Stop) → AreVain (call ∷ rest) → S why rest → P) → (AreCovers held c (call ∷ rest) upto → G upto rest → P)
-      → call.asked ≡ ask.Cover held.sa.spir (kind_of c) (child_of c) held.epoch upto → five_at held.highs c ≤ upto → seen call ≡ answered → Answered answered (λ why. S why rest) (G upto rest) → P
+      → call.asked ≡ ask.Cover held.sa.spir (counter_kind c) (child_of c) held.epoch upto → five_at held.highs c ≤ upto → seen call ≡ answered → Answered answered (λ why. S why rest) (G upto rest) → P
   answered-elim call rest upto answer.Done stops goes asked low sees a =
       goes (subst (λ more. AreCovers held c (call ∷ more) upto) (sym (goes_end upto rest a)) (one-covers held c call upto asked sees low)) a
   answered-elim call rest upto (answer.Taken taken) stops goes asked low sees a = absurd a

@@ -20,8 +20,8 @@ use Rattle.replay_set.specs.Window.{window_of}
 use Rattle.turn_rules.proofs.Ties.{greatest-cons_option, received-peer, window_of-cons_option}
 use Rattle.turn_rules.specs.Ends.{Peer, Performer, is_by, is_end, own, performer_at}
 use Rattle.turn_rules.specs.Fits.{Does, Imports, Refuses, Refusing, run_refusal}
-use Rattle.turn_rules.specs.Held.{after_received, first_of, found, greatest, received_in, received_of, window_by, window_in, window_of_turn}
-use Rattle.turn_rules.specs.Peers.{AreDistinct, Differ, admits, associations_by, clashes, entered, entered_in}
+use Rattle.turn_rules.specs.Held.{after_received, first_some, found, greatest, received_in, received_of, window_by, window_in, window_of_turn}
+use Rattle.turn_rules.specs.Peers.{AreDistinct, Differ, admits, associations_by, clashes, record_entered, entered_in}
 use Rattle.turn_rules.specs.Slots.{Slot, entered_slot, first_slot, is_entered, records, sent_of, since_entered, slot_after, slot_by, slots_after, slots_by}
 use Rattle.turn_rules.specs.States.{RunState, told_state}
 use Rattle.turn_rules.specs.Tasks.{peer_task}
@@ -113,7 +113,7 @@ module _ (size : ℕ) (turn : Turn) (past : List Turn) where
       (admits-differ (associations_by past) new (admitted new refl))
 
   -- what is held after one more turn
-  pub slots_by-cons : ((sa : Record) → entered turn.event turn.step.verdict ≡ Some sa → admits (records (slots_by size past)) sa ≡ true)
+  pub slots_by-cons : ((sa : Record) → record_entered turn.event turn.step.verdict ≡ Some sa → admits (records (slots_by size past)) sa ≡ true)
       → slots_by size (turn ∷ past) ≡ slots_after size (peer_task turn.event) turn.step (slots_by size past)
   slots_by-cons admitted =
       map-append (slot_by size (turn ∷ past)) (associations_by past) (option_to_list (entered_in turn))
@@ -126,7 +126,7 @@ unless_refused : {P : Type 0} (test : Bool) (why : Refusal) (calls : List Call) 
 unless_refused true why calls step refused said = absurd (said refused.says.said)
 unless_refused false why calls step otherwise said = (refl, otherwise)
 
-entered-import : (asked sa : Record) (verdict : Verdict) → entered (event.Import asked) verdict ≡ Some sa → (verdict ≡ out.Entered) × (asked ≡ sa)
+entered-import : (asked sa : Record) (verdict : Verdict) → record_entered (event.Import asked) verdict ≡ Some sa → (verdict ≡ out.Entered) × (asked ≡ sa)
 entered-import asked sa out.Entered e = (refl, same_Some asked sa e)
 entered-import asked sa verdict e = absurd (cc)
 
@@ -134,7 +134,7 @@ not-false : (b : Bool) → not b ≡ false → b ≡ true
 not-false true e = refl
 not-false false e = absurd (cc)
 
-enters-admitted : (state : RunState) (event : Event) (calls : List Call) (step : Step) (sa : Record) → Does state event calls step → entered event step.verdict ≡ Some sa → admits (records state.slots) sa ≡ true
+enters-admitted : (state : RunState) (event : Event) (calls : List Call) (step : Step) (sa : Record) → Does state event calls step → record_entered event step.verdict ≡ Some sa → admits (records state.slots) sa ≡ true
 enters-admitted state (event.Import asked) calls step sa does e = by_refusal (run_refusal state (event.Import asked)) does
   where
     is : (step.verdict ≡ out.Entered) × (asked ≡ sa)
@@ -157,7 +157,7 @@ abbrev pub DoesTold : ℕ → List Turn → Turn → Type 0
 DoesTold boxes past turn = Does (told_state boxes past) turn.event turn.calls turn.step
 
 -- what comes to the peer was admitted
-pub import-admits : (boxes : ℕ) (past : List Turn) (turn : Turn) → DoesTold boxes past turn → (sa : Record) → entered turn.event turn.step.verdict ≡ Some sa → admits (associations_by (own Peer past)) sa ≡ true
+pub import-admits : (boxes : ℕ) (past : List Turn) (turn : Turn) → DoesTold boxes past turn → (sa : Record) → record_entered turn.event turn.step.verdict ≡ Some sa → admits (associations_by (own Peer past)) sa ≡ true
 import-admits boxes past turn does sa e =
     subst (λ slots. admits slots sa ≡ true) (records-slots_by (window_by past) (own Peer past))
     (enters-admitted (told_state boxes past) turn.event turn.calls turn.step sa does e)
@@ -183,7 +183,7 @@ sets-first boxes (turn ∷ past) (event.Cluster identity lifetime window ticket_
 sets-first boxes (turn ∷ past) event calls step does = inl refl
 
 keeps-window : (turn : Turn) (past : List Turn) → window_of_turn turn ≡ None → window_by (turn ∷ past) ≡ window_by past
-keeps-window turn past none = ap (λ size. unwrap_or (first_of size (found window_of_turn past)) 64) none
+keeps-window turn past none = ap (λ size. unwrap_or (first_some size (found window_of_turn past)) 64) none
 
 -- own turns tell the same with the size of windows after a turn as before it
 pub own-window : (end : Performer) (past : List Turn) (turn : Turn) → is_by end turn ≡ true → window_by (turn ∷ past) ≡ window_by past

@@ -8,7 +8,7 @@ use Rattle.turn_rules.proofs.Ties.{held_by-cons}
 use Rattle.turn_rules.specs.Datagrams.{datagrams_of}
 use Rattle.turn_rules.specs.Ends.{Member, Peer, is_by, own}
 use Rattle.turn_rules.specs.Fits.{Does}
-use Rattle.turn_rules.specs.Held.{Held, first_of, found, held_after, held_by, window_by, window_in, window_of_turn}
+use Rattle.turn_rules.specs.Held.{Held, first_some, found, held_after, held_by, window_by, window_in, window_of_turn}
 use Rattle.turn_rules.specs.Local.{IsExplained, Local}
 use Rattle.turn_rules.specs.Peers.{AreDistinct, associations_by, entered_in}
 use Rattle.turn_rules.specs.Slots.{slots_after, slots_by}
@@ -19,7 +19,7 @@ module _ (boxes : ℕ) (past : List Turn) (turn : Turn) (does : DoesTold boxes p
   window-more : window_by (turn ∷ past) ≡ unwrap_or (window_in turn.event turn.step.verdict) (window_by past)
   window-more = go (window_of_turn turn) (found window_of_turn past)
     where
-      go : (w x : Option ℕ) → unwrap_or (first_of w x) 64 ≡ unwrap_or w (unwrap_or x 64)
+      go : (w x : Option ℕ) → unwrap_or (first_some w x) 64 ≡ unwrap_or w (unwrap_or x 64)
       go None x = refl
       go (Some w) x = refl
 

@@ -16,7 +16,7 @@ use Rattle.keeper_book.specs.declared.counters.Counter.TheVariants as counter
 use Rattle.keeper_book.specs.declared.records.Taken.{Taken}
 use Rattle.replay_set.specs.Window.{window_of}
 use Rattle.replay_set.proofs.Numbers.{noting_adds}
-use Rattle.turn_rules.specs.Held.{Held, found, first_of, five_of, grant_of, covers_of, number_of, greatest, since, next_of, high_of, holding, held_by, begun, after_number, after_received, received, received_in, received_of, advanced, held_after, used_in}
+use Rattle.turn_rules.specs.Held.{Held, found, first_some, five_of, grant_of, covers_of, number_of, greatest, since, next_number_of, high_of, holding, held_by, held_begun, after_number, after_received, received, received_in, received_of, advanced, held_after, used_in}
 use Rattle.turn_rules.specs.Tasks as task
 use Rattle.turn_rules.specs.Tasks.{Task, member_task, peer_task}
 
@@ -75,7 +75,7 @@ module _ (size spir : ℕ) (turn : Turn) (past : List Turn) where
   next_later : (taken : Taken) (c : Counter) → greatest (five_at taken.bases c) (map (λ n. n + 1) (filter_map (number_of spir c) (turn ∷ since spir past))) ≡ after_number (number_of spir c turn) (five_at (holding size spir past taken).nexts c)
   next_later taken c =
       greatest-cons_option (number_of spir c turn) (five_at taken.bases c) (filter_map (number_of spir c) (since spir past))
-      ∙ ap (after_number (number_of spir c turn)) (sym (five_at-five_of (λ d. next_of spir d taken.bases past) c))
+      ∙ ap (after_number (number_of spir c turn)) (sym (five_at-five_of (λ d. next_number_of spir d taken.bases past) c))
 
   high_later : (taken : Taken) (c : Counter) → greatest (five_at taken.bases c) (flat_map (covers_of spir c) (turn ∷ since spir past)) ≡ greatest (five_at (holding size spir past taken).highs c) (covers_of spir c turn)
   high_later taken c =
@@ -101,7 +101,7 @@ module _ (size spir : ℕ) (turn : Turn) (past : List Turn) where
   later_found None = refl
   later_found (Some taken) = ap Some (later taken)
 
-  granted_first : (grant : Option Taken) → option_map (held_as grant) (first_of grant (found (grant_of spir) past)) ≡ first_of (option_map (begun size) grant) (option_map (advanced spir (member_task turn.event) turn.calls turn.step) (held_by size past spir))
+  granted_first : (grant : Option Taken) → option_map (held_as grant) (first_some grant (found (grant_of spir) past)) ≡ first_some (option_map (held_begun size) grant) (option_map (advanced spir (member_task turn.event) turn.calls turn.step) (held_by size past spir))
   granted_first None = later_found (found (grant_of spir) past)
   granted_first (Some taken) = refl
 

@@ -26,12 +26,12 @@ use Rattle.keeper_book.specs.declared.faults.KeeperFault.TheVariants as fault
 use Rattle.keeper_book.specs.declared.records.Record.{Record}
 use Rattle.turn_rules.specs.Held.{Held}
 
-abbrev pub kind_of : Counter → Kind
-kind_of counter.EspOut = kind.EspOut
-kind_of counter.EspIn = kind.EspIn
-kind_of counter.Iv = kind.Iv
-kind_of counter.Ask = kind.Ask
-kind_of counter.Answer = kind.Answer
+abbrev pub counter_kind : Counter → Kind
+counter_kind counter.EspOut = kind.EspOut
+counter_kind counter.EspIn = kind.EspIn
+counter_kind counter.Iv = kind.Iv
+counter_kind counter.Ask = kind.Ask
+counter_kind counter.Answer = kind.Answer
 
 abbrev pub child_of : Counter → ℕ
 child_of counter.EspOut = 1
@@ -40,7 +40,7 @@ child_of c = 0
 
 -- the cluster's counter of an association
 abbrev pub counter_name : Record → Counter → CounterName
-counter_name sa c = record { origin = sa.origin; kind = kind_of c; child = child_of c; end = end.Cluster }
+counter_name sa c = record { origin = sa.origin; kind = counter_kind c; child = child_of c; end = end.Cluster }
 
 -- how far a counter of what is held reaches
 abbrev pub reach_of : Held → Counter → Reach
@@ -108,7 +108,7 @@ Admits (answer.Taken taken) verdict = ⊥
 Admits (answer.Refused why) verdict = MatchOption (refusal_of_import why) ⊥ (λ r. verdict ≡ out.Refused r)
 
 -- an association is entered by one call
-abbrev pub Enters : Record → List Call → Verdict → Type 0
-Enters sa [] verdict = ⊥
-Enters sa (call ∷ []) verdict = (call.asked ≡ ask.Enter sa) × Admits (seen call) verdict
-Enters sa (call ∷ other ∷ more) verdict = ⊥
+abbrev pub EntersRecord : Record → List Call → Verdict → Type 0
+EntersRecord sa [] verdict = ⊥
+EntersRecord sa (call ∷ []) verdict = (call.asked ≡ ask.Enter sa) × Admits (seen call) verdict
+EntersRecord sa (call ∷ other ∷ more) verdict = ⊥

@@ -16,7 +16,7 @@ use Rattle.keeper_book.specs.declared.calls.Call.{Call}
 use Rattle.keeper_book.specs.declared.records.Record.{Record}
 use Rattle.turn_rules.specs.Datagrams.{Delivery, MAX_DATAGRAMS, PlainDatagram, delivery_of}
 use Rattle.turn_rules.specs.Deliveries.{MemberTakes, PeerTakes}
-use Rattle.turn_rules.specs.Draws.{Draws, Enters, TakesOver}
+use Rattle.turn_rules.specs.Draws.{Draws, EntersRecord, TakesOver}
 use Rattle.turn_rules.specs.Held.{Held}
 use Rattle.turn_rules.specs.MemberPackets.{SendsData}
 use Rattle.turn_rules.specs.Peers.{admits}
@@ -122,7 +122,7 @@ run_refusal state event =
 abbrev pub Imports : RunState → Record → List Call → Step → Type 0
 Imports state sa calls step =
     Refusing (not (admits (records state.slots) sa)) refusal.SpiInUse calls step
-    (Quietly (Enters sa) calls step)
+    (Quietly (EntersRecord sa) calls step)
 
 -- a member draws a number of what it holds
 abbrev pub DrawsOf : Option Held → List Call → Step → Type 0
@@ -164,5 +164,5 @@ Does state event calls step = MatchOption (run_refusal state event)
     (λ why. Refuses why calls step)
 
 -- the same, after these turns
-abbrev pub Fits : ℕ → List Turn → Event → List Call → Step → Type 0
-Fits boxes past event calls step = Does (state_by boxes past) event calls step
+abbrev pub FitsTurns : ℕ → List Turn → Event → List Call → Step → Type 0
+FitsTurns boxes past event calls step = Does (state_by boxes past) event calls step

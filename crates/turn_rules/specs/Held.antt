@@ -36,14 +36,14 @@ pub record Held : Type 0 where
   pub highs : Five
   pub window : Window
 
-abbrev pub first_of : {Y : Type 0} → Option Y → Option Y → Option Y
-first_of None later = later
-first_of (Some y) later = Some y
+abbrev pub first_some : {Y : Type 0} → Option Y → Option Y → Option Y
+first_some None later = later
+first_some (Some y) later = Some y
 
 -- the first thing that is found in a list
 abbrev pub found : {X Y : Type 0} → (X → Option Y) → List X → Option Y
 found f [] = None
-found f (x ∷ xs) = first_of (f x) (found f xs)
+found f (x ∷ xs) = first_some (f x) (found f xs)
 
 abbrev pub greatest : ℕ → List ℕ → ℕ
 greatest least [] = least
@@ -127,8 +127,8 @@ since spir [] = []
 since spir (turn ∷ past) = if is_some (grant_of spir turn) then [] else turn ∷ since spir past
 
 -- one more than each number of the counter that was used since then, and no less than its base
-abbrev pub next_of : ℕ → Counter → Five → List Turn → ℕ
-next_of spir c bases past = greatest (five_at bases c) (map (λ n. n + 1) (filter_map (number_of spir c) (since spir past)))
+abbrev pub next_number_of : ℕ → Counter → Five → List Turn → ℕ
+next_number_of spir c bases past = greatest (five_at bases c) (map (λ n. n + 1) (filter_map (number_of spir c) (since spir past)))
 
 -- the greatest cover of the counter that was acknowledged since then, and no less than its base
 abbrev pub high_of : ℕ → Counter → Five → List Turn → ℕ
@@ -143,7 +143,7 @@ holding size spir past taken = record {
   sa = taken.sa;
   epoch = taken.epoch;
   bases = taken.bases;
-  nexts = five_of (λ c. next_of spir c taken.bases past);
+  nexts = five_of (λ c. next_number_of spir c taken.bases past);
   highs = five_of (λ c. high_of spir c taken.bases past);
   window = window_since size spir taken.bases past;
 }
@@ -153,8 +153,8 @@ abbrev pub held_by : ℕ → List Turn → ℕ → Option Held
 held_by size past spir = option_map (holding size spir past) (found (grant_of spir) past)
 
 -- what is held where nothing else was used, covered or received yet
-abbrev pub begun : ℕ → Taken → Held
-begun size taken = record {
+abbrev pub held_begun : ℕ → Taken → Held
+held_begun size taken = record {
   sa = taken.sa;
   epoch = taken.epoch;
   bases = taken.bases;
@@ -182,7 +182,7 @@ advanced spir asked calls step held = record held {
 -- what is held of the association after one more turn
 abbrev pub held_after : ℕ → ℕ → Task → List Call → Step → Option Held → Option Held
 held_after size spir asked calls step held =
-    first_of (option_map (begun size) (grant_in spir calls)) (option_map (advanced spir asked calls step) held)
+    first_some (option_map (held_begun size) (grant_in spir calls)) (option_map (advanced spir asked calls step) held)
 
 -- what is held of the association, of what is held
 abbrev pub held_at : List Held → ℕ → Option Held

@@ -5,7 +5,7 @@ use Rattle.events.specs.declared.turn.Turn.{Turn}
 use Rattle.keeper_book.specs.Book.{Book, StandsFor}
 use Rattle.keeper_book.specs.Told.{AreAnswers}
 use Rattle.keeper_book.specs.declared.calls.Call.{Call}
-use Rattle.turn_rules.specs.Fits.{Fits}
+use Rattle.turn_rules.specs.Fits.{FitsTurns}
 
 -- no answer was hidden from the end that asked
 abbrev pub AreShown : List Call → Type 0
@@ -13,7 +13,7 @@ AreShown calls = AllByRecursion (λ call. call.hidden ≡ false) calls
 
 -- a turn is explained by the turns before it
 pub record IsExplained (boxes : ℕ) (past : List Turn) (turn : Turn) : Type 0 where
-  pub fits : Fits boxes past turn.event turn.calls turn.step
+  pub fits : FitsTurns boxes past turn.event turn.calls turn.step
   pub shown : AreShown turn.calls
   -- each answer is one that its call has, whatever the keeper's book is
   pub answers : AreAnswers turn.calls

@@ -14,7 +14,7 @@ use Rattle.keeper_book.specs.declared.calls.Call.{Call}
 use Rattle.keeper_book.specs.declared.counters.Counter.TheVariants as counter
 use Rattle.turn_rules.specs.Draws.{counter_name, reach_of, refusal_of_stop}
 use Rattle.turn_rules.specs.Held.{Held}
-use Rattle.turn_rules.specs.Packets.{Drops, Inbound, Opens, Outbound, Sends}
+use Rattle.turn_rules.specs.Packets.{Drops, Inbound, OpensEsp, Outbound, SendsEsp}
 use Rattle.turn_rules.specs.Steps.{Says}
 
 abbrev pub outbound_of : Held → Outbound
@@ -30,7 +30,7 @@ inbound_of held = record { counter = counter_name held.sa counter.EspIn; key = h
 abbrev pub SendsData : Held → List ℕ → List Call → Step → Type 0
 SendsData held payload calls step = Ready (reach_of held counter.EspOut) (five_at held.nexts counter.EspOut) calls
     (λ why rest. (rest ≡ []) × Says (out.Refused (refusal_of_stop why)) step)
-    (λ high rest. (rest ≡ []) × Sends (outbound_of held) (five_at held.nexts counter.EspOut) payload step)
+    (λ high rest. (rest ≡ []) × SendsEsp (outbound_of held) (five_at held.nexts counter.EspOut) payload step)
 
 -- a packet that was opened is accepted once its number is ready
 abbrev pub TakesPacket : Held → Result EspOpened EspDrop → List Call → EspVerdict → Type 0
@@ -42,7 +42,7 @@ TakesPacket held (Ok packet) calls answer = Ready (reach_of held counter.EspIn) 
 -- what is done with the octets of a packet where this is held
 pub record ReceivesPacket (held : Held) (octets : List ℕ) (calls : List Call) (answer : EspVerdict) (after : List ℕ) : Type 0 where
   pub opened : Result EspOpened EspDrop
-  pub opens : Opens (inbound_of held) octets opened after
+  pub opens : OpensEsp (inbound_of held) octets opened after
   pub takes : TakesPacket held opened calls answer
 
 -- of what is held by responder's SPI, nothing receives at this SPI

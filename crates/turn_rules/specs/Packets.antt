@@ -30,7 +30,7 @@ pub record Inbound : Type 0 where
 
 -- A payload was sent under a number: its packet was sealed, with the number as its IV, and given. An IPv4 packet is what
 -- stands in it (RFC 4303, section 2.6: next header 4).
-pub record Sends (outbound : Outbound) (number : ℕ) (payload : List ℕ) (step : Step) : Type 0 where
+pub record SendsEsp (outbound : Outbound) (number : ℕ) (payload : List ℕ) (step : Step) : Type 0 where
   pub seal : Seal
   pub datagram : Datagram
   pub said : step.verdict ≡ out.Sent number
@@ -46,8 +46,8 @@ pub record Sends (outbound : Outbound) (number : ℕ) (payload : List ℕ) (step
 
 -- The first check of a packet that fails, or where its payload lies. What its octets are then comes last: the plaintext
 -- stands in the place of the ciphertext once it was opened.
-abbrev pub Opens : Inbound → List ℕ → Result EspOpened EspDrop → List ℕ → Type 0
-Opens inbound octets opened after = IsEspAnswer inbound.key inbound.spi inbound.window octets opened after
+abbrev pub OpensEsp : Inbound → List ℕ → Result EspOpened EspDrop → List ℕ → Type 0
+OpensEsp inbound octets opened after = IsEspAnswer inbound.key inbound.spi inbound.window octets opened after
 
 -- the packet was dropped, and its octets are as they were
 pub record Drops (why : EspDrop) (octets : List ℕ) (answer : EspVerdict) (after : List ℕ) : Type 0 where

@@ -15,11 +15,11 @@ entered_at_task (task.Enter sa) out.Entered = Some sa
 entered_at_task asked verdict = None
 
 -- the association that came to the peer, where the event is an import that was entered
-abbrev pub entered : Event → Verdict → Option Record
-entered event verdict = entered_at_task (peer_task event) verdict
+abbrev pub record_entered : Event → Verdict → Option Record
+record_entered event verdict = entered_at_task (peer_task event) verdict
 
 abbrev pub entered_in : Turn → Option Record
-entered_in turn = entered turn.event turn.step.verdict
+entered_in turn = record_entered turn.event turn.step.verdict
 
 -- the associations of the peer, in the order in which they came
 abbrev pub associations_by : List Turn → List Record

@@ -12,14 +12,14 @@ service_of peer members (Member zero) = None
 service_of peer members (Member (suc n)) = slice_get members n
 
 -- how many requests were executed in these turns
-abbrev pub times : List Turn → ℕ
-times past = length (filter (λ turn. is_some turn.step.served) past)
+abbrev pub services_executed : List Turn → ℕ
+services_executed past = length (filter (λ turn. is_some turn.step.served) past)
 
 -- what was executed in the turn, the service of its end may give when it has executed what it did before
 abbrev pub IsGiven : {B : Type 0} → (B → ReplyRelation) → (Performer → Option B) → List Turn → Turn → Type 0
 IsGiven gives service past turn = IfSome turn.step.served (λ served.
     IsSomeAnd (performer turn) (λ end.
-    IsSomeAnd (service end) (λ box. gives box (times (own end past) + 1) served.request.octets served.reply.octets)))
+    IsSomeAnd (service end) (λ box. gives box (services_executed (own end past) + 1) served.request.octets served.reply.octets)))
 
 -- the same of each turn
 unfoldable pub AreGiven : {B : Type 0} → (B → ReplyRelation) → (Performer → Option B) → List Turn → Type 0

@@ -21,9 +21,9 @@ use Rattle.keeper_book.specs.CounterEnds.{end_of}
 use Rattle.keeper_book.specs.declared.counters.Counter.TheVariants as counter
 use Rattle.keeper_book.specs.declared.records.Record.{Record}
 use Rattle.replay_set.specs.Window.{Window, window_of}
-use Rattle.turn_rules.specs.Draws.{child_of, kind_of}
+use Rattle.turn_rules.specs.Draws.{child_of, counter_kind}
 use Rattle.turn_rules.specs.Held.{after_number, after_received, greatest, received_in, received_of, used_in}
-use Rattle.turn_rules.specs.Packets.{Drops, Inbound, Opens, Outbound, Sends}
+use Rattle.turn_rules.specs.Packets.{Drops, Inbound, OpensEsp, Outbound, SendsEsp}
 use Rattle.turn_rules.specs.Peers.{associations_by, entered_at_task, entered_in}
 use Rattle.turn_rules.specs.Steps.{Says}
 use Rattle.turn_rules.specs.Tasks.{Task, peer_task}
@@ -36,7 +36,7 @@ pub record Slot : Type 0 where
 
 -- the peer's counter of an association
 abbrev pub peer_counter : Record → Counter → CounterName
-peer_counter sa c = record { origin = sa.origin; kind = kind_of c; child = child_of c; end = end.Peer }
+peer_counter sa c = record { origin = sa.origin; kind = counter_kind c; child = child_of c; end = end.Peer }
 
 -- Where the peer begins: its numbers are the cluster's, each end sending where the other one receives.
 abbrev pub entered_slot : ℕ → Record → Slot
@@ -110,7 +110,7 @@ slots_after size asked step slots =
 
 -- a payload is sent under the next number, unless the counter is at its end
 pub record SlotSends (slot : Slot) (payload : List ℕ) (step : Step) : Type 0 where
-  pub within : slot.next < 2 ^ 63 → Sends (slot_outbound slot) slot.next payload step
+  pub within : slot.next < 2 ^ 63 → SendsEsp (slot_outbound slot) slot.next payload step
   pub ended : 2 ^ 63 ≤ slot.next → Says (out.Refused refusal.Exhausted) step
 
 -- the peer sends a payload in an association
@@ -127,7 +127,7 @@ SlotTakes slot (Ok packet) answer = answer ≡ esp.Accepted (peer_counter slot.s
 -- what a slot answers to the octets of a packet
 pub record SlotReceives (slot : Slot) (octets : List ℕ) (answer : EspVerdict) (after : List ℕ) : Type 0 where
   pub opened : Result EspOpened EspDrop
-  pub opens : Opens (slot_inbound slot) octets opened after
+  pub opens : OpensEsp (slot_inbound slot) octets opened after
   pub takes : SlotTakes slot opened answer
 
 -- What the peer answers to the octets of a packet, and what they are then: they are too short, or nothing receives at

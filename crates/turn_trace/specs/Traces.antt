@@ -17,9 +17,9 @@ pub record Traced : Type 0 where
 abbrev pub past_of : List Turn → Option Turn → List Turn
 past_of earlier newest = option_to_list newest ++ reverse earlier
 
-abbrev pub calls_of : Option Turn → List Call
-calls_of None = []
-calls_of (Some turn) = turn.calls
+abbrev pub calls_in : Option Turn → List Call
+calls_in None = []
+calls_in (Some turn) = turn.calls
 
 abbrev pub seals_of : Option Turn → List Seal
 seals_of None = []

@@ -28,14 +28,14 @@ pub struct Trace {
 
 impl Model for Trace {
     ghost use Rattle.std.specs.Prelude.{◌+◌, ◌&&◌, length, nat_le, nat_lt};
-    ghost use Rattle.turn_trace.specs.Traces.{Traced, AreTraced, calls_of, past_of, seals_of};
+    ghost use Rattle.turn_trace.specs.Traces.{Traced, AreTraced, calls_in, past_of, seals_of};
 
     ghost Value = { Traced };
 
     ghost view = { λ t. record {
       past = past_of t.earlier.items t.newest;
       ready = nat_lt t.earlier.len t.earlier.cap && nat_lt t.given.len t.given.cap
-          && nat_le (t.calls_room.len + length (calls_of t.newest)) t.calls_room.cap
+          && nat_le (t.calls_room.len + length (calls_in t.newest)) t.calls_room.cap
           && nat_le (t.seals_room.len + length (seals_of t.newest)) t.seals_room.cap;
     } };
 

@@ -1,10 +1,10 @@
 use Rattle.std.proofs.Common.{◌∙◌, ◌++◌, get_or, sym}
-use Rattle.aes_gcm.specs.Columns.{octets_of}
+use Rattle.aes_gcm.specs.Columns.{column_octets}
 use Rattle.aes_gcm.proofs.WordRounds.{octets_of_word, spelled}
 use Rattle.aes_gcm.proofs.columns.load.Goals as goal
 
 pub returns : goal.returns
-unfolding octets_of
+unfolding column_octets
 returns c =
     let b = c.args.block.now in
     let first =

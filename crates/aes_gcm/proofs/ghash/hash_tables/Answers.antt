@@ -2,13 +2,13 @@ use Rattle.std.proofs.Common.{◌≡◌, ◌≢◌, ◌∙◌, ◌+◌, ◌*◌,
 use Rattle.std.proofs.lemmas.Bool.{cases_eq}
 use Rattle.std.proofs.lemmas.List.{get_or-set_same, get_or-set_other}
 use Rattle.aes_gcm.specs.Gcm.{product_low}
-use Rattle.aes_gcm.specs.HashTables.{raised}
+use Rattle.aes_gcm.specs.HashTables.{times_power}
 use Rattle.aes_gcm.proofs.HashTables.{raised_sixteen, made_of, made_table}
 use Rattle.aes_gcm.proofs.ghash.hash_tables.Goals as goal
 use Rattle.aes_gcm.proofs.ghash.hash_tables.Goals.{then-i-eq15, else-i-eq15}
 
 pub loop-i-init : goal.loop-i-init
-unfolding raised
+unfolding times_power
 loop-i-init c = record { entries = λ j h. absurd (omega arith); long = refl; power_is = refl }
 
 pub loop-i-preserved : goal.loop-i-preserved
@@ -24,10 +24,10 @@ loop-i-preserved c =
       power_is = elim c.if-i-eq15.branch [
         | then-i-eq15 w ↦
             let next : 16 * (i / 16) + 16 ≡ 16 * ((i + 1) / 16) = omega arith in
-            w.power-is ∙ w.times_x4-power.ensures ∙ ap (raised 4) (w.times_x4-then-i-eq15-2.ensures ∙ ap (raised 4) (w.times_x4-then-i-eq15.ensures ∙ ap (raised 4) (w.times_x4.ensures ∙ ap (raised 4) inv.power_is))) ∙ raised_sixteen (16 * (i / 16)) h ∙ ap (λ n. raised n h) next
+            w.power-is ∙ w.times_x4-power.ensures ∙ ap (times_power 4) (w.times_x4-then-i-eq15-2.ensures ∙ ap (times_power 4) (w.times_x4-then-i-eq15.ensures ∙ ap (times_power 4) (w.times_x4.ensures ∙ ap (times_power 4) inv.power_is))) ∙ raised_sixteen (16 * (i / 16)) h ∙ ap (λ n. times_power n h) next
         | else-i-eq15 w ↦
             let same : i / 16 ≡ (i + 1) / 16 = omega arith in
-            w.power-is ∙ inv.power_is ∙ ap (λ n. raised (16 * n) h) same
+            w.power-is ∙ inv.power_is ∙ ap (λ n. times_power (16 * n) h) same
       ];
     }
 

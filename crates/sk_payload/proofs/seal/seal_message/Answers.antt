@@ -1,5 +1,5 @@
 use Rattle.std.proofs.Common.{◌≡◌, ◌+◌, ◌-◌, ◌^◌, ◌<◌, ◌++◌, length, drop, take, vec_len, ap, ◌∙◌, take_at, arith}
-use Rattle.ike_values.specs.Writing.{first_of}
+use Rattle.ike_values.specs.Writing.{first_type_of}
 use Rattle.sk_payload.specs.Front.{header_octets, sk_front}
 use Rattle.sk_payload.specs.Message.{plain_of}
 use Rattle.sk_payload.proofs.Frames.{text_is, front_is, octets_long}
@@ -24,7 +24,7 @@ module _ (c : goal.After-of) where
   small : c.args.n.value < 2 ^ 64
   small = omega (arith, c.value.type_inv, c.value.ensures)
 
-  first : c.index.result.now ≡ first_of c.args.frame.payloads
+  first : c.index.result.now ≡ first_type_of c.args.frame.payloads
   first = c.index.ensures ∙ front_is c.into_message-message.result.items c.args.frame.payloads c.index.result.now c.into_message-message.ensures.octets
 
   before : c.front_octets-front.result ≡ header_octets c.args.header.now (vec_len c.into_message-message.result + 16) ++ sk_front c.index.result.now (vec_len c.into_message-message.result + 16 - 28) c.args.n.value

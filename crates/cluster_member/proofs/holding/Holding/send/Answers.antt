@@ -6,7 +6,7 @@ use Rattle.spend_once.specs.Lot.{Drawn}
 use Rattle.turn_rules.specs.Draws.{reach_of}
 use Rattle.turn_rules.specs.Held.{Held}
 use Rattle.turn_rules.specs.MemberPackets.{outbound_of}
-use Rattle.turn_rules.specs.Packets.{Outbound, Sends}
+use Rattle.turn_rules.specs.Packets.{Outbound, SendsEsp}
 use Rattle.cluster_member.specs.Uses.{SendsNext}
 use Rattle.cluster_member.proofs.Sending.{sends-next}
 use Rattle.cluster_member.proofs.holding.Holding.send.Goals as goal
@@ -42,10 +42,10 @@ module _ (g : _) (c : goal.After-send g) where
       let of = c.self.invariant.packets in
       record { key = record { name = of.sent_name i; octets = of.sent_key i }; spi = of.sent_spi i }
 
-  sent : Sends (outbound_of (holding_of c.self.inside.esp_out)) c.self.inside.esp_out.next c.args.payload.now c.send.result
+  sent : SendsEsp (outbound_of (holding_of c.self.inside.esp_out)) c.self.inside.esp_out.next c.args.payload.now c.send.result
   sent =
-      subst (λ (o : Outbound). Sends o c.self.inside.esp_out.next c.args.payload.now c.send.result) outbound
-      (subst (λ n. Sends c.self.inside.outbound n c.args.payload.now c.send.result) (ap (λ (n : Drawn). n.value) c.in-Ok.ensures.number) c.send.ensures)
+      subst (λ (o : Outbound). SendsEsp o c.self.inside.esp_out.next c.args.payload.now c.send.result) outbound
+      (subst (λ n. SendsEsp c.self.inside.outbound n c.args.payload.now c.send.result) (ap (λ (n : Drawn). n.value) c.in-Ok.ensures.number) c.send.ensures)
 
 pub returns-in-Ok-clause-sends : goal.returns-in-Ok-clause-sends
 returns-in-Ok-clause-sends g c =

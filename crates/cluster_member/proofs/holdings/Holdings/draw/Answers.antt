@@ -11,7 +11,7 @@ use Rattle.cluster_member.proofs.Advancing.{Advances, draws-advances, draws-rule
 use Rattle.cluster_member.proofs.PlaceLemmas.{apart_set, found_at, others_at, put_at}
 use Rattle.cluster_member.proofs.Placed.{placed, refused-holds}
 use Rattle.cluster_member.proofs.holdings.Holdings.draw.Goals as goal
-use Rattle.cluster_member.specs.Places.{AllHeld, IsPlaceOf, KeepsOthers}
+use Rattle.cluster_member.specs.Places.{AllHeld, IsHoldingPlace, KeepsOthers}
 
 pub returns-in-Some : goal.returns-in-Some
 returns-in-Some g c =
@@ -19,7 +19,7 @@ returns-in-Some g c =
     let held = c.index_mut-holding.result.now in
     let new = c.draw.new.self in
     let it = c.draw.ensures.draws in
-    let place : IsPlaceOf c.args.spir c.in-Some.place items = rw c.deref.ensures.value at c.in-Some.ensures in
+    let place : IsHoldingPlace c.args.spir c.in-Some.place items = rw c.deref.ensures.value at c.in-Some.ensures in
     let is : held.sa.spir ≡ c.args.spir = place.here held c.index_mut-holding.ensures.value in
     let same : new.sa.spir ≡ c.args.spir = ap (λ (sa : Record). sa.spir) c.draw.ensures.sa ∙ is in
     let found : held_at c.args.self.now.held c.args.spir ≡ Some held = ap (λ (v : AllHeld). held_at v.held c.args.spir) (sym c.self.view_is) ∙ found_at c.args.spir c.in-Some.place items held place c.index_mut-holding.ensures.value in
@@ -44,7 +44,7 @@ invariant_of-self g c =
     let items = c.self.inside.items.items in
     let held = c.index_mut-holding.result.now in
     let new = c.draw.new.self in
-    let place : IsPlaceOf c.args.spir c.in-Some.place items = rw c.deref.ensures.value at c.in-Some.ensures in
+    let place : IsHoldingPlace c.args.spir c.in-Some.place items = rw c.deref.ensures.value at c.in-Some.ensures in
     let same : new.sa.spir ≡ c.args.spir = ap (λ (sa : Record). sa.spir) c.draw.ensures.sa ∙ place.here held c.index_mut-holding.ensures.value in
     apart_set c.args.spir new same c.in-Some.place items place.within place.none_before place.here c.self.invariant
 

@@ -1,20 +1,20 @@
 -- A holding in the place of another one, or behind the others.
 use Rattle.std.proofs.Common.{◌≡◌, None, ap, refl, sym, subst, ◌∙◌}
 use Rattle.turn_rules.specs.Held.{held_at}
-use Rattle.cluster_member.specs.Places.{AllHeld, AreApart, IsPlaceOf}
+use Rattle.cluster_member.specs.Places.{AllHeld, AreApart, IsHoldingPlace}
 use Rattle.cluster_member.proofs.PlaceLemmas.{apart_more, apart_set, one_more, others_at, others_more, put_at}
 use Rattle.cluster_member.proofs.holdings.Holdings.put.Goals as goal
 
 pub returns-in-Some-clause-put : goal.returns-in-Some-clause-put
 returns-in-Some-clause-put c =
     let items = c.self.inside.items.items in
-    let place : IsPlaceOf c.args.holding.sa.spir c.in-Some.place items = rw (c.deref.ensures.value, c.spir.ensures) at c.in-Some.ensures in
+    let place : IsHoldingPlace c.args.holding.sa.spir c.in-Some.place items = rw (c.deref.ensures.value, c.spir.ensures) at c.in-Some.ensures in
     put_at c.args.holding.sa.spir c.in-Some.place items c.args.holding refl place
 
 pub returns-in-Some-clause-others : goal.returns-in-Some-clause-others
 returns-in-Some-clause-others c = λ other differs.
     let items = c.self.inside.items.items in
-    let place : IsPlaceOf c.args.holding.sa.spir c.in-Some.place items = rw (c.deref.ensures.value, c.spir.ensures) at c.in-Some.ensures in
+    let place : IsHoldingPlace c.args.holding.sa.spir c.in-Some.place items = rw (c.deref.ensures.value, c.spir.ensures) at c.in-Some.ensures in
     others_at c.args.holding.sa.spir c.in-Some.place other items c.args.holding refl differs place
     ∙ ap (λ (v : AllHeld). held_at v.held other) c.self.view_is
 
@@ -33,7 +33,7 @@ returns-in-None-clause-others c = λ other differs.
 pub invariant_of-self : goal.invariant_of-self
 invariant_of-self c =
     let items = c.self.inside.items.items in
-    let place : IsPlaceOf c.args.holding.sa.spir c.in-Some.place items = rw (c.deref.ensures.value, c.spir.ensures) at c.in-Some.ensures in
+    let place : IsHoldingPlace c.args.holding.sa.spir c.in-Some.place items = rw (c.deref.ensures.value, c.spir.ensures) at c.in-Some.ensures in
     apart_set c.args.holding.sa.spir c.args.holding refl c.in-Some.place items place.within place.none_before place.here c.self.invariant
 
 pub invariant_of-self-in-None : goal.invariant_of-self-in-None

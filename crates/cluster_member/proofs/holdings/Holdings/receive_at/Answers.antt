@@ -13,7 +13,7 @@ use Rattle.cluster_member.proofs.PlaceLemmas.{apart_set, others_at, put_at}
 use Rattle.cluster_member.proofs.Placed.{dropped-holds, placed}
 use Rattle.cluster_member.proofs.ReceiverLemmas.{nowhere, place_is, receiver_at}
 use Rattle.cluster_member.proofs.holdings.Holdings.receive_at.Goals as goal
-use Rattle.cluster_member.specs.Places.{AllHeld, IsLeastAt, IsPlaceOf, KeepsOthers, NoneReceives}
+use Rattle.cluster_member.specs.Places.{AllHeld, IsLeastAt, IsHoldingPlace, KeepsOthers, NoneReceives}
 
 pub invariant_of-self : goal.invariant_of-self
 invariant_of-self g c =
@@ -21,7 +21,7 @@ invariant_of-self g c =
     let holding = c.index_mut-holding.result.now in
     let new = c.receive.new.self in
     let least : IsLeastAt c.args.spi c.in-Some.place items items = rw c.deref.ensures.value at c.in-Some.ensures in
-    let place : IsPlaceOf holding.sa.spir c.in-Some.place items = place_is c.in-Some.place items holding c.self.invariant least.within c.index_mut-holding.ensures.value in
+    let place : IsHoldingPlace holding.sa.spir c.in-Some.place items = place_is c.in-Some.place items holding c.self.invariant least.within c.index_mut-holding.ensures.value in
     let same : new.sa.spir ≡ holding.sa.spir = ap (λ (sa : Record). sa.spir) c.receive.ensures.sa in
     apart_set holding.sa.spir new same c.in-Some.place items place.within place.none_before place.here c.self.invariant
 
@@ -33,7 +33,7 @@ returns-in-Some-clause-receives g c =
     let it = c.receive.ensures.receives in
     let old : items ≡ c.args.self.now.held = ap (λ (v : AllHeld). v.held) c.self.view_is in
     let least : IsLeastAt c.args.spi c.in-Some.place items items = rw c.deref.ensures.value at c.in-Some.ensures in
-    let place : IsPlaceOf holding.sa.spir c.in-Some.place items = place_is c.in-Some.place items holding c.self.invariant least.within c.index_mut-holding.ensures.value in
+    let place : IsHoldingPlace holding.sa.spir c.in-Some.place items = place_is c.in-Some.place items holding c.self.invariant least.within c.index_mut-holding.ensures.value in
     let same : new.sa.spir ≡ holding.sa.spir = ap (λ (sa : Record). sa.spir) c.receive.ensures.sa in
     let receiver : IsReceiver (held_at c.args.self.now.held) (spi_of c.args.bytes.now) holding.sa.spir holding =
     subst (λ spi. IsReceiver (held_at c.args.self.now.held) spi holding.sa.spir holding) c.requires.spi

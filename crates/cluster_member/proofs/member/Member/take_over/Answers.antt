@@ -4,7 +4,7 @@ use Rattle.keeper_book.specs.Told.{seen}
 use Rattle.keeper_book.specs.declared.calls.KeeperAnswer.TheVariants as answer
 use Rattle.keeper_book.specs.declared.calls.KeeperAsk.TheVariants as ask
 use Rattle.turn_rules.specs.Draws.{Grants}
-use Rattle.turn_rules.specs.Held.{Held, begun, held_at}
+use Rattle.turn_rules.specs.Held.{Held, held_begun, held_at}
 use Rattle.turn_rules.specs.Tasks as task
 use Rattle.cluster_member.proofs.Taking.{took}
 use Rattle.cluster_member.proofs.member.Member.take_over.Goals as goal
@@ -25,8 +25,8 @@ returns-in-Ok-clause-takes g c =
     let asked : call.asked ≡ ask.TakeOver spir c.args.self.now.number = called.1.asks ∙ ap (ask.TakeOver spir) number in
     let sees : seen call ≡ answer.Taken taken = called.1.sees in
     let its : taken.sa.spir ≡ spir = c.in-Ok.ensures.record_asked in
-    let begins : c.begin.result ≡ begun size taken = c.begin.ensures in
-    let put : held_at now taken.sa.spir ≡ Some (begun size taken) = subst (λ (h : Held). held_at now h.sa.spir ≡ Some h) begins c.put.ensures.put in
+    let begins : c.begin.result ≡ held_begun size taken = c.begin.ensures in
+    let put : held_at now taken.sa.spir ≡ Some (held_begun size taken) = subst (λ (h : Held). held_at now h.sa.spir ≡ Some h) begins c.put.ensures.put in
     let others : KeepsOthers taken.sa.spir c.reserve.new.self.held now = subst (λ (h : Held). KeepsOthers h.sa.spir c.reserve.new.self.held now) begins c.put.ensures.others in
     let old : c.reserve.new.self.held ≡ c.args.self.now.held = c.in_ok-reserve.ensures.held ∙ ap (λ (v : Holder). v.held) c.self.view_is in
     let holds : HoldsAfter size (task.TakeOver spir) (call ∷ []) step c.reserve.new.self.held now = took size spir c.args.self.now.number call step asked taken c.reserve.new.self.held now sees its put others in

@@ -1,12 +1,12 @@
 -- The call that was passed on is recorded as it was answered.
 use Rattle.std.proofs.Common.{ap}
 use Rattle.keeper_book.specs.declared.calls.KeeperAsk.TheVariants as ask
-use Rattle.keeper_book.specs.Told.{taken}
+use Rattle.keeper_book.specs.Told.{taken_answer}
 use Rattle.keeper_book.proofs.Passed.{passed, recorded}
 use Rattle.keeper_book.proofs.gates.GateKeeper.take_over.Goals as goal
 
 pub returns-clause-call : goal.returns-clause-call
 returns-clause-call g c =
     let call = c.take_over-result.ensures.call in
-    passed c.self.inside.keeper c.self.inside.calls c.self.inside.missed c.args.self.now c.record.new.self c.self.view_is (ask.TakeOver c.args.spir c.args.member) (taken c.take_over-result.result) _ call.0 _
+    passed c.self.inside.keeper c.self.inside.calls c.self.inside.missed c.args.self.now c.record.new.self c.self.view_is (ask.TakeOver c.args.spir c.args.member) (taken_answer c.take_over-result.result) _ call.0 _
     call.1 call.2 c.record.ensures.keeper (ap (recorded (ask.TakeOver c.args.spir c.args.member)) c.of_taken.ensures) c.record.ensures.calls c.record.ensures.missed
