@@ -14,7 +14,8 @@ use Rattle.events.specs.declared.verdict.Verdict.{Verdict}
 use Rattle.events.specs.declared.verdict.Verdict.TheVariants as out
 use Rattle.keeper_book.specs.declared.calls.Call.{Call}
 use Rattle.turn_rules.proofs.Refusals.{refusal-of_run}
-use Rattle.turn_rules.specs.Datagrams.{Delivery, MAX_DATAGRAMS, arrives, datagrams_of}
+use Rattle.ha_base.specs.declared.limits.TheConstants.{MAX_DATAGRAMS}
+use Rattle.turn_rules.specs.Datagrams.{Delivery, arrives, datagrams_of}
 use Rattle.turn_rules.specs.Ends.{end_of_party, performer_of}
 use Rattle.turn_rules.specs.Fits.{Performs, Receives, Refuses, has_joined, is_of_datagrams, member_of, named_in, refused_absent, refused_arrival, refused_besides, refused_where, run_refusal}
 use Rattle.turn_rules.specs.Held.{window_in}

@@ -15,6 +15,7 @@ use Rattle.events.specs.declared.verdict.Refusal.TheVariants as refusal
 use Rattle.events.specs.declared.verdict.Verdict.TheVariants as out
 use Rattle.ha_base.specs.Octets.{WithRoom}
 use Rattle.ha_base.specs.declared.identities.Identity.{Identity}
+use Rattle.ha_base.specs.declared.limits.TheConstants.{MAX_DATAGRAMS, PAYLOAD_OCTETS}
 use Rattle.keeper_book.specs.declared.calls.Call.{Call}
 use Rattle.keeper_book.specs.declared.keepers.Keeper.{Ghosts}
 use Rattle.keeper_book.specs.declared.records.Record.{Record}
@@ -63,7 +64,7 @@ module _ (past : List Turn) (s : EndsHeld) (member place : ℕ) (x : Option Hold
   draws spir calls step does after = acts-plays past s (event.Draw member spir) member refl refl in_place place x is seat (record { by = λ v. refl; no_window = λ v. refl }) was now calls step new some refl refl
       (draws-proper (held_at was.held spir) calls step does).said (subst (λ (y : Option Holder). DrawsOf (held_in y spir) calls step) (sym its) does) after leaves
 
-  pub sends : (spir : ℕ) (payload : WithRoom) (octets : List ℕ) (calls : List Call) (step : Step) → payload.octets ≡ octets → length octets ≤ 1400 → nat_le 65536 (length (datagrams_of past)) ≡ false
+  pub sends : (spir : ℕ) (payload : WithRoom) (octets : List ℕ) (calls : List Call) (step : Step) → payload.octets ≡ octets → length octets ≤ PAYLOAD_OCTETS → nat_le MAX_DATAGRAMS (length (datagrams_of past)) ≡ false
       → SendsOf (held_at was.held spir) octets calls step → IsAfter (task.Send spir octets) calls step was now → Plays past s (event.Send (parties.Member member) spir payload) calls step new
   sends spir payload octets calls step same size room does after =
       let at : Event = event.Send (parties.Member member) spir payload in
@@ -73,7 +74,7 @@ module _ (past : List Turn) (s : EndsHeld) (member place : ℕ) (x : Option Hold
       (sends-proper (held_at was.held spir) octets calls step size does).said (subst (λ (y : Option Holder). SendsOf (held_in y spir) payload.octets calls step) (sym its) it) later leaves
 
   -- what arrives is taken by a member
-  pub takes : (at : Event) → DeliversTo at (parties.Member member) → nat_le 65536 (length (datagrams_of past)) ≡ false → (datagram : PlainDatagram) → arrives (datagrams_of past) at ≡ Ok datagram
+  pub takes : (at : Event) → DeliversTo at (parties.Member member) → nat_le MAX_DATAGRAMS (length (datagrams_of past)) ≡ false → (datagram : PlainDatagram) → arrives (datagrams_of past) at ≡ Ok datagram
       → (calls : List Call) (step : Step) → MemberTakesIn datagram.medium datagram.octets calls step was now → s ≡ record s { members = set s.members place (Some was) } → Plays past s at calls step new
   takes at to room datagram found calls step = by_medium datagram.medium refl
     where
@@ -183,7 +184,7 @@ module _ (past : List Turn) (s : EndsHeld) (in_place : AreInPlace s) (identity :
 
 module _ (past : List Turn) (s : EndsHeld) (in_place : AreInPlace s) (step : Step) (new : EndsHeld) where
   -- the peer sends
-  pub peer_sends : (spir : ℕ) (payload : WithRoom) (octets : List ℕ) → payload.octets ≡ octets → length octets ≤ 1400 → nat_le 65536 (length (datagrams_of past)) ≡ false → PeerSends spir s.slots octets step
+  pub peer_sends : (spir : ℕ) (payload : WithRoom) (octets : List ℕ) → payload.octets ≡ octets → length octets ≤ PAYLOAD_OCTETS → nat_le MAX_DATAGRAMS (length (datagrams_of past)) ≡ false → PeerSends spir s.slots octets step
       → new ≡ record s { slots = slots_after s.window (task.Send spir octets) step s.slots } → Plays past s (event.Send parties.Peer spir payload) [] step new
   peer_sends spir payload octets same size room does leaves =
       let at : Event = event.Send parties.Peer spir payload in
@@ -199,7 +200,7 @@ module _ (past : List Turn) (s : EndsHeld) (in_place : AreInPlace s) (step : Ste
   pub not_arrives : (at : Event) (to : Party) → DeliversTo at to → (why : Refusal) → arrives (datagrams_of past) at ≡ Err why → run_refusal (state_of past s) at ≡ refused_besides (state_of past s) at → Says (out.Refused why) step → new ≡ s → Plays past s at [] step new
   not_arrives at to d why found present says same = refused-plays past s at why step new in_place (present ∙ (brings at to d).besides (state_of past s) ∙ ap refused_arrival found) says same
 
-  pub peer_takes : (at : Event) → DeliversTo at parties.Peer → nat_le 65536 (length (datagrams_of past)) ≡ false → (datagram : PlainDatagram) → arrives (datagrams_of past) at ≡ Ok datagram → (was now : PeerHeld) → was.slots ≡ s.slots → was.window ≡ s.window
+  pub peer_takes : (at : Event) → DeliversTo at parties.Peer → nat_le MAX_DATAGRAMS (length (datagrams_of past)) ≡ false → (datagram : PlainDatagram) → arrives (datagrams_of past) at ≡ Ok datagram → (was now : PeerHeld) → was.slots ≡ s.slots → was.window ≡ s.window
       → PeerTakesIn datagram.medium datagram.octets step was now → new ≡ record s { slots = now.slots } → Plays past s at [] step new
   peer_takes at to room datagram found was now same_slots same_window takes leaves = by_medium datagram.medium refl takes
     where

@@ -9,8 +9,9 @@ use Rattle.events.specs.declared.turn.Step.{Step}
 use Rattle.events.specs.declared.turn.Turn.{Turn}
 use Rattle.events.specs.declared.verdict.Refusal.{Refusal}
 use Rattle.ha_base.specs.declared.identities.Identity.{Identity}
+use Rattle.ha_base.specs.declared.limits.TheConstants.{DATAGRAM_OCTETS, MAX_DATAGRAMS}
 use Rattle.keeper_book.specs.declared.calls.Call.{Call}
-use Rattle.turn_rules.specs.Datagrams.{MAX_DATAGRAMS, PlainDatagram, datagrams_of, delivery_of, plain_datagram}
+use Rattle.turn_rules.specs.Datagrams.{PlainDatagram, datagrams_of, delivery_of, plain_datagram}
 use Rattle.turn_rules.specs.Fits.{Does}
 use Rattle.turn_rules.specs.Held.{Held, held_at}
 use Rattle.turn_rules.specs.Local.{Local}
@@ -100,7 +101,7 @@ HasRoom past = nat_le MAX_DATAGRAMS (length (datagrams_of past)) ≡ false
 
 -- datagrams are of at most so many octets
 abbrev pub IsShort : PlainDatagram → Type 0
-IsShort datagram = length datagram.octets ≤ 2048
+IsShort datagram = length datagram.octets ≤ DATAGRAM_OCTETS
 
 -- what is held is what the turns make of it, and each turn is explained by those before it
 pub record AreKept (past : List Turn) (s : EndsHeld) : Type 0 where

@@ -18,17 +18,11 @@ use crate::settings::Settings;
 use cluster_member::{Member, of_import};
 use cluster_peer::Peer;
 use events::{Event, Refusal, Step, Verdict};
-use ha_base::Memory;
+use ha_base::{LEAST_ESP_SPI, LEAST_SPI, Memory};
 use keeper_book::{Keeper, Record};
 use std::alloc::Global;
 use std::marker::Model;
 use turn_trace::Trace;
-
-/// The least SPI of an IKE association that may be imported.
-const LEAST_SPI: u64 = 1 << 48;
-
-/// The least ESP SPI that may be imported.
-const LEAST_ESP_SPI: u32 = 65_536;
 
 /// The peer, and the members that joined.
 #[derive(Drop)]

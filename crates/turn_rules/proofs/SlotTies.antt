@@ -1,6 +1,6 @@
 -- What the peer holds after one more turn of its own is what that turn makes of what it held.
 use Rattle.std.proofs.Common.{◌≡◌, ◌≢◌, ℕ, ◌+◌, ◌==◌, ◌||◌, ◌⊎◌, inl, inr, unwrap_or, Bool, true, false, not, Option, Some, None, MatchOption, List, [], ◌∷◌, ◌++◌, map, option_to_list, ⊎_elim, refl, ap, ap₂, sym, ◌∙◌, subst, if◌then◌else◌}
-use Rattle.std.proofs.lemmas.Bool.{eqb-false, eq-eqb, ne_eqb}
+use Rattle.std.proofs.lemmas.Bool.{eqb-false, eq-eqb, ne_eqb, not-false, not-true, or_parts}
 use Rattle.std.proofs.lemmas.List.{map-append}
 use Rattle.std.proofs.lemmas.Option.{same_Some}
 use Rattle.std.specs.List.{AllByRecursion, filter_map, list_any}
@@ -34,15 +34,6 @@ pub all-weaker : {X : Type 0} {P Q : X → Type 0} (xs : List X) → ((x : X) �
 all-weaker [] f all = tt
 all-weaker (x ∷ xs) f all = (f x all.0, all-weaker xs f all.1)
 
-pub neither : (a b : Bool) → (a || b) ≡ false → (a ≡ false) × (b ≡ false)
-neither false false e = (refl, refl)
-neither false true e = absurd (cc)
-neither true b e = absurd (cc)
-
-not-true : (b : Bool) → not b ≡ true → b ≡ false
-not-true false e = refl
-not-true true e = absurd (cc)
-
 -- what the peer holds is of the associations that came to it
 records-map : (size : ℕ) (past : List Turn) (associations : List Record) → records (map (slot_by size past) associations) ≡ associations
 records-map size past [] = refl
@@ -58,8 +49,8 @@ admits-differ slots sa e = go slots (not-true (list_any (clashes sa) slots) e)
     go : (slots : List Record) → list_any (clashes sa) slots ≡ false → AllByRecursion (λ slot. Differ slot sa) slots
     go [] e = tt
     go (slot ∷ more) e =
-        let parts : (clashes sa slot ≡ false) × (list_any (clashes sa) more ≡ false) = neither (clashes sa slot) (list_any (clashes sa) more) e in
-        let tests : ((slot.spir == sa.spir) ≡ false) × ((slot.spi_out == sa.spi_out) ≡ false) = neither (slot.spir == sa.spir) (slot.spi_out == sa.spi_out) parts.0 in
+        let parts : (clashes sa slot ≡ false) × (list_any (clashes sa) more ≡ false) = or_parts (clashes sa slot) (list_any (clashes sa) more) e in
+        let tests : ((slot.spir == sa.spir) ≡ false) × ((slot.spi_out == sa.spi_out) ≡ false) = or_parts (slot.spir == sa.spir) (slot.spi_out == sa.spi_out) parts.0 in
         (record { spir = eqb-false slot.spir sa.spir tests.0; spi_out = eqb-false slot.spi_out sa.spi_out tests.1 }, go more parts.1)
 
 pub apart-append : (old : List Record) (sa : Record) → AreDistinct old → AllByRecursion (λ slot. Differ slot sa) old → AreDistinct (old ++ sa ∷ [])
@@ -129,10 +120,6 @@ unless_refused false why calls step otherwise said = (refl, otherwise)
 entered-import : (asked sa : Record) (verdict : Verdict) → record_entered (event.Import asked) verdict ≡ Some sa → (verdict ≡ out.Entered) × (asked ≡ sa)
 entered-import asked sa out.Entered e = (refl, same_Some asked sa e)
 entered-import asked sa verdict e = absurd (cc)
-
-not-false : (b : Bool) → not b ≡ false → b ≡ true
-not-false true e = refl
-not-false false e = absurd (cc)
 
 enters-admitted : (state : RunState) (event : Event) (calls : List Call) (step : Step) (sa : Record) → Does state event calls step → record_entered event step.verdict ≡ Some sa → admits (records state.slots) sa ≡ true
 enters-admitted state (event.Import asked) calls step sa does e = by_refusal (run_refusal state (event.Import asked)) does

@@ -1,9 +1,10 @@
 -- What turns make of what the ends hold is what each end's own turns tell of it.
 use Rattle.std.proofs.Common.{◌≡◌, ℕ, ◌||◌, unwrap_or, Bool, true, false, Option, Some, None, List, [], ◌∷◌, ◌++◌, option_to_list, append-nil, length, refl, ap, sym, ◌∙◌, subst, if◌then◌else◌}
+use Rattle.std.proofs.lemmas.Bool.{or_parts}
 use Rattle.std.specs.List.{filter}
 use Rattle.events.specs.declared.turn.Turn.{Turn}
 use Rattle.keeper_book.specs.declared.records.Record.{Record}
-use Rattle.turn_rules.proofs.SlotTies.{DoesTold, admits-differ, apart-append, import-admits, neither, other-window, own-window, slots-other, slots-own}
+use Rattle.turn_rules.proofs.SlotTies.{DoesTold, admits-differ, apart-append, import-admits, other-window, own-window, slots-other, slots-own}
 use Rattle.turn_rules.proofs.Ties.{held_by-cons}
 use Rattle.turn_rules.specs.Datagrams.{datagrams_of}
 use Rattle.turn_rules.specs.Ends.{Member, Peer, is_by, own}
@@ -61,7 +62,7 @@ module _ (boxes : ℕ) (past : List Turn) (turn : Turn) (does : DoesTold boxes p
         → held_unless b held_now
         ≡ held_unless b (if is_by (Member member) turn then held_after (window_by past) spir (member_task turn.event) turn.calls turn.step held_then else held_then)
     held-more true ended = refl
-    held-more false up = held-up (neither (ends member turn.event turn.step.verdict) (has_ended member past) up).1 (is_by (Member member) turn) refl
+    held-more false up = held-up (or_parts (ends member turn.event turn.step.verdict) (has_ended member past) up).1 (is_by (Member member) turn) refl
 
   pub told-cons : told_state boxes (turn ∷ past) ≡ state_after turn.event turn.calls turn.step (told_state boxes past)
   told-cons i = record {
