@@ -8,7 +8,7 @@ ghost use Rattle.turn_rules.specs.MemberPackets.{MemberReceives};
 ghost use Rattle.turn_rules.specs.Packets.{LiesWithin};
 ghost use Rattle.turn_rules.specs.Tasks as task;
 ghost use Rattle.cluster_member.specs.Genuine.{GenuineAreAccepted};
-ghost use Rattle.cluster_member.specs.Members.{AsksInVain, IsAfter, IsAfterPacket};
+ghost use Rattle.cluster_member.specs.Members.{AsksInVain, IsAfter, IsAfterPacket, configuration_of};
 ghost use Rattle.ha_base.specs.declared.limits.TheConstants.{DATAGRAM_OCTETS, PAYLOAD_OCTETS};
 
 use crate::config::Config;
@@ -35,11 +35,11 @@ pub struct Member {
 
 impl Model for Member {
     ghost use Rattle.replay_set.specs.Window.{IsWindowSize};
-    ghost use Rattle.cluster_member.specs.Members.{Holder};
+    ghost use Rattle.cluster_member.specs.Members.{Holder, configuration_of};
 
     ghost Value = { Holder };
 
-    ghost view = { λ m. record { number = m.number; window = m.config.window; held = m.holdings.held } };
+    ghost view = { λ m. record { number = m.number; config = configuration_of m.config; fresh = m.fresh; held = m.holdings.held } };
 
     ghost invariant = { λ m. IsWindowSize m.config.window };
 }
@@ -48,7 +48,7 @@ impl Member {
     /// A member that holds nothing. Its fresh octets are its own alone.
     pub fn join(alloc: Global, number: u32, config: Config, fresh: [u8; 24]) -> Member
         requires { IsWindowSize config.window }
-        ensures { result ≡ record { number = number; window = config.window; held = [] } }
+        ensures { result ≡ record { number = number; config = configuration_of config; fresh = fresh; held = [] } }
     {
         Member {
             alloc,

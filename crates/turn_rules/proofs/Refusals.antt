@@ -28,7 +28,7 @@ none-run why e = absurd (cc)
 abbrev Found : Type 0
 Found = Result PlainDatagram Refusal
 
-err_run : Found → Bool
+abbrev err_run : Found → Bool
 err_run (Ok datagram) = true
 err_run (Err why) = is_of_run why
 
