@@ -7,6 +7,7 @@ mod counter_names;
 mod esp_outcomes;
 mod identities;
 mod key_material;
+mod limits;
 mod memory_streams;
 mod octet_store;
 mod outside;
@@ -20,6 +21,10 @@ pub use counter_names::{CounterName, Derivation, End, Kind, Origin};
 pub use esp_outcomes::{EspDrop, EspOpened};
 pub use identities::{GatewayId, Identity};
 pub use key_material::{ChildKeys, KeySize, SaKeys};
+pub use limits::{
+    ALLOCATION_END, DATAGRAM_OCTETS, INPUT_OCTETS, IV_END, LEAST_ESP_SPI, LEAST_SPI, LINE_OCTETS,
+    MAX_DATAGRAMS, MESSAGE_ID_END, NUMBER_END, PAYLOAD_OCTETS, PIECE_OCTETS, SEQUENCE_END,
+};
 pub use memory_streams::{MemorySink, MemorySource};
 pub use octet_store::Octets;
 pub use outside::{Failed, Memory, Moment};
