@@ -1,7 +1,6 @@
 //! A case: a key and a ticket, and what comes of them.
 ghost use Rattle.std.specs.Prelude.{◌≡◌};
 
-
 use aes_gcm::{Key, MAX_LEN};
 use anyhow::{bail, ensure};
 use ha_base::Octets;

@@ -84,6 +84,11 @@ content_same content other carried is e =
     let kind : content.identity.kind ≡ other.identity.kind = ap (λ ys. get_or ys 17 0) behind in
     let octets : content.identity.octets ≡ other.identity.octets = ap (drop 18) behind in
     λ i. record {
-      spii = spii i; spir = spir i; sk_d = sk_d i; size = size i; issued = issued i; expiry = expiry i;
+      spii = spii i;
+      spir = spir i;
+      sk_d = sk_d i;
+      size = size i;
+      issued = issued i;
+      expiry = expiry i;
       identity = record { kind = kind i; octets = octets i };
     }

@@ -2,9 +2,7 @@ ghost use Rattle.std.specs.Prelude.{◌≡◌, ◌+◌, ◌≤◌, ◌++◌, len
 ghost use Rattle.tickets.specs.Tickets.{content_octets, size_octet, ticket_front, ticket_octets};
 
 use crate::content::Content;
-use crate::form::{
-    CHECK_VALUE, FRONT, LONGEST_TICKET, MAX_CONTENT, TICKET_VERSION,
-};
+use crate::form::{CHECK_VALUE, FRONT, LONGEST_TICKET, MAX_CONTENT, TICKET_VERSION};
 use aes_gcm::{Key, seal_in_place};
 use ha_base::{KeySize, Octets};
 use spend_once::Number;

@@ -16,11 +16,7 @@ use std::alloc::Global;
 /// The error is the first check that fails: `Short` for fewer than 91 octets, `Version` for another first octet than 1,
 /// `NotOpened` where the integrity check value does not hold, and `Content` where what was sealed is no content. `Memory` is
 /// want of memory. Whether the ticket has expired or was spent is not looked at here.
-pub fn open_ticket(
-    alloc: Global,
-    key: &Key,
-    ticket: &[u8],
-) -> Result<(u64, Content), BadTicket>
+pub fn open_ticket(alloc: Global, key: &Key, ticket: &[u8]) -> Result<(u64, Content), BadTicket>
     requires { length ticket.now ≤ MAX_LEN }
     ensures { IsTicketAnswer key.now.octets ticket.now result }
 {
@@ -37,12 +33,7 @@ pub fn open_ticket(
 }
 
 /// The plaintext that is sealed in a ticket of this number.
-fn open_text(
-    alloc: Global,
-    key: &Key,
-    number: u64,
-    ticket: &[u8],
-) -> Result<Vec<u8>, BadTicket>
+fn open_text(alloc: Global, key: &Key, number: u64, ticket: &[u8]) -> Result<Vec<u8>, BadTicket>
     requires long { SHORTEST_TICKET ≤ length ticket.now }
     requires size { length ticket.now ≤ MAX_LEN }
     requires version { slice_index ticket.now 0 ≡ TICKET_VERSION }

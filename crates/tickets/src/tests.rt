@@ -106,6 +106,10 @@ fn each_reason_comes(rt: HostRuntime) {
         (&NO_CONTENT, BadTicket::Content),
     ];
     for (ticket, bad) in &rows {
-        assert_eq!(rt; open_ticket(rt.alloc(), &key, ticket), Err(*bad), "{ticket:?}");
+        assert_eq!(rt;
+            open_ticket(rt.alloc(), &key, ticket),
+            Err(*bad),
+            "{ticket:?}"
+        );
     }
 }

@@ -14,10 +14,14 @@ returns-clause-some c =
     let sk_d : c.copy_from_slice.new.self ≡ take 32 (drop 16 plain) = c.copy_from_slice.ensures.after in
     let long : length (take 32 (drop 16 plain)) ≡ 32 = length-take-le 32 (drop 16 plain) (omega (arith, c.requires, length-drop 16 plain)) in
     let content : Content = record {
-      spii = c.read_u64.result; spir = c.read_u64-2.result; sk_d = c.copy_from_slice.new.self; size = c.in_ok-size.size;
-      issued = c.read_u64-3.result; expiry = c.read_u64-4.result; identity = c.in_ok-identity.identity;
-    } in
-    (
+      spii = c.read_u64.result;
+      spir = c.read_u64-2.result;
+      sk_d = c.copy_from_slice.new.self;
+      size = c.in_ok-size.size;
+      issued = c.read_u64-3.result;
+      expiry = c.read_u64-4.result;
+      identity = c.in_ok-identity.identity;
+    } in (
       record {
         spii = omega (arith, c.read_u64.type_inv);
         spir = omega (arith, c.read_u64-2.type_inv);
@@ -28,5 +32,5 @@ returns-clause-some c =
         identity = omega (arith, ap (λ found. length found.octets) identity.0, identity.2);
       },
       content_read plain content c.requires c.read_u64.ensures.spelled c.read_u64-2.ensures.spelled sk_d c.in_ok-size.ensures
-      c.read_u64-3.ensures.spelled c.read_u64-4.ensures.spelled kind octets,
+          c.read_u64-3.ensures.spelled c.read_u64-4.ensures.spelled kind octets,
     )
