@@ -1,6 +1,7 @@
 -- A key as it is held, and as contracts see it.
 use Rattle.std.proofs.Common.{◌≡◌, ℕ, zero, suc, ◌+◌, ◌-◌, ◌*◌, ◌/◌, ◌<◌, ◌≤◌, ◌⊎◌, ⊎_elim, inl, inr, List, ◌++◌, length, take, drop, refl, sym, ap, ◌∙◌, arith}
 use Rattle.std.proofs.lemmas.List.{length-append, length-take, length-drop, take_at, drop_at, take-take, drop-take}
+use Rattle.ha_base.specs.KeySizes.{HasKeySize}
 use Rattle.aes_gcm.specs.Aes.{xored, mix_columns, shift_rows, sub_bytes, rounds, round_key, schedule, cipher, aes}
 use Rattle.std.specs.Int.{w64, to_be_bytes}
 use Rattle.aes_gcm.specs.declared.Key.TheInside.{Inside}
@@ -84,7 +85,7 @@ module _ (k : Inside) (v : NamedKey) (seen : named_key k ≡ v) (salted : length
   nonce_is iv =
       ap (λ salt. salt ++ to_be_bytes w64 iv) (sym (salt_part (key_in k.middle_rounds k.round_keys) k.salt salted)) ∙ ap (λ (u : NamedKey). nonce_of u.octets iv) seen
 
-  pub size_is : length k.round_keys ≡ 240 → (length v.octets ≡ 20) ⊎ (length v.octets ≡ 36)
+  pub size_is : length k.round_keys ≡ 240 → HasKeySize v.octets
   size_is long =
       let octets = sym (ap (λ (u : NamedKey). length u.octets) seen) ∙ length-append (key_in k.middle_rounds k.round_keys) k.salt in
       ⊎_elim (λ few. inl (omega (arith, octets, length-take (4 * (k.middle_rounds - 5)) k.round_keys))) (λ many. inr (omega (arith, octets, length-take (4 * (k.middle_rounds - 5)) k.round_keys))) held.0

@@ -7,6 +7,7 @@ use Rattle.std.specs.Int.Bits.{bit_or, bit_xor, or_zero_l, xor_assoc, xor_self, 
 use Rattle.std.proofs.lemmas.Nat.{le_or_l, le_or_r}
 use Rattle.std.proofs.lemmas.Bool.{cases_eq}
 use lib.Lanes.{zip2}
+use Rattle.ha_base.proofs.Bits.{same_from_xor}
 use Rattle.aes_gcm.specs.Aes.{xored}
 
 pub length-zip2_le : (xs ys : List ℕ) → length xs ≤ length ys → length (zip2 bit_xor xs ys) ≡ length xs
@@ -57,16 +58,12 @@ pub xored_twice : (xs ks : List ℕ) → length xs ≤ length ks → xored (xore
 unfolding xored
 xored_twice xs ks h = xored_twice_zip xs ks h
 
--- numbers whose exclusive or is 0 are the same
-xor_none : (x y : ℕ) → bit_xor x y ≡ 0 → x ≡ y
-xor_none x y h = sym (xor_twice x y) ∙ ap (λ z. bit_xor z y) h ∙ xor_zero_l y
-
 -- one octet more of two lists is compared
 pub apart_more : (xs ys : List ℕ) (i apart : ℕ) → (apart ≡ 0 → (k : ℕ) → k < i → get_or xs k 0 ≡ get_or ys k 0) → bit_or apart (bit_xor (get_or xs i 0) (get_or ys i 0)) ≡ 0 → (k : ℕ) → k < i + 1 → get_or xs k 0 ≡ get_or ys k 0
 apart_more xs ys i apart sofar none k h =
     let old : apart ≡ 0 = omega (arith, le_or_l apart (bit_xor (get_or xs i 0) (get_or ys i 0))) in
     let new : bit_xor (get_or xs i 0) (get_or ys i 0) ≡ 0 = omega (arith, le_or_r apart (bit_xor (get_or xs i 0) (get_or ys i 0))) in
-    ⊎_elim (λ e. rw e (xor_none (get_or xs i 0) (get_or ys i 0) new)) (λ (other : k ≢ i). sofar old k (omega arith)) (cases_eq k i)
+    ⊎_elim (λ e. rw e (same_from_xor (get_or xs i 0) (get_or ys i 0) new)) (λ (other : k ≢ i). sofar old k (omega arith)) (cases_eq k i)
 
 pub together_more : (xs ys : List ℕ) (i apart : ℕ) → apart ≡ 0 → xs ≡ ys → bit_or apart (bit_xor (get_or xs i 0) (get_or ys i 0)) ≡ 0
 together_more xs ys i apart old same =

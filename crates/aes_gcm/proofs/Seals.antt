@@ -1,6 +1,7 @@
 -- What sealing gives, read backwards; and the lengths of all that it is made of.
 use Rattle.std.proofs.Common.{◌≡◌, ℕ, zero, suc, ◌+◌, ◌-◌, ◌*◌, ◌/◌, ◌<◌, ◌≤◌, ◌⊎◌, ⊎_elim, inl, inr, Bool, true, false, cond, eqb, ltb, ◌&&◌, ◌%◌, List, length, take, drop, sym, ap, ◌∙◌, arith}
 use Rattle.std.proofs.lemmas.List.{length-append, length-take, length-drop, length-map}
+use Rattle.ha_base.specs.KeySizes.{HasKeySize}
 use Rattle.aes_gcm.specs.Aes.{xored, sub_byte, sub_bytes, rot_word, round_constant, word, changed_word, expanded, schedule, aes}
 use Rattle.aes_gcm.specs.Gcm.{cipher_of, nonce_of, counter_block, encrypted, hash_subkey, hashed_text, ghash, tag_under, tag_of, sealed, Sealed}
 use Rattle.std.specs.Int.{w128, to_be_bytes}
@@ -65,13 +66,13 @@ length-aes key block size =
     let words = length-expanded key nk (4 * (nk + 7) - nk) (omega arith) (omega arith) in
     length-cipher (expanded key nk (4 * (nk + 7) - nk)) (nk + 5) block (omega arith)
 
-length-cipher_of : (octets block : List ℕ) → (length octets ≡ 20) ⊎ (length octets ≡ 36) → length (cipher_of octets block) ≡ 16
+length-cipher_of : (octets block : List ℕ) → HasKeySize octets → length (cipher_of octets block) ≡ 16
 unfolding cipher_of
 length-cipher_of octets block size =
     let part = length-take (length octets - 4) octets in
     length-aes (take (length octets - 4) octets) block (⊎_elim (λ h. inl (omega arith)) (λ h. inr (omega arith)) size)
 
-pub sealing : (octets : List ℕ) → (length octets ≡ 20) ⊎ (length octets ≡ 36) → IsSealing octets
+pub sealing : (octets : List ℕ) → HasKeySize octets → IsSealing octets
 unfolding sealed tag_of tag_under
 sealing octets size =
     let each : (block : List ℕ) → length (cipher_of octets block) ≡ 16 = λ block. length-cipher_of octets block size in

@@ -39,8 +39,8 @@ sub_byte a = affine (inverse a)
 unfoldable pub sub_bytes : List ℕ → List ℕ
 sub_bytes s = map sub_byte s
 
--- The state is its octets in the order of the block, so row r and column c stand at r + 4 * c. In column c
--- comes what row r has in column (c + r) % 4 (FIPS 197, 5.1.2).
+-- The state is its octets in the order of the block, so row r and column c stand at r + 4 * c. In
+-- column c comes what row r has in column (c + r) % 4 (FIPS 197, 5.1.2).
 unfoldable pub shift_rows : List ℕ → List ℕ
 shift_rows s =
     map (λ i. slice_index s (i % 4 + 4 * ((i / 4 + i % 4) % 4))) (range_with_len 0 16)
@@ -66,7 +66,8 @@ xored xs ys = zip2 bit_xor xs ys
 unfoldable pub round_key : List ℕ → ℕ → List ℕ
 round_key w r = take 16 (drop (16 * r) w)
 
--- the state after the first r rounds, none of them the last, under the key schedule w (FIPS 197, 5.1)
+-- the state after the first r rounds, none of them the last, under the key schedule w (FIPS 197,
+-- 5.1)
 unfoldable pub rounds : List ℕ → List ℕ → ℕ → List ℕ
 rounds w s zero = xored s (round_key w 0)
 rounds w s (suc r) = xored (mix_columns (shift_rows (sub_bytes (rounds w s r)))) (round_key w (suc r))
@@ -92,7 +93,8 @@ power_of_x (suc k) = times_x (power_of_x k)
 unfoldable pub round_constant : ℕ → List ℕ
 round_constant j = power_of_x (j - 1) ∷ 0 ∷ 0 ∷ 0 ∷ []
 
--- what word i adds to the word nk before it, made of the word just before it, where the key has nk words (FIPS 197, 5.2)
+-- what word i adds to the word nk before it, made of the word just before it, where the key has nk
+-- words (FIPS 197, 5.2)
 unfoldable pub changed_word : ℕ → ℕ → List ℕ → List ℕ
 changed_word nk i before =
     if i % nk == 0 then xored (sub_bytes (rot_word before)) (round_constant (i / nk))

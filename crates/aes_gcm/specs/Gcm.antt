@@ -1,10 +1,11 @@
--- AES in Galois/Counter Mode (NIST SP 800-38D) with a nonce of 96 bits and a tag of 128, under keys that
--- end with the four octets of salt of IPsec (RFC 4106, 4 and 8.1; RFC 5282, 4 and 7.1).
+-- AES in Galois/Counter Mode (NIST SP 800-38D) with a nonce of 96 bits and a tag of 128, under keys
+-- that end with the four octets of salt of IPsec (RFC 4106, 4 and 8.1; RFC 5282, 4 and 7.1).
 use Rattle.std.specs.Prelude.{ℕ, zero, suc, ◌+◌, ◌-◌, ◌*◌, ◌/◌, ◌%◌, ◌^◌, List, [], ◌++◌, length, take, drop, replicate, bit_xor}
 use Rattle.std.specs.Int.{w32, w64, w128, to_be_bytes, from_be_bytes}
 use Rattle.aes_gcm.specs.Aes.{aes, xored}
 
--- A block of sixteen octets as an element of GF(2 ^ 128). The highest bit is the coefficient of x ^ 0.
+-- A block of sixteen octets as an element of GF(2 ^ 128). The highest bit is the coefficient of x ^
+-- 0.
 unfoldable pub element : List ℕ → ℕ
 element block = from_be_bytes w128 block
 

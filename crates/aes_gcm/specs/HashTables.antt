@@ -1,4 +1,5 @@
--- The products of a hash subkey that a key keeps, so that GHASH takes four bits of eight places at once.
+-- The products of a hash subkey that a key keeps, so that GHASH takes four bits of eight places at
+-- once.
 use Rattle.std.specs.Prelude.{◌≡◌, ℕ, zero, suc, ◌-◌, ◌*◌, ◌/◌, ◌%◌, ◌^◌, ◌<◌, List, slice_index, bit_xor}
 use Rattle.aes_gcm.specs.Gcm.{next_power, product_low}
 
@@ -7,8 +8,8 @@ unfoldable pub times_power : ℕ → ℕ → ℕ
 times_power zero v = v
 times_power (suc n) v = next_power (times_power n v)
 
--- The number a has eight windows of sixteen bits, the highest first. This is the sum, over its first n
--- windows, of what each window's lowest m bits add to the product with v.
+-- The number a has eight windows of sixteen bits, the highest first. This is the sum, over its
+-- first n windows, of what each window's lowest m bits add to the product with v.
 unfoldable pub windows : ℕ → ℕ → ℕ → ℕ → ℕ
 windows zero m a v = 0
 windows (suc n) m a v = bit_xor (windows n m a v) (product_low m (a / 2 ^ (112 - 16 * n)) (times_power (16 * n) v))

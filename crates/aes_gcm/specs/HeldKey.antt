@@ -13,7 +13,8 @@ key_in n w = take (4 * (n - 5)) w
 abbrev pub named_key : Inside → NamedKey
 named_key k = record { name = k.name; octets = key_in k.middle_rounds k.round_keys ++ k.salt }
 
--- there are 10 rounds or 14, the round keys are those of the key, and the tables those of the cipher's hash subkey
+-- there are 10 rounds or 14, the round keys are those of the key, and the tables those of the
+-- cipher's hash subkey
 abbrev pub IsHeldKey : Inside → Type 0
 IsHeldKey k =
     ((k.middle_rounds ≡ 9) ⊎ (k.middle_rounds ≡ 13))

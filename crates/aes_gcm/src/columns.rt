@@ -1,5 +1,5 @@
-//! The cipher by tables (FIPS 197, section 5.1). A state is four words, one for each column, with the
-//! octet of row 0 lowest.
+//! The cipher by tables (FIPS 197, section 5.1). A state is four words, one for each column, with
+//! the octet of row 0 lowest.
 
 ghost use Rattle.std.specs.Prelude.{◌≡◌, ◌*◌, ◌/◌, ◌%◌, ◌^◌, ◌<◌, ◌≤◌, ◌++◌, ◌∷◌, [], slice_index};
 ghost use Rattle.std.specs.Int.{w32, to_le_bytes};
@@ -50,8 +50,8 @@ fn add_round_key(s: &[u32; 4], round_keys: &[u8; 240], round: usize) -> [u32; 4]
     ]
 }
 
-/// A column of the next state, whose octets before SubBytes are row 0 of `a`, row 1 of `b`, row 2 of `c`
-/// and row 3 of `d`.
+/// A column of the next state, whose octets before SubBytes are row 0 of `a`, row 1 of `b`, row 2
+/// of `c` and row 3 of `d`.
 #[inline(always)]
 fn mixed_column(a: u32, b: u32, c: u32, d: u32) -> u32
     ensures { to_le_bytes w32 result ≡ mix_column (sub_byte (a % 256)) (sub_byte (b / 2 ^ 8 % 256)) (sub_byte (c / 2 ^ 16 % 256)) (sub_byte (d / 2 ^ 24 % 256)) }

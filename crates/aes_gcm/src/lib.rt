@@ -1,13 +1,14 @@
 //! AES in Galois/Counter Mode (FIPS 197, NIST SP 800-38D) as IPsec uses it: a key ends with four
-//! octets of salt, and the nonce is the salt and an initialization vector of eight octets (RFC 4106,
-//! section 4; RFC 5282, section 4). The tag has sixteen octets.
+//! octets of salt, and the nonce is the salt and an initialization vector of eight octets (RFC
+//! 4106, section 4; RFC 5282, section 4). The tag has sixteen octets.
 //!
 //! The definitions that the contracts cite are `specs/Aes.antt` and `specs/Gcm.antt`. No call takes
 //! memory.
 #![tactic(auto)]
 
-ghost use Rattle.std.specs.Prelude.{◌≡◌, ◌≤◌, ◌↔◌, ◌⊎◌, List, ℕ, IsTrue, IsSome, IfSome, length};
+ghost use Rattle.std.specs.Prelude.{◌≡◌, ◌≤◌, ◌↔◌, List, ℕ, IsTrue, IsSome, IfSome, length};
 ghost use Rattle.std.specs.Bool.{OnTrue, OnFalse};
+ghost use Rattle.ha_base.specs.KeySizes.{HasKeySize};
 ghost use Rattle.aes_gcm.specs.Sealing.{IsSealing};
 ghost use Rattle.aes_gcm.specs.Gcm.{cipher_of, encrypted, nonce_of, sealed, tag_of};
 
@@ -62,7 +63,7 @@ pub const MAX_LEN: usize = 65536;
 impl Key {
     /// A key of 16 or 32 octets followed by four octets of salt, or `None` for another length.
     pub fn new(name: CounterName, bytes: &[u8]) -> Option<Key>
-        ensures size { IsSome result ↔ ((length bytes.now ≡ 20) ⊎ (length bytes.now ≡ 36)) }
+        ensures size { IsSome result ↔ HasKeySize bytes.now }
         ensures name { IfSome result (λ key. key.name ≡ name) }
         ensures octets { IfSome result (λ key. key.octets ≡ bytes.now) }
     {
@@ -89,7 +90,7 @@ impl Key {
         ensures name { result ≡ self.now.name }
 
         // A key has 16 or 32 octets and the salt four.
-        ensures size { (length self.now.octets ≡ 20) ⊎ (length self.now.octets ≡ 36) }
+        ensures size { HasKeySize self.now.octets }
     {
         self.name
     }
@@ -123,7 +124,7 @@ impl Key {
         requires aad_size { length aad.now ≤ MAX_LEN }
         requires size { length ciphertext.now ≤ MAX_LEN }
         ensures tag { result ≡ tag_of self.now.octets iv aad.now ciphertext.now }
-        ensures key_size { (length self.now.octets ≡ 20) ⊎ (length self.now.octets ≡ 36) }
+        ensures key_size { HasKeySize self.now.octets }
     {
         let nonce = self.nonce(iv);
         tag(
@@ -154,7 +155,7 @@ pub fn seal_in_place(key: &Key, number: Number, aad: &[u8], buf: &mut [u8], tag:
     ensures tag { tag.new ≡ (sealed key.now.octets number.value aad.now buf.old).tag }
 
     // With it `sealing_laws` says how long both are.
-    ensures key_size { (length key.now.octets ≡ 20) ⊎ (length key.now.octets ≡ 36) }
+    ensures key_size { HasKeySize key.now.octets }
 {
     let iv = number.value();
     number.burn();
@@ -162,8 +163,8 @@ pub fn seal_in_place(key: &Key, number: Number, aad: &[u8], buf: &mut [u8], tag:
     *tag = key.tag(iv, aad, buf);
 }
 
-/// Deciphers `buf` in place where `tag` is its tag, and answers whether it is. Otherwise `buf` stays
-/// as it was.
+/// Deciphers `buf` in place where `tag` is its tag, and answers whether it is. Otherwise `buf`
+/// stays as it was.
 pub fn open_in_place(key: &Key, iv: u64, aad: &[u8], buf: &mut [u8], tag: &[u8; 16]) -> bool
     requires aad_size { length aad.now ≤ MAX_LEN }
     requires size { length buf.old ≤ MAX_LEN }
@@ -173,7 +174,7 @@ pub fn open_in_place(key: &Key, iv: u64, aad: &[u8], buf: &mut [u8], tag: &[u8; 
 
     // What was sealed is opened, and gives the plaintext.
     ensures unsealed { (plain : List ℕ) → sealed key.now.octets iv aad.now plain ≡ record { ciphertext = buf.old; tag = tag.now } → IsTrue result × (buf.new ≡ plain) }
-    ensures key_size { (length key.now.octets ≡ 20) ⊎ (length key.now.octets ≡ 36) }
+    ensures key_size { HasKeySize key.now.octets }
 {
     if !is_same(tag, &key.tag(iv, aad, buf)) {
         return false;
@@ -182,8 +183,8 @@ pub fn open_in_place(key: &Key, iv: u64, aad: &[u8], buf: &mut [u8], tag: &[u8; 
     true
 }
 
-/// Sealing under a key of either size keeps the length of the text, makes a tag of sixteen octets, and
-/// loses nothing of the text. This call does nothing; its contract is the law.
+/// Sealing under a key of either size keeps the length of the text, makes a tag of sixteen octets,
+/// and loses nothing of the text. This call does nothing; its contract is the law.
 pub fn sealing_laws()
-    ensures { (octets : List ℕ) → (length octets ≡ 20) ⊎ (length octets ≡ 36) → IsSealing octets }
+    ensures { (octets : List ℕ) → HasKeySize octets → IsSealing octets }
 {}

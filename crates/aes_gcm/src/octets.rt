@@ -5,7 +5,8 @@ ghost use Rattle.aes_gcm.specs.Aes.{xored};
 
 use std::simd::prelude::*;
 
-/// Exclusive-ors each octet of `buf` with the one at its place in `mask`, which is at least as long.
+/// Exclusive-ors each octet of `buf` with the one at its place in `mask`, which is at least as
+/// long.
 #[inline(always)]
 pub(crate) fn xor_into(buf: &mut [u8], mask: &[u8])
     requires { length buf.old ≤ length mask.now }

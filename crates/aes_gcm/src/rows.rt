@@ -1,5 +1,5 @@
-//! SubBytes and MixColumns in one look-up (FIPS 197, sections 5.1.1 and 5.1.3): for each row, what an
-//! octet in it adds to its column, the octet of row 0 lowest.
+//! SubBytes and MixColumns in one look-up (FIPS 197, sections 5.1.1 and 5.1.3): for each row, what
+//! an octet in it adds to its column, the octet of row 0 lowest.
 
 /// What an octet in row 0 adds to a column.
 pub(crate) const ROW_0: [u32; 256] = [

@@ -1,7 +1,7 @@
 use aes_gcm::Key;
 use anyhow::{bail, ensure};
 use esp_packets::{EspOpened, open_packet, seal_packet};
-use ha_base::Octets;
+use ha_base::{DATAGRAM_OCTETS, Octets, PAYLOAD_OCTETS};
 use replay_set::ReplaySet;
 use spend_once::{CounterName, End, Kind, Lot, Origin};
 use std::alloc::Global;
@@ -71,12 +71,12 @@ impl Case {
     }
 
     fn seal(&self, alloc: Global, key: &Key) -> anyhow::Result<Vec<u8>> {
-        ensure!(self.payload.len() <= 1400, "too long a payload");
+        ensure!(self.payload.len() <= PAYLOAD_OCTETS, "too long a payload");
         let Some(number) = Lot::new(key.name(), self.number, self.number.saturating_add(1)).draw()
         else {
             bail!("no number has this value");
         };
-        let Ok(mut packet) = Octets::with_room(alloc, 2048) else {
+        let Ok(mut packet) = Octets::with_room(alloc, DATAGRAM_OCTETS) else {
             number.burn();
             bail!("no memory");
         };
@@ -89,7 +89,7 @@ impl Case {
         let Some(set) = ReplaySet::new(64, self.number) else {
             return false;
         };
-        if packet.len() > 2048 {
+        if packet.len() > DATAGRAM_OCTETS {
             return false;
         }
         match open_packet(key, self.spi, &set, packet) {

@@ -5,7 +5,7 @@ use Rattle.ha_base.specs.declared.esp_outcomes.EspDrop.{EspDrop}
 use Rattle.ha_base.specs.declared.esp_outcomes.EspDrop.TheVariants as drops
 use Rattle.esp_packets.specs.Packet.{LiesIn, esp_pad_length_in}
 use Rattle.replay_set.specs.Window.{Window, IsMeant, judged}
-use Rattle.replay_set.specs.declared.set.TheConstants.{SEQUENCE_END}
+use Rattle.ha_base.specs.declared.limits.TheConstants.{SEQUENCE_END}
 use Rattle.replay_set.specs.declared.judgement.Judgement.TheVariants.{Stale, Seen, Fresh}
 
 -- the fresh number that is meant by these low 32 bits, or why there is none

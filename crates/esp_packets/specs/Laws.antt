@@ -1,9 +1,10 @@
 -- What holds of sealed packets and of the answers to them.
-use Rattle.std.specs.Prelude.{◌≡◌, ℕ, ◌+◌, ◌%◌, ◌^◌, ◌<◌, ◌≤◌, ◌⊎◌, List, length, Result, Ok}
+use Rattle.std.specs.Prelude.{◌≡◌, ℕ, ◌+◌, ◌%◌, ◌^◌, ◌<◌, ◌≤◌, List, Result, Ok}
+use Rattle.ha_base.specs.KeySizes.{HasKeySize}
 use Rattle.ha_base.specs.declared.esp_outcomes.EspOpened.{EspOpened}
 use Rattle.ha_base.specs.declared.esp_outcomes.EspDrop.{EspDrop}
 use Rattle.replay_set.specs.Window.{Window, IsMeant, judged}
-use Rattle.replay_set.specs.declared.set.TheConstants.{SEQUENCE_END}
+use Rattle.ha_base.specs.declared.limits.TheConstants.{SEQUENCE_END}
 use Rattle.replay_set.specs.declared.judgement.Judgement.TheVariants.{Fresh}
 use Rattle.esp_packets.specs.Packet.{IsEspDatagram, IsEspAnswer, pad_length, payload_in}
 
@@ -34,7 +35,7 @@ abbrev pub SealedPacketsOpen : Type 0
 SealedPacketsOpen =
     (key : List ℕ) (spi number : ℕ) (payload : List ℕ) (next_header : ℕ) (octets : List ℕ)
     (window : Window) (answer : Result EspOpened EspDrop) (after : List ℕ) →
-    (length key ≡ 20) ⊎ (length key ≡ 36) → spi < 2 ^ 32 →
+    HasKeySize key → spi < 2 ^ 32 →
     IsEspDatagram key spi number payload next_header octets →
     WindowCovers window number → judged window number ≡ Fresh →
     IsEspAnswer key spi window octets answer after →

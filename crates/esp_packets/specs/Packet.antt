@@ -8,7 +8,7 @@ use Rattle.ha_base.specs.declared.esp_outcomes.EspDrop.{EspDrop}
 use Rattle.ha_base.specs.declared.esp_outcomes.EspDrop.TheVariants as drops
 use Rattle.aes_gcm.specs.Gcm.{sealed}
 use Rattle.replay_set.specs.Window.{Window, IsMeant, judged}
-use Rattle.replay_set.specs.declared.set.TheConstants.{SEQUENCE_END}
+use Rattle.ha_base.specs.declared.limits.TheConstants.{SEQUENCE_END}
 use Rattle.replay_set.specs.declared.judgement.Judgement.TheVariants.{Stale, Seen, Fresh}
 use Rattle.esp_packets.specs.declared.packet.TheConstants.{CHECK_VALUE, HEADER, SHORTEST_PACKET}
 

@@ -63,7 +63,7 @@ fn fresh_number(set: &ReplaySet, low32: u32) -> Result<u64, EspDrop>
     }
 }
 
-/// OpensPacket the ciphertext in place, and answers whether its integrity check value holds.
+/// Opens the ciphertext in place, and answers whether its integrity check value holds.
 fn open_text(key: &Key, spi: u32, number: u64, bytes: &mut [u8]) -> bool
     requires long { SHORTEST_PACKET ≤ length bytes.old }
     requires named { to_be_bytes w32 spi ≡ take 4 bytes.old }

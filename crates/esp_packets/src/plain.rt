@@ -1,11 +1,10 @@
 ghost use Rattle.std.specs.Prelude.{◌≡◌, ◌+◌, ◌≤◌, length, take};
 ghost use Rattle.esp_packets.specs.Packet.{esp_plaintext};
 
-/// How many octets a payload has at most.
-pub const MAX_PAYLOAD: usize = 1400;
+use ha_base::PAYLOAD_OCTETS;
 
 /// How many octets a plaintext has at most, written with the shortest padding.
-pub const MAX_PLAIN: usize = 1404;
+pub const MAX_PLAIN: usize = PAYLOAD_OCTETS + 4;
 
 /// How many octets a packet has more than its payload, at most: SPI, low half, IV, the longest
 /// padding, pad length, next header and integrity check value.
@@ -16,7 +15,7 @@ const PADDING: [u8; 3] = [1, 2, 3];
 
 /// Writes the plaintext of a payload to the front of a buffer, and tells its length.
 pub fn write_plain(payload: &[u8], next_header: u8, buffer: &mut [u8; MAX_PLAIN]) -> usize
-    requires { length payload.now ≤ MAX_PAYLOAD }
+    requires { length payload.now ≤ PAYLOAD_OCTETS }
     ensures fits { result ≤ MAX_PLAIN }
     ensures short { result ≤ length payload.now + 5 }
     ensures plain { take result buffer.new ≡ esp_plaintext payload.now next_header }

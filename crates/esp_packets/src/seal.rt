@@ -2,18 +2,18 @@ ghost use Rattle.std.specs.Prelude.{◌≡◌, ◌+◌, ◌≤◌, [], ◌++◌,
 ghost use Rattle.esp_packets.specs.Packet.{esp_plaintext, IsEspDatagram};
 
 use super::packet::{CHECK_VALUE, associated, header_octets};
-use super::plain::{MAX_PAYLOAD, MAX_PLAIN, PACKET_OVERHEAD, write_plain};
+use super::plain::{MAX_PLAIN, PACKET_OVERHEAD, write_plain};
 use aes_gcm::{Key, seal_in_place};
-use ha_base::Octets;
+use ha_base::{Octets, PAYLOAD_OCTETS};
 use spend_once::Number;
 
 /// Writes to `out` the plaintext that is sealed for a payload of at most 1,400 octets: the payload,
-/// the shortest padding, the pad length and the next header (RFC 4303, section 2). There is room for
-/// the packet.
+/// the shortest padding, the pad length and the next header (RFC 4303, section 2). There is room
+/// for the packet.
 pub fn spell_plain(payload: &[u8], next_header: u8, out: &mut Octets)
     requires empty { out.old.octets ≡ [] }
     requires room { length payload.now + PACKET_OVERHEAD ≤ out.old.spare }
-    requires size { length payload.now ≤ MAX_PAYLOAD }
+    requires size { length payload.now ≤ PAYLOAD_OCTETS }
     ensures { out.new.octets ≡ esp_plaintext payload.now next_header }
 {
     let mut buffer = [0; MAX_PLAIN];
@@ -34,7 +34,7 @@ pub fn seal_packet(
     requires named { n.name ≡ key.now.name }
     requires empty { out.old.octets ≡ [] }
     requires room { length payload.now + PACKET_OVERHEAD ≤ out.old.spare }
-    requires size { length payload.now ≤ MAX_PAYLOAD }
+    requires size { length payload.now ≤ PAYLOAD_OCTETS }
     ensures datagram { IsEspDatagram key.now.octets spi n.value payload.now next_header out.new.octets }
     ensures overhead { length out.new.octets ≤ length payload.now + PACKET_OVERHEAD }
     ensures short { length out.new.octets ≤ 1436 }

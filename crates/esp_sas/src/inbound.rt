@@ -1,8 +1,9 @@
-ghost use Rattle.std.specs.Prelude.{◌≡◌, ◌+◌, ◌<◌, ◌≤◌, ◌⊎◌, [], IfOk, length};
+ghost use Rattle.std.specs.Prelude.{◌≡◌, ◌+◌, ◌<◌, ◌≤◌, [], IfOk, length};
 ghost use Rattle.esp_packets.specs.declared.packet.TheConstants.{LONGEST_PACKET};
+ghost use Rattle.ha_base.specs.KeySizes.{HasKeySize};
 ghost use Rattle.replay_set.specs.Window.{IsWindowSize, judged, window_of};
 ghost use Rattle.replay_set.specs.declared.judgement.Judgement.TheVariants as judgement;
-ghost use Rattle.replay_set.specs.declared.set.TheConstants.{SEQUENCE_END};
+ghost use Rattle.ha_base.specs.declared.limits.TheConstants.{SEQUENCE_END};
 ghost use Rattle.turn_rules.specs.Packets.{OpensEsp, noted};
 
 use aes_gcm::Key;
@@ -40,7 +41,7 @@ impl InboundSa {
         window: u32,
         base: u64,
     ) -> InboundSa
-        requires size { (length octets.now ≡ 20) ⊎ (length octets.now ≡ 36) }
+        requires size { HasKeySize octets.now }
         requires window { IsWindowSize window }
         ensures { result ≡ record {
           counter = counter;
@@ -82,7 +83,8 @@ impl InboundSa {
         requires { length bytes.old ≤ LONGEST_PACKET }
         ensures opens { OpensEsp self.now bytes.old result bytes.new }
         ensures within { IfOk result (λ packet. packet.start + packet.length ≤ length bytes.new) }
-        ensures fresh { IfOk result (λ packet. judged self.now.window packet.number ≡ judgement.Fresh) }
+        ensures fresh { IfOk result
+            (λ packet. judged self.now.window packet.number ≡ judgement.Fresh) }
         ensures from_base { IfOk result (λ packet. self.now.window.base ≤ packet.number) }
         ensures below { IfOk result (λ packet. packet.number < SEQUENCE_END) }
     {

@@ -1,5 +1,6 @@
-ghost use Rattle.std.specs.Prelude.{◌≡◌, ◌≤◌, ◌⊎◌, length};
-ghost use Rattle.esp_packets.specs.declared.plain.TheConstants.{MAX_PAYLOAD};
+ghost use Rattle.std.specs.Prelude.{◌≡◌, ◌≤◌, length};
+ghost use Rattle.ha_base.specs.KeySizes.{HasKeySize};
+ghost use Rattle.ha_base.specs.declared.limits.TheConstants.{PAYLOAD_OCTETS};
 ghost use Rattle.turn_rules.specs.Packets.{SendsEsp};
 
 use crate::room::Room;
@@ -28,7 +29,7 @@ impl OutboundSa {
     /// The octets are an AES key and four of salt, and `counter` is that of the numbers, which are
     /// the key's IVs.
     pub fn new(counter: CounterName, octets: &[u8], spi: u32) -> OutboundSa
-        requires { (length octets.now ≡ 20) ⊎ (length octets.now ≡ 36) }
+        requires { HasKeySize octets.now }
         ensures name { result.key.name ≡ counter }
         ensures octets { result.key.octets ≡ octets.now }
         ensures spi { result.spi ≡ spi }
@@ -39,11 +40,11 @@ impl OutboundSa {
         }
     }
 
-    /// Sends a payload of at most 1,400 octets, for which there is room, under this number, which is
-    /// spent. It takes no memory but the room.
+    /// Sends a payload of at most 1,400 octets, for which there is room, under this number, which
+    /// is spent. It takes no memory but the room.
     pub fn send(&self, room: Room, number: Number, payload: &[u8]) -> Step
         requires named { number.name ≡ self.now.key.name }
-        requires size { length payload.now ≤ MAX_PAYLOAD }
+        requires size { length payload.now ≤ PAYLOAD_OCTETS }
         requires room { length payload.now ≤ room }
         ensures { SendsEsp self.now number.value payload.now result }
     {

@@ -1,5 +1,5 @@
 ghost use Rattle.std.specs.Prelude.{◌≡◌, ◌≤◌, [], length, IfOk};
-ghost use Rattle.esp_packets.specs.declared.plain.TheConstants.{MAX_PAYLOAD};
+ghost use Rattle.ha_base.specs.declared.limits.TheConstants.{PAYLOAD_OCTETS};
 ghost use Rattle.turn_rules.specs.Packets.{SendsEsp};
 
 use aes_gcm::Key;
@@ -36,7 +36,7 @@ impl Model for Room {
 impl Room {
     /// Makes the room for a payload of so many octets, at most 1,400. An error is want of memory.
     pub fn new(alloc: Global, payload: usize) -> Result<Room, Memory>
-        requires { payload ≤ MAX_PAYLOAD }
+        requires { payload ≤ PAYLOAD_OCTETS }
         ensures { IfOk result (λ room. room ≡ payload) }
     {
         let octets = payload + PACKET_OVERHEAD;
@@ -51,7 +51,7 @@ impl Room {
     /// Sends a payload, for which there is room, in an ESP packet under this number.
     pub(crate) fn send(self, key: &Key, spi: u32, number: Number, payload: &[u8]) -> Step
         requires named { number.name ≡ key.now.name }
-        requires size { length payload.now ≤ MAX_PAYLOAD }
+        requires size { length payload.now ≤ PAYLOAD_OCTETS }
         requires room { length payload.now ≤ self }
         ensures { SendsEsp (record { key = key.now; spi = spi }) number.value payload.now result }
     {

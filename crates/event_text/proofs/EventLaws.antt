@@ -10,7 +10,7 @@ use Rattle.ha_base.specs.declared.key_material.SaKeys.{SaKeys}
 use Rattle.ha_base.specs.declared.key_material.ChildKeys.{ChildKeys}
 use Rattle.ha_base.specs.declared.outside.Moment.{Moment}
 use Rattle.keeper_book.specs.declared.counters.Five.{Five}
-use Rattle.keeper_book.specs.Records.{sealing_key_octets}
+use Rattle.ha_base.specs.KeySizes.{sealing_octets}
 use Rattle.line_fields.specs.declared.fault.LineFault.{LineFault}
 use Rattle.line_fields.specs.declared.fault.LineReason.TheVariants as reasons
 use Rattle.line_fields.specs.Words.{Cursor, line_of, words_of}
@@ -33,7 +33,7 @@ message_id_field = number_field (2 ^ 32 - 1) (lit≤ tt)
 sa_keys_takes : (size : KeySize) (s : Cursor) (x : SaKeys) (t : Cursor) → sa_keys_at size s ≡ Ok (x, t) → (s.words ≡ sa_key_words x ++ t.words) × AreSaKeys size x
 unfolding sa_keys_at
 sa_keys_takes size s x t e =
-    let n = sealing_key_octets size in
+    let n = sealing_octets size in
     walk (reader (sized_field 32 32)) s _ (x, t) e (λ sk_d s1 w1 f1 e1.
     walk (reader (sized_field n n)) s1 _ (x, t) e1 (λ sk_ei s2 w2 f2 e2.
     walk (reader (sized_field n n)) s2 _ (x, t) e2 (λ sk_er s3 w3 f3 e3.
@@ -46,7 +46,7 @@ sa_keys_takes size s x t e =
 sa_keys_again : (size : KeySize) (x : SaKeys) → AreSaKeys size x → (c : ℕ) (ws : List (List ℕ)) → sa_keys_at size (record { column = c; words = sa_key_words x ++ ws }) ≡ Ok (x, record { column = column_behind c (sa_key_words x); words = ws })
 unfolding sa_keys_at
 sa_keys_again size x h c ws =
-    let n = sealing_key_octets size in
+    let n = sealing_octets size in
     rw (field_again (sized_field 32 32) x.sk_d h.sk_d, field_again (sized_field n n) x.sk_ei h.sk_ei, field_again (sized_field n n) x.sk_er h.sk_er, field_again (sized_field 32 32) x.sk_pi h.sk_pi, field_again (sized_field 32 32) x.sk_pr h.sk_pr) refl
 
 sa_keys_reader : (size : KeySize) → IsReader (sa_keys_at size) sa_key_words (AreSaKeys size)
@@ -55,7 +55,7 @@ sa_keys_reader size = record { takes = sa_keys_takes size; again = sa_keys_again
 child_keys_takes : (size : KeySize) (s : Cursor) (x : ChildKeys) (t : Cursor) → child_keys_at size s ≡ Ok (x, t) → (s.words ≡ child_key_words x ++ t.words) × AreChildKeys size x
 unfolding child_keys_at
 child_keys_takes size s x t e =
-    let n = sealing_key_octets size in
+    let n = sealing_octets size in
     walk (reader (sized_field n n)) s _ (x, t) e (λ to_cluster s1 w1 f1 e1.
     walk (reader (sized_field n n)) s1 _ (x, t) e1 (λ to_peer s2 w2 f2 e2.
     subst (λ (p : ChildKeys × Cursor). (s.words ≡ child_key_words p.0 ++ p.1.words) × AreChildKeys size p.0)
@@ -65,7 +65,7 @@ child_keys_takes size s x t e =
 child_keys_again : (size : KeySize) (x : ChildKeys) → AreChildKeys size x → (c : ℕ) (ws : List (List ℕ)) → child_keys_at size (record { column = c; words = child_key_words x ++ ws }) ≡ Ok (x, record { column = column_behind c (child_key_words x); words = ws })
 unfolding child_keys_at
 child_keys_again size x h c ws =
-    let n = sealing_key_octets size in
+    let n = sealing_octets size in
     rw (field_again (sized_field n n) x.to_cluster h.to_cluster, field_again (sized_field n n) x.to_peer h.to_peer) refl
 
 child_keys_reader : (size : KeySize) → IsReader (child_keys_at size) child_key_words (AreChildKeys size)

@@ -7,7 +7,7 @@ use Rattle.ha_base.specs.declared.key_material.SaKeys.{SaKeys}
 use Rattle.ha_base.specs.declared.key_material.ChildKeys.{ChildKeys}
 use Rattle.ha_base.specs.declared.outside.Moment.{Moment}
 use Rattle.keeper_book.specs.declared.counters.Five.{Five}
-use Rattle.keeper_book.specs.Records.{sealing_key_octets}
+use Rattle.ha_base.specs.KeySizes.{sealing_octets}
 use Rattle.line_fields.specs.declared.fault.LineReason.{LineReason}
 use Rattle.line_fields.specs.declared.fault.LineReason.TheVariants as reasons
 use Rattle.line_fields.specs.declared.fault.LineFault.{LineFault}
@@ -21,7 +21,7 @@ use Rattle.event_text.specs.EventFields.{medium_of, member_in_word, party_of, ti
 
 -- a sealing key: an AES key and four octets of salt (RFC 5282, section 7.1)
 abbrev pub sealing_key_of : KeySize → List ℕ → Result (List ℕ) LineReason
-sealing_key_of size = sized (sealing_key_octets size) (sealing_key_octets size)
+sealing_key_of size = sized (sealing_octets size) (sealing_octets size)
 
 unfoldable pub sa_keys_at : KeySize → Cursor → Result (SaKeys × Cursor) LineFault
 sa_keys_at size s = do

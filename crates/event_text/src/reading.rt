@@ -2,7 +2,7 @@
 
 ghost use Rattle.std.specs.Prelude.{◌≡◌, ◌≢◌, drop, length, IfOk, MatchResult, Ok, Err};
 ghost use Rattle.keeper_book.specs.Counters.{AreWithinEnds};
-ghost use Rattle.keeper_book.specs.Records.{sealing_key_octets};
+ghost use Rattle.ha_base.specs.KeySizes.{sealing_octets};
 ghost use Rattle.events.specs.Events.{PlainEvent, plain};
 ghost use Rattle.event_text.specs.Grammar.{EventLine};
 ghost use Rattle.events.specs.Ranges.{Fits};
@@ -39,8 +39,8 @@ const INJECTED_OCTETS: usize = 2_048;
 #[tactic(auto, unfolding(crate::specs::Reading::sa_keys_at))]
 fn sa_keys(words: &mut Words<'_>, size: KeySize) -> Result<SaKeys, LineFault>
     ensures value { Reads (λ x. x) result words.new (sa_keys_at size words.old) }
-    ensures initiator { IfOk result (λ keys. length keys.sk_ei ≡ sealing_key_octets size) }
-    ensures responder { IfOk result (λ keys. length keys.sk_er ≡ sealing_key_octets size) }
+    ensures initiator { IfOk result (λ keys. length keys.sk_ei ≡ sealing_octets size) }
+    ensures responder { IfOk result (λ keys. length keys.sk_er ≡ sealing_octets size) }
 {
     let sk_d = octets(words)?;
     let sk_ei = sealing_key(words, size)?;
@@ -59,8 +59,8 @@ fn sa_keys(words: &mut Words<'_>, size: KeySize) -> Result<SaKeys, LineFault>
 #[tactic(auto, unfolding(crate::specs::Reading::child_keys_at))]
 fn child_keys(words: &mut Words<'_>, size: KeySize) -> Result<ChildKeys, LineFault>
     ensures value { Reads (λ x. x) result words.new (child_keys_at size words.old) }
-    ensures cluster { IfOk result (λ keys. length keys.to_cluster ≡ sealing_key_octets size) }
-    ensures peer { IfOk result (λ keys. length keys.to_peer ≡ sealing_key_octets size) }
+    ensures cluster { IfOk result (λ keys. length keys.to_cluster ≡ sealing_octets size) }
+    ensures peer { IfOk result (λ keys. length keys.to_peer ≡ sealing_octets size) }
 {
     let to_cluster = sealing_key(words, size)?;
     let to_peer = sealing_key(words, size)?;

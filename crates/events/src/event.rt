@@ -22,8 +22,8 @@ pub enum Which {
 /// An event, with the fields of its line.
 #[derive(Drop)]
 pub enum Event {
-    /// How the ends are configured: the cluster's identity, the lifetime of tickets in seconds, the receive window of ESP,
-    /// and the ticket key with its salt, of no octets where there is none.
+    /// How the ends are configured: the cluster's identity, the lifetime of tickets in seconds, the
+    /// receive window of ESP, and the ticket key with its salt, of no octets where there is none.
     Cluster {
         identity: Identity,
         lifetime: u32,
@@ -63,7 +63,8 @@ pub enum Event {
         which: Which,
         to: Party,
     },
-    /// A datagram is delivered whose octet at this place, counted from 0, was changed by an exclusive or.
+    /// A datagram is delivered whose octet at this place, counted from 0, was changed by an
+    /// exclusive or.
     Alter {
         which: Which,
         to: Party,

@@ -53,7 +53,8 @@ pub struct Turn {
 }
 
 impl Step {
-    /// A step that says how the event came out, and nothing else: nothing was executed, sealed or sent.
+    /// A step that says how the event came out, and nothing else: nothing was executed, sealed or
+    /// sent.
     pub fn quiet(verdict: Verdict) -> Step
         ensures verdict { result.verdict ≡ verdict }
         ensures served { result.served ≡ None }

@@ -23,7 +23,8 @@ pub enum Verdict {
     Number(u64),
     /// The ESP number under which a payload was sent.
     Sent(u64),
-    /// An ESP packet was accepted: the counter that received it, its number, its next header and its payload.
+    /// An ESP packet was accepted: the counter that received it, its number, its next header and
+    /// its payload.
     Accepted {
         counter: CounterName,
         number: u64,
@@ -82,7 +83,8 @@ pub enum Refusal {
     NoRoom(u32),
     /// The configuration does not come first.
     Late,
-    /// An SPI of the IKE header is below 2^48, one of ESP is below 65,536, or ESP numbers or IVs would start at 0.
+    /// An SPI of the IKE header is below 2^48, one of ESP is below 65,536, or ESP numbers or IVs
+    /// would start at 0.
     SpiRange,
     /// The event is one that is not handled yet.
     NotBuilt,

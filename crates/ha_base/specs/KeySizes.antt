@@ -1,4 +1,4 @@
-use Rattle.std.specs.Prelude.{◌≡◌, ℕ, List, length}
+use Rattle.std.specs.Prelude.{◌≡◌, ◌⊎◌, ℕ, List, length}
 use Rattle.ha_base.specs.declared.key_material.KeySize.{KeySize}
 use Rattle.ha_base.specs.declared.key_material.KeySize.TheVariants.{Bits128, Bits256}
 
@@ -9,4 +9,4 @@ sealing_octets Bits256 = 36
 
 -- a sealing key of one of the two sizes
 abbrev pub HasKeySize : List ℕ → Type 0
-HasKeySize key = (size : KeySize) × (length key ≡ sealing_octets size)
+HasKeySize key = (length key ≡ sealing_octets Bits128) ⊎ (length key ≡ sealing_octets Bits256)

@@ -17,7 +17,8 @@ pub enum EspDrop {
     Short,
     /// No Child SA receives at this SPI.
     WrongSpi,
-    /// The number lies below the window or below the base, or its low half stands for none below the counter's end.
+    /// The number lies below the window or below the base, or its low half stands for none below
+    /// the counter's end.
     Stale,
     /// The number was accepted before.
     Seen,

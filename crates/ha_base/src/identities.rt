@@ -1,6 +1,7 @@
 use crate::short_lists::OctetArray;
 
-/// The data of an ID payload (RFC 7296, section 3.5): IPv4 is 1, FQDN 2, RFC822 3, IPv6 5 and KEY_ID 11.
+/// The data of an ID payload (RFC 7296, section 3.5): IPv4 is 1, FQDN 2, RFC822 3, IPv6 5 and
+/// KEY_ID 11.
 #[derive(Clone, Copy, Debug, PartialEq, Eq)]
 pub struct Identity {
     pub kind: u8,

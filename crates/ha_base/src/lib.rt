@@ -1,5 +1,5 @@
-//! The plain types that every layer shares, and the outside of a run: where octets come from and go to, and who
-//! executes a request.
+//! The plain types that every layer shares, and the outside of a run: where octets come from and go
+//! to, and who executes a request.
 #![tactic(auto)]
 
 mod big_endian;

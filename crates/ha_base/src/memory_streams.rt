@@ -61,7 +61,8 @@ impl Model for MemorySource {
 }
 
 impl MemorySource {
-    /// A source of these octets, which gives at most `piece` of them a read. The k-th read, from 0, fails where `fails` has k.
+    /// A source of these octets, which gives at most `piece` of them a read. The k-th read, from 0,
+    /// fails where `fails` has k.
     pub fn new(octets: Octets, piece: usize, fails: Octets) -> MemorySource
         requires { 0 < piece }
         ensures left { result.left ≡ octets.octets }
@@ -110,7 +111,8 @@ impl Source for MemorySource {
     }
 }
 
-/// A sink in memory, which takes octets in pieces into room that it reserved, and may be told to fail.
+/// A sink in memory, which takes octets in pieces into room that it reserved, and may be told to
+/// fail.
 #[derive(Drop)]
 pub struct MemorySink {
     octets: Octets,
@@ -140,8 +142,9 @@ impl Model for MemorySink {
 }
 
 impl MemorySink {
-    /// A sink with room for `room` octets, which takes at most `piece` of them a write. The k-th write, from 0, fails where
-    /// `fails` has k, and where there is no room for a piece that is not empty. An error is want of memory.
+    /// A sink with room for `room` octets, which takes at most `piece` of them a write. The k-th
+    /// write, from 0, fails where `fails` has k, and where there is no room for a piece that is not
+    /// empty. An error is want of memory.
     pub fn new(
         alloc: Global,
         room: usize,

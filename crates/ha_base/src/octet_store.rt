@@ -1,4 +1,5 @@
-ghost use Rattle.std.specs.Prelude.{◌≡◌, ◌+◌, ◌^◌, ◌<◌, ◌≤◌, [], ◌∷◌, ◌++◌, length, IsOk, IfOk, OnOk, OnErr};
+ghost use Rattle.std.specs.Prelude.{◌≡◌, ◌+◌, ◌<◌, ◌≤◌, [], ◌∷◌, ◌++◌, length, slice_set, vec_capacity, IsOk, IfOk, OnOk, OnErr};
+ghost use Rattle.ha_base.specs.declared.limits.TheConstants.{ALLOCATION_END};
 
 use crate::outside::Memory;
 use std::alloc::Global;
@@ -36,10 +37,11 @@ impl Octets {
         Octets { kept }
     }
 
-    /// No octets, and room for `room` of them at least. An error is want of memory.
+    /// No octets, and room for `room` of them and no more. An error is want of memory.
     pub fn with_room(alloc: Global, room: usize) -> Result<Octets, Memory>
         ensures none { IfOk result (λ o. o.octets ≡ []) }
         ensures room { IfOk result (λ o. room ≤ o.spare) }
+        ensures exact { IfOk result (λ o. o.spare ≡ room) }
     {
         match Vec::with_capacity(alloc, room) {
             Ok(kept) => Ok(Octets { kept }),
@@ -52,7 +54,8 @@ impl Octets {
         ensures ok { OnOk result (self.new.octets ≡ self.old.octets ++ octet ∷ []) }
         ensures err { OnErr result (self.new.octets ≡ self.old.octets) }
         ensures spare { OnOk result (self.old.spare ≤ self.new.spare + 1) }
-        ensures small { length self.new.octets < 2 ^ 63 }
+        ensures room_left { OnErr result (self.old.spare ≤ self.new.spare) }
+        ensures small { length self.new.octets < ALLOCATION_END }
         ensures room { 1 ≤ self.old.spare → IsOk result }
     {
         match self.kept.push(octet) {
@@ -61,12 +64,14 @@ impl Octets {
         }
     }
 
-    /// Appends all of a slice. An error is want of memory, and never comes where there is room for it.
+    /// Appends all of a slice. An error is want of memory, and never comes where there is room for
+    /// it.
     pub fn extend(&mut self, octets: &[u8]) -> Result<(), Memory>
         ensures ok { OnOk result (self.new.octets ≡ self.old.octets ++ octets.now) }
         ensures err { OnErr result (self.new.octets ≡ self.old.octets) }
         ensures spare { OnOk result (self.old.spare ≤ self.new.spare + length octets.now) }
-        ensures small { length self.new.octets < 2 ^ 63 }
+        ensures room_left { OnErr result (self.old.spare ≤ self.new.spare) }
+        ensures small { length self.new.octets < ALLOCATION_END }
         ensures room { length octets.now ≤ self.old.spare → IsOk result }
     {
         match self.kept.extend_from_slice(octets) {
@@ -75,10 +80,27 @@ impl Octets {
         }
     }
 
+    /// Changes the octet at a place, counted from 0.
+    pub fn set(&mut self, place: usize, octet: u8)
+        requires { place < length self.old.octets }
+        ensures octets { self.new.octets ≡ slice_set self.old.octets place octet }
+        ensures spare { self.new.spare ≡ self.old.spare }
+    {
+        self.kept[place] = octet;
+    }
+
+    /// The list of the octets, which keeps the room.
+    pub fn into_vec(self) -> Vec<u8>
+        ensures octets { result.items ≡ self.octets }
+        ensures room { length self.octets + self.spare ≤ vec_capacity result }
+    {
+        self.kept
+    }
+
     /// The octets.
     pub fn as_slice(&self) -> &[u8]
         ensures value { result.now ≡ self.now.octets }
-        ensures small { length self.now.octets < 2 ^ 63 }
+        ensures small { length self.now.octets < ALLOCATION_END }
     {
         self.kept.as_slice()
     }

@@ -2,6 +2,7 @@ ghost use Rattle.std.specs.Prelude.{◌≡◌, ℕ, ◌+◌, ◌<◌, ◌≤◌,
 ghost use Rattle.std.specs.Int.{bytes_high_first};
 ghost use Rattle.std.specs.List.{AllByRecursion};
 ghost use Rattle.ha_base.specs.Services.{ReplyRelation};
+ghost use Rattle.ha_base.specs.declared.services.TheConstants.{LONGEST_REQUEST};
 
 use crate::short_lists::OctetArray;
 
@@ -31,7 +32,7 @@ pub trait Service: Drop {
     /// Executes a request of at most 256 octets and gives the reply.
     fn execute(&mut self, request: &[u8]) -> Reply
         requires room { count self.old < MOST_REQUESTS }
-        requires short { length request.now ≤ 256 }
+        requires short { length request.now ≤ LONGEST_REQUEST }
         ensures counted { count self.new ≡ count self.old + 1 }
         ensures last { last self.new ≡ Some request.now }
         ensures gives { gives self.old (count self.old + 1) request.now result.octets }

@@ -42,8 +42,8 @@ impl<R: Read> Source for StdSource<R> {
     }
 }
 
-/// A writer of the standard library as a sink. A write that was interrupted is tried again, and one that takes nothing of
-/// a piece is a fault.
+/// A writer of the standard library as a sink. A write that was interrupted is tried again, and one
+/// that takes nothing of a piece is a fault.
 #[derive(Drop)]
 pub struct StdSink<W: Write> {
     inner: W,

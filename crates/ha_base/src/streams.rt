@@ -13,8 +13,8 @@ pub trait Source {
     // how many reads have failed
     ghost faults: { Self → ℕ };
 
-    /// Reads octets to the front of a buffer and says how many. `Ok(0)` for a buffer that is not empty is the end of the
-    /// input; an error is a fault of the source.
+    /// Reads octets to the front of a buffer and says how many. `Ok(0)` for a buffer that is not
+    /// empty is the end of the input; an error is a fault of the source.
     fn read(&mut self, buf: &mut [u8]) -> Result<usize, Failed>
         ensures bound { ReadsAtMost result buf.new }
         ensures octets { ReadConsumes (left self.old) (left self.new) result buf.new }
@@ -31,8 +31,8 @@ pub trait Sink {
     // how many writes have failed
     ghost faults: { Self → ℕ };
 
-    /// Writes octets from the front of a piece and says how many, at least one of a piece that is not empty. An error is a
-    /// fault of the sink, and nothing was written.
+    /// Writes octets from the front of a piece and says how many, at least one of a piece that is
+    /// not empty. An error is a fault of the sink, and nothing was written.
     fn write(&mut self, piece: &[u8]) -> Result<usize, Failed>
         ensures bound { WritesAtMost result piece.now }
         ensures some { IfOk result (λ n. 0 < length piece.now → 0 < n) }
@@ -42,7 +42,8 @@ pub trait Sink {
         ensures failed { OnErr result (Rose (faults self.old) (faults self.new)) };
 }
 
-/// Writes all octets, as often as it takes. After an error, a fault of the sink, some of them were written from the front.
+/// Writes all octets, as often as it takes. After an error, a fault of the sink, some of them were
+/// written from the front.
 pub fn write_all<O: Sink>(out: &mut O, octets: &[u8]) -> Result<(), Failed>
     ensures ok { OnOk result (Appends (O.written out.old) (O.written out.new) octets.now) }
     ensures err { OnErr result (AppendsFront (O.written out.old) (O.written out.new) octets.now) }

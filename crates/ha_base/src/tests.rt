@@ -1,7 +1,8 @@
 use super::*;
 use std::test::Fail;
 
-// What is left of the octets once a source has given them in pieces, and the answers of the failing reads.
+// What is left of the octets once a source has given them in pieces, and the answers of the failing
+// reads.
 fn read_all(source: &mut MemorySource, all: &mut Octets) -> usize {
     let mut failures: usize = 0;
     for _ in 0..16 {

@@ -15,5 +15,15 @@ pub record FitsHeader (h : Header) : Type 0 where
   pub spir : h.spir < 2 ^ 64
   pub id : h.id < 2 ^ 32
 
+-- the header of a message of this length, whose first payload has this type: next payload, version,
+-- exchange type and flags stand between the SPIs and the Message ID
+abbrev pub header_written : Header → ℕ → ℕ → List ℕ
+header_written h first len =
+    to_be_bytes w64 h.spii ++ to_be_bytes w64 h.spir
+    ++ (first ∷ 32 ∷ h.exchange ∷ flags_of h ∷ [])
+    ++ to_be_bytes w32 h.id ++ to_be_bytes w32 len
+
 abbrev pub message_written : Message → List ℕ
-message_written m = to_be_bytes w64 m.header.spii ++ to_be_bytes w64 m.header.spir ++ (first_type_of m.payloads ∷ 32 ∷ m.header.exchange ∷ flags_of m.header ∷ []) ++ to_be_bytes w32 m.header.id ++ to_be_bytes w32 (28 + length (chain_written m.payloads)) ++ chain_written m.payloads
+message_written m =
+    header_written m.header (first_type_of m.payloads) (28 + length (chain_written m.payloads))
+    ++ chain_written m.payloads

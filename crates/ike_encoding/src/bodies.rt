@@ -12,11 +12,13 @@ use crate::selectors::put_traffic;
 use ha_base::{Memory, Octets};
 use ike_values::{DeleteBody, NotifyBody, Payload, SkBody};
 
-/// Appends the spelling of a payload's body with reserved bits 0. The body has a spelling. An error is want of memory, and
-/// never comes where there is room for the spelling; a part of it may then stand in `out`.
+/// Appends the spelling of a payload's body with reserved bits 0. The body has a spelling. An error
+/// is want of memory, and never comes where there is room for the spelling; a part of it may then
+/// stand in `out`.
 pub fn encode_body(payload: &Payload, out: &mut Octets) -> Result<(), Memory>
     requires { FitsBody (payload_value payload.now) }
-    ensures written { OnOk result (out.new.octets ≡ out.old.octets ++ body_written (payload_value payload.now)) }
+    ensures written { OnOk result (out.new.octets ≡ out.old.octets
+        ++ body_written (payload_value payload.now)) }
     ensures spare { OnOk result (out.old.spare ≤ out.new.spare + length (body_written (payload_value payload.now))) }
     ensures room { length (body_written (payload_value payload.now)) ≤ out.old.spare → IsOk result }
 {
@@ -40,7 +42,8 @@ pub fn encode_body(payload: &Payload, out: &mut Octets) -> Result<(), Memory>
 }
 
 fn put_numbered(out: &mut Octets, number: u8, content: &[u8]) -> Result<(), Memory>
-    ensures written { OnOk result (out.new.octets ≡ out.old.octets ++ numbered_written number content.now) }
+    ensures written { OnOk result (out.new.octets ≡ out.old.octets
+        ++ numbered_written number content.now) }
     ensures spare { OnOk result (out.old.spare ≤ out.new.spare + length (numbered_written number content.now)) }
     ensures room { length (numbered_written number content.now) ≤ out.old.spare → IsOk result }
 {
@@ -50,9 +53,14 @@ fn put_numbered(out: &mut Octets, number: u8, content: &[u8]) -> Result<(), Memo
 
 fn put_notify(out: &mut Octets, notify: &NotifyBody) -> Result<(), Memory>
     requires { length notify.now.spi.octets < 256 }
-    ensures written { OnOk result (out.new.octets ≡ out.old.octets ++ (notify.now.protocol ∷ length notify.now.spi.octets ∷ two notify.now.kind ++ notify.now.spi.octets ++ notify.now.content.octets)) }
-    ensures spare { OnOk result (out.old.spare ≤ out.new.spare + length (notify.now.protocol ∷ length notify.now.spi.octets ∷ two notify.now.kind ++ notify.now.spi.octets ++ notify.now.content.octets)) }
-    ensures room { length (notify.now.protocol ∷ length notify.now.spi.octets ∷ two notify.now.kind ++ notify.now.spi.octets ++ notify.now.content.octets) ≤ out.old.spare → IsOk result }
+    ensures written { OnOk result (out.new.octets ≡ out.old.octets
+        ++ (notify.now.protocol ∷ length notify.now.spi.octets ∷ two notify.now.kind
+        ++ notify.now.spi.octets ++ notify.now.content.octets)) }
+    ensures spare { OnOk result (out.old.spare ≤ out.new.spare + length (notify.now.protocol
+        ∷ length notify.now.spi.octets ∷ two notify.now.kind ++ notify.now.spi.octets
+        ++ notify.now.content.octets)) }
+    ensures room { length (notify.now.protocol ∷ length notify.now.spi.octets ∷ two notify.now.kind
+        ++ notify.now.spi.octets ++ notify.now.content.octets) ≤ out.old.spare → IsOk result }
 {
     let spi = notify.spi.as_slice();
     out.extend(&[notify.protocol, spi.len() as u8])?;
@@ -62,9 +70,13 @@ fn put_notify(out: &mut Octets, notify: &NotifyBody) -> Result<(), Memory>
 }
 
 fn put_delete(out: &mut Octets, delete: &DeleteBody) -> Result<(), Memory>
-    ensures written { OnOk result (out.new.octets ≡ out.old.octets ++ (delete.now.protocol ∷ delete.now.size ∷ two delete.now.number ++ delete.now.spis.octets)) }
-    ensures spare { OnOk result (out.old.spare ≤ out.new.spare + length (delete.now.protocol ∷ delete.now.size ∷ two delete.now.number ++ delete.now.spis.octets)) }
-    ensures room { length (delete.now.protocol ∷ delete.now.size ∷ two delete.now.number ++ delete.now.spis.octets) ≤ out.old.spare → IsOk result }
+    ensures written { OnOk result (out.new.octets ≡ out.old.octets
+        ++ (delete.now.protocol ∷ delete.now.size ∷ two delete.now.number
+        ++ delete.now.spis.octets)) }
+    ensures spare { OnOk result (out.old.spare ≤ out.new.spare + length (delete.now.protocol
+        ∷ delete.now.size ∷ two delete.now.number ++ delete.now.spis.octets)) }
+    ensures room { length (delete.now.protocol ∷ delete.now.size ∷ two delete.now.number
+        ++ delete.now.spis.octets) ≤ out.old.spare → IsOk result }
 {
     out.extend(&[delete.protocol, delete.size])?;
     put_two(out, delete.number)?;
@@ -72,9 +84,12 @@ fn put_delete(out: &mut Octets, delete: &DeleteBody) -> Result<(), Memory>
 }
 
 fn put_sk(out: &mut Octets, sk: &SkBody) -> Result<(), Memory>
-    ensures written { OnOk result (out.new.octets ≡ out.old.octets ++ (to_be_bytes w64 sk.now.iv ++ sk.now.ciphertext.octets ++ sk.now.icv)) }
-    ensures spare { OnOk result (out.old.spare ≤ out.new.spare + length (to_be_bytes w64 sk.now.iv ++ sk.now.ciphertext.octets ++ sk.now.icv)) }
-    ensures room { length (to_be_bytes w64 sk.now.iv ++ sk.now.ciphertext.octets ++ sk.now.icv) ≤ out.old.spare → IsOk result }
+    ensures written { OnOk result (out.new.octets ≡ out.old.octets
+        ++ (to_be_bytes w64 sk.now.iv ++ sk.now.ciphertext.octets ++ sk.now.icv)) }
+    ensures spare { OnOk result (out.old.spare ≤ out.new.spare + length (to_be_bytes w64 sk.now.iv
+        ++ sk.now.ciphertext.octets ++ sk.now.icv)) }
+    ensures room { length (to_be_bytes w64 sk.now.iv ++ sk.now.ciphertext.octets
+        ++ sk.now.icv) ≤ out.old.spare → IsOk result }
 {
     out.extend(&sk.iv.to_be_bytes())?;
     out.extend(sk.ciphertext.as_slice())?;

@@ -8,18 +8,21 @@ ghost use Rattle.ike_values.specs.Writing.{first_type_of, next_type_of, body_wri
 use crate::bodies::encode_body;
 use crate::octets::put_two;
 use ha_base::{Memory, Octets};
-use ike_values::{Payload, Payloads, body_len};
+use ike_values::{Payload, Payloads, body_len, payload_types};
 
-/// Appends the spelling of the payloads with reserved bits 0, and answers the type of the first one, 0 where there is
-/// none (RFC 7296, section 3.2). The payloads have a spelling (`Payloads::is_valid`). An error is want of memory; a part
-/// of the spelling may then stand in `out`.
+/// Appends the spelling of the payloads with reserved bits 0, and answers the type of the first
+/// one, 0 where there is none (RFC 7296, section 3.2). The payloads have a spelling
+/// (`Payloads::is_valid`). An error is want of memory; a part of the spelling may then stand in
+/// `out`.
 pub fn encode_chain(payloads: &Payloads, out: &mut Octets) -> Result<u8, Memory>
     requires { HasSpelling payloads.now }
     ensures first { IfOk result (λ first. first ≡ first_type_of payloads.now) }
     ensures written { OnOk result (out.new.octets ≡ out.old.octets ++ chain_written payloads.now) }
     // What is appended is a spelling, and one of an inner chain where SK is not among the payloads.
-    ensures spells { IfOk result (λ first. Spells payloads.now first false (chain_written payloads.now)) }
-    ensures spells_inside { AreValid true payloads.now → IfOk result (λ first. Spells payloads.now first true (chain_written payloads.now)) }
+    ensures spells { IfOk result
+        (λ first. Spells payloads.now first false (chain_written payloads.now)) }
+    ensures spells_inside { AreValid true payloads.now → IfOk result
+        (λ first. Spells payloads.now first true (chain_written payloads.now)) }
 {
     put_chain(payloads.as_slice(), out)
 }
@@ -27,7 +30,8 @@ pub fn encode_chain(payloads: &Payloads, out: &mut Octets) -> Result<u8, Memory>
 fn put_chain(payloads: &[Payload], out: &mut Octets) -> Result<u8, Memory>
     requires { AreValid false (map payload_value payloads.now) }
     ensures first { IfOk result (λ first. first ≡ first_type_of (map payload_value payloads.now)) }
-    ensures written { OnOk result (out.new.octets ≡ out.old.octets ++ chain_written (map payload_value payloads.now)) }
+    ensures written { OnOk result (out.new.octets ≡ out.old.octets
+        ++ chain_written (map payload_value payloads.now)) }
 {
     put_payloads(out, payloads)?;
     Ok(first_of(payloads))
@@ -35,7 +39,8 @@ fn put_chain(payloads: &[Payload], out: &mut Octets) -> Result<u8, Memory>
 
 fn put_payloads(out: &mut Octets, payloads: &[Payload]) -> Result<(), Memory>
     requires { AreValid false (map payload_value payloads.now) }
-    ensures { OnOk result (out.new.octets ≡ out.old.octets ++ chain_written (map payload_value payloads.now)) }
+    ensures { OnOk result (out.new.octets ≡ out.old.octets
+        ++ chain_written (map payload_value payloads.now)) }
 {
     let mut rest = payloads;
     while let [first, others @ ..] = rest {
@@ -47,7 +52,9 @@ fn put_payloads(out: &mut Octets, payloads: &[Payload]) -> Result<(), Memory>
 
 fn put_payload(out: &mut Octets, next: u8, payload: &Payload) -> Result<(), Memory>
     requires { FitsPayload (payload_value payload.now) }
-    ensures { OnOk result (out.new.octets ≡ out.old.octets ++ (next ∷ 0 ∷ two (4 + length (body_written (payload_value payload.now))) ++ body_written (payload_value payload.now))) }
+    ensures { OnOk result (out.new.octets ≡ out.old.octets
+        ++ (next ∷ 0 ∷ two (4 + length (body_written (payload_value payload.now)))
+        ++ body_written (payload_value payload.now))) }
 {
     out.extend(&[next, 0])?;
     put_two(out, 4 + body_len(payload) as u16)?;
@@ -77,22 +84,22 @@ pub fn type_of(payload: &Payload) -> u8
     ensures { result ≡ type_of (payload_value payload.now) }
 {
     match payload {
-        Payload::Sa(_) => 33,
-        Payload::Ke(_) => 34,
-        Payload::IdI(_) => 35,
-        Payload::IdR(_) => 36,
-        Payload::Cert(_) => 37,
-        Payload::CertReq(_) => 38,
-        Payload::Auth(_) => 39,
-        Payload::Nonce(_) => 40,
-        Payload::Notify(_) => 41,
-        Payload::Delete(_) => 42,
-        Payload::Vendor(_) => 43,
-        Payload::TsI(_) => 44,
-        Payload::TsR(_) => 45,
-        Payload::Sk(_) => 46,
-        Payload::Cp(_) => 47,
-        Payload::Eap(_) => 48,
+        Payload::Sa(_) => payload_types::SA,
+        Payload::Ke(_) => payload_types::KE,
+        Payload::IdI(_) => payload_types::IDI,
+        Payload::IdR(_) => payload_types::IDR,
+        Payload::Cert(_) => payload_types::CERT,
+        Payload::CertReq(_) => payload_types::CERTREQ,
+        Payload::Auth(_) => payload_types::AUTH,
+        Payload::Nonce(_) => payload_types::NONCE,
+        Payload::Notify(_) => payload_types::NOTIFY,
+        Payload::Delete(_) => payload_types::DELETE,
+        Payload::Vendor(_) => payload_types::VENDOR,
+        Payload::TsI(_) => payload_types::TSI,
+        Payload::TsR(_) => payload_types::TSR,
+        Payload::Sk(_) => payload_types::SK,
+        Payload::Cp(_) => payload_types::CP,
+        Payload::Eap(_) => payload_types::EAP,
         Payload::Other(other) => other.kind,
     }
 }

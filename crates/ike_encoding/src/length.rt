@@ -3,20 +3,18 @@ ghost use Rattle.ike_values.specs.PayloadView.{payload_value};
 ghost use Rattle.ike_values.specs.Spelling.{HasSpelling};
 ghost use Rattle.ike_values.specs.Writing.{chain_written, AreValid};
 
-use ike_values::{Payload, Payloads, body_len};
+use ike_values::{HEADER_OCTETS, Payload, Payloads, body_len};
 
-/// One more than the length field of a header holds.
-const LIMIT: usize = 4294967296;
+/// Every length that the length field of a header holds is below this.
+const LENGTH_END: usize = 4_294_967_296;
 
-const HEADER: usize = 28;
-
-/// Whether a header and the payloads are below 2^32 octets long, so that the length field of a message holds their
-/// number. The payloads have a spelling (`Payloads::is_valid`).
+/// Whether a header and the payloads are below 2^32 octets long, so that the length field of a
+/// message holds their number. The payloads have a spelling (`Payloads::is_valid`).
 pub fn fits_message(payloads: &Payloads) -> bool
     requires { HasSpelling payloads.now }
     ensures { IsTrue result ↔ (28 + length (chain_written payloads.now) < 2 ^ 32) }
 {
-    HEADER + chain_len(payloads.as_slice()) < LIMIT
+    HEADER_OCTETS + chain_len(payloads.as_slice()) < LENGTH_END
 }
 
 fn chain_len(payloads: &[Payload]) -> usize
@@ -26,7 +24,7 @@ fn chain_len(payloads: &[Payload]) -> usize
     let mut len = 0;
     let mut rest = payloads;
     while let [first, others @ ..] = rest {
-        len = (len + 4 + body_len(first)).min(LIMIT);
+        len = (len + 4 + body_len(first)).min(LENGTH_END);
         rest = others;
     }
     len

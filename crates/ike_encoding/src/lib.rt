@@ -12,4 +12,4 @@ mod selectors;
 pub use bodies::encode_body;
 pub use chain::{encode_chain, type_of};
 pub use length::fits_message;
-pub use message::{encode_message, flags_of};
+pub use message::{encode_message, flags_of, header_octets};

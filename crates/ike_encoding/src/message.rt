@@ -1,28 +1,19 @@
 //! Whole messages.
 
-ghost use Rattle.std.specs.Prelude.{◌≡◌, ◌+◌, ◌<◌, ◌^◌, ◌++◌, ◌∷◌, [], length, IfOk, OnOk};
-ghost use Rattle.std.specs.Int.{w32, w64, to_be_bytes};
+ghost use Rattle.std.specs.Prelude.{◌≡◌, ◌+◌, ◌<◌, ◌^◌, length, IfOk, OnOk};
 ghost use Rattle.ike_values.specs.Spelling.{HasSpelling};
 ghost use Rattle.ike_values.specs.Writing.{chain_written};
 ghost use Rattle.ike_values.specs.Headers.{IsMessage};
-ghost use Rattle.ike_encoding.specs.Messages.{flags_of, FitsHeader, message_written};
+ghost use Rattle.ike_encoding.specs.Messages.{flags_of, FitsHeader, header_written, message_written};
 
 use crate::chain::encode_chain;
 use ha_base::{Memory, Octets};
-use ike_values::{Header, Message};
+use ike_values::{HEADER_OCTETS, Header, INITIATOR, Message, RESPONSE, VERSION};
 use std::alloc::Global;
 
-/// The octets of a header (RFC 7296, section 3.1).
-const HEADER: usize = 28;
-/// Major version 2, minor version 0.
-const VERSION: u8 = 32;
-
-const INITIATOR: u8 = 8;
-
-const RESPONSE: u8 = 32;
-
-/// The spelling of a message with reserved bits 0 (RFC 7296, section 3). Its payloads have a spelling
-/// (`Payloads::is_valid`), which with the header is below 2^32 octets long. An error is want of memory.
+/// The spelling of a message with reserved bits 0 (RFC 7296, section 3). Its payloads have a
+/// spelling (`Payloads::is_valid`), which with the header is below 2^32 octets long. An error is
+/// want of memory.
 pub fn encode_message(alloc: Global, message: &Message) -> Result<Octets, Memory>
     requires valid { HasSpelling message.now.payloads }
     requires fits { 28 + length (chain_written message.now.payloads) < 2 ^ 32 }
@@ -42,26 +33,33 @@ fn put_message(alloc: Global, message: &Message) -> Result<Octets, Memory>
     let mut chain = Octets::new(alloc);
     let first = encode_chain(&message.payloads, &mut chain)?;
     let payloads = chain.as_slice();
-    let mut out = Octets::with_room(alloc, HEADER + payloads.len())?;
-    put_header(
-        &mut out,
-        first,
-        &message.header,
-        (HEADER + payloads.len()) as u32,
-    )?;
+    let length = HEADER_OCTETS + payloads.len();
+    let mut out = Octets::with_room(alloc, length)?;
+    out.extend(&header_octets(&message.header, first, length as u32))?;
     out.extend(payloads)?;
     Ok(out)
 }
 
-fn put_header(out: &mut Octets, first: u8, header: &Header, len: u32) -> Result<(), Memory>
-    ensures written { OnOk result (out.new.octets ≡ out.old.octets ++ to_be_bytes w64 header.now.spii ++ to_be_bytes w64 header.now.spir ++ (first ∷ 32 ∷ header.now.exchange ∷ flags_of header.now ∷ []) ++ to_be_bytes w32 header.now.id ++ to_be_bytes w32 len) }
-    ensures fits { OnOk result (FitsHeader header.now) }
+/// The spelling of a header with reserved bits 0 and the minor version 0 (RFC 7296, section 3.1),
+/// where the first payload has this type and the message this length.
+pub fn header_octets(header: &Header, first: u8, length: u32) -> [u8; HEADER_OCTETS]
+    ensures octets { result ≡ header_written header.now first length }
+    ensures fits { FitsHeader header.now }
 {
-    out.extend(&header.spii.to_be_bytes())?;
-    out.extend(&header.spir.to_be_bytes())?;
-    out.extend(&[first, VERSION, header.exchange, flags_of(header)])?;
-    out.extend(&header.id.to_be_bytes())?;
-    out.extend(&len.to_be_bytes())
+    let Header {
+        spii,
+        spir,
+        exchange,
+        id,
+        ..
+    } = *header;
+    let mut octets = [0; HEADER_OCTETS];
+    octets[..8].copy_from_slice(&spii.to_be_bytes());
+    octets[8..16].copy_from_slice(&spir.to_be_bytes());
+    octets[16..20].copy_from_slice(&[first, VERSION, exchange, flags_of(header)]);
+    octets[20..24].copy_from_slice(&id.to_be_bytes());
+    octets[24..].copy_from_slice(&length.to_be_bytes());
+    octets
 }
 
 /// The flags of a header: Initiator and Response, and no other (RFC 7296, section 3.1).

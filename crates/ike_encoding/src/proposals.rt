@@ -14,9 +14,11 @@ use ike_values::{Attribute, Proposal, Transform, attributes_len, proposal_len};
 
 pub(crate) fn put_proposals(out: &mut Octets, proposals: &[Proposal]) -> Result<(), Memory>
     requires { AllByRecursion FitsProposal (map proposal_value proposals.now) }
-    ensures written { OnOk result (out.new.octets ≡ out.old.octets ++ proposals_written (map proposal_value proposals.now)) }
+    ensures written { OnOk result (out.new.octets ≡ out.old.octets
+        ++ proposals_written (map proposal_value proposals.now)) }
     ensures spare { OnOk result (out.old.spare ≤ out.new.spare + length (proposals_written (map proposal_value proposals.now))) }
-    ensures room { length (proposals_written (map proposal_value proposals.now)) ≤ out.old.spare → IsOk result }
+    ensures room { length (proposals_written (map proposal_value proposals.now)) ≤ out.old.spare →
+        IsOk result }
 {
     let mut rest = proposals;
     while let [first, others @ ..] = rest {
@@ -28,9 +30,11 @@ pub(crate) fn put_proposals(out: &mut Octets, proposals: &[Proposal]) -> Result<
 
 fn put_proposal(out: &mut Octets, last: bool, proposal: &Proposal) -> Result<(), Memory>
     requires { FitsProposal (proposal_value proposal.now) }
-    ensures written { OnOk result (out.new.octets ≡ out.old.octets ++ proposal_written (proposal_value proposal.now) last) }
+    ensures written { OnOk result (out.new.octets ≡ out.old.octets
+        ++ proposal_written (proposal_value proposal.now) last) }
     ensures spare { OnOk result (out.old.spare ≤ out.new.spare + length (proposal_written (proposal_value proposal.now) last)) }
-    ensures room { length (proposal_written (proposal_value proposal.now) last) ≤ out.old.spare → IsOk result }
+    ensures room { length (proposal_written (proposal_value proposal.now) last) ≤ out.old.spare →
+        IsOk result }
 {
     let spi = proposal.spi.as_slice();
     let transforms = proposal.transforms.as_slice();
@@ -55,7 +59,8 @@ fn mark(more: u8, last: bool) -> u8
 
 fn put_transforms(out: &mut Octets, transforms: &[Transform]) -> Result<(), Memory>
     requires { AllByRecursion FitsTransform (map transform_value transforms.now) }
-    ensures written { OnOk result (out.new.octets ≡ out.old.octets ++ transforms_written (map transform_value transforms.now)) }
+    ensures written { OnOk result (out.new.octets ≡ out.old.octets
+        ++ transforms_written (map transform_value transforms.now)) }
     ensures spare { OnOk result (out.old.spare ≤ out.new.spare + length (transforms_written (map transform_value transforms.now))) }
     ensures room { length (transforms_written (map transform_value transforms.now)) ≤ out.old.spare → IsOk result }
 {
@@ -69,7 +74,8 @@ fn put_transforms(out: &mut Octets, transforms: &[Transform]) -> Result<(), Memo
 
 fn put_transform(out: &mut Octets, last: bool, transform: &Transform) -> Result<(), Memory>
     requires { FitsTransform (transform_value transform.now) }
-    ensures written { OnOk result (out.new.octets ≡ out.old.octets ++ transform_written (transform_value transform.now) last) }
+    ensures written { OnOk result (out.new.octets ≡ out.old.octets
+        ++ transform_written (transform_value transform.now) last) }
     ensures spare { OnOk result (out.old.spare ≤ out.new.spare + length (transform_written (transform_value transform.now) last)) }
     ensures room { length (transform_written (transform_value transform.now) last) ≤ out.old.spare → IsOk result }
 {
@@ -83,7 +89,8 @@ fn put_transform(out: &mut Octets, last: bool, transform: &Transform) -> Result<
 
 fn put_attributes(out: &mut Octets, attributes: &[Attribute]) -> Result<(), Memory>
     requires { AllByRecursion FitsAttribute (map attribute_value attributes.now) }
-    ensures written { OnOk result (out.new.octets ≡ out.old.octets ++ attributes_spelling (map attribute_value attributes.now)) }
+    ensures written { OnOk result (out.new.octets ≡ out.old.octets
+        ++ attributes_spelling (map attribute_value attributes.now)) }
     ensures spare { OnOk result (out.old.spare ≤ out.new.spare + length (attributes_spelling (map attribute_value attributes.now))) }
     ensures room { length (attributes_spelling (map attribute_value attributes.now)) ≤ out.old.spare → IsOk result }
 {
@@ -97,9 +104,11 @@ fn put_attributes(out: &mut Octets, attributes: &[Attribute]) -> Result<(), Memo
 
 fn put_attribute(out: &mut Octets, attribute: &Attribute) -> Result<(), Memory>
     requires { FitsAttribute (attribute_value attribute.now) }
-    ensures written { OnOk result (out.new.octets ≡ out.old.octets ++ attribute_spelling (attribute_value attribute.now)) }
+    ensures written { OnOk result (out.new.octets ≡ out.old.octets
+        ++ attribute_spelling (attribute_value attribute.now)) }
     ensures spare { OnOk result (out.old.spare ≤ out.new.spare + length (attribute_spelling (attribute_value attribute.now))) }
-    ensures room { length (attribute_spelling (attribute_value attribute.now)) ≤ out.old.spare → IsOk result }
+    ensures room { length (attribute_spelling (attribute_value attribute.now)) ≤ out.old.spare →
+        IsOk result }
 {
     match attribute {
         Attribute::Fixed { kind, value } => {

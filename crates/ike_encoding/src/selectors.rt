@@ -22,9 +22,11 @@ pub(crate) fn put_traffic(out: &mut Octets, selectors: &[Selector]) -> Result<()
 
 fn put_selectors(out: &mut Octets, selectors: &[Selector]) -> Result<(), Memory>
     requires { AllByRecursion FitsSelector (map selector_value selectors.now) }
-    ensures written { OnOk result (out.new.octets ≡ out.old.octets ++ selectors_spelling (map selector_value selectors.now)) }
+    ensures written { OnOk result (out.new.octets ≡ out.old.octets
+        ++ selectors_spelling (map selector_value selectors.now)) }
     ensures spare { OnOk result (out.old.spare ≤ out.new.spare + length (selectors_spelling (map selector_value selectors.now))) }
-    ensures room { length (selectors_spelling (map selector_value selectors.now)) ≤ out.old.spare → IsOk result }
+    ensures room { length (selectors_spelling (map selector_value selectors.now)) ≤ out.old.spare →
+        IsOk result }
 {
     let mut rest = selectors;
     while let [first, others @ ..] = rest {
@@ -36,9 +38,11 @@ fn put_selectors(out: &mut Octets, selectors: &[Selector]) -> Result<(), Memory>
 
 fn put_selector(out: &mut Octets, selector: &Selector) -> Result<(), Memory>
     requires { FitsSelector (selector_value selector.now) }
-    ensures written { OnOk result (out.new.octets ≡ out.old.octets ++ selector_spelling (selector_value selector.now)) }
+    ensures written { OnOk result (out.new.octets ≡ out.old.octets
+        ++ selector_spelling (selector_value selector.now)) }
     ensures spare { OnOk result (out.old.spare ≤ out.new.spare + length (selector_spelling (selector_value selector.now))) }
-    ensures room { length (selector_spelling (selector_value selector.now)) ≤ out.old.spare → IsOk result }
+    ensures room { length (selector_spelling (selector_value selector.now)) ≤ out.old.spare →
+        IsOk result }
 {
     let start = selector.start.as_slice();
     out.extend(&[selector.kind, selector.protocol])?;

@@ -2,7 +2,7 @@
 use Rattle.std.proofs.Common.{◌≡◌, ℕ, zero, suc, ◌<◌, ◌⊎◌, Bool, true, false, cond, eqb, eq-eqb, length, sym, ◌∙◌, arith, List, [], ◌∷◌, Result, Ok, Err, refl, inl, inr}
 use Rattle.std.proofs.lemmas.Bool.{eqb-true}
 use Rattle.std.proofs.lemmas.Bool.Decides.{nat_tests}
-use Rattle.std.specs.Prelude.{not, ◌&&◌, ◌||◌}
+use Rattle.std.specs.Prelude.{◌&&◌}
 use Rattle.ike_grammar.specs.declared.fault.Bad.{Bad}
 use Rattle.ike_grammar.specs.Faults.{◌>>=◌, unless, Passes}
 
@@ -36,31 +36,11 @@ pub chosen : {A : Type 0} (b : Bool) (x y z : A) → cond b x y ≡ z → ((b �
 chosen true x y z e = inl (refl, e)
 chosen false x y z e = inr (refl, e)
 
+-- a result is no value and a fault at once
+pub differ : {A : Type 0} (x : A) (b : Bad) (r : Result A Bad) → r ≡ Ok x → r ≡ Err b → ⊥
+differ x b r e f = absurd cc
+
 -- ---- tests
-
-pub not_false : (b : Bool) → not b ≡ false → b ≡ true
-not_false true e = refl
-not_false false e = absurd cc
-
-pub not_true : (b : Bool) → b ≡ true → not b ≡ false
-not_true true e = refl
-not_true false e = absurd cc
-
-pub or_false : (a b : Bool) → (a || b) ≡ false → (a ≡ false) × (b ≡ false)
-or_false true b e = absurd cc
-or_false false b e = (refl, e)
-
-pub or_falses : (a b : Bool) → a ≡ false → b ≡ false → (a || b) ≡ false
-or_falses true b e f = absurd cc
-or_falses false b e f = f
-
-pub and_first_false : (a b : Bool) → a ≡ false → (a && b) ≡ false
-and_first_false true b e = absurd cc
-and_first_false false b e = refl
-
-pub and_second_false : (a b : Bool) → b ≡ false → (a && b) ≡ false
-and_second_false true b e = e
-and_second_false false b e = refl
 
 pub and_false : (a b : Bool) → a ≡ true → (a && b) ≡ false → b ≡ false
 and_false true b t e = e

@@ -2,7 +2,7 @@
 use Rattle.std.proofs.Common.{◌≡◌, ℕ, ◌+◌, ◌-◌, ◌*◌, ◌/◌, ◌%◌, ◌^◌, ◌≤◌, ◌<◌, eq-eqb, List, ◌∷◌, ◌++◌, length, take, drop, Ok, refl, sym, ap, subst, ◌∙◌, append_assoc, arith, length-append}
 use Rattle.std.specs.Prelude.{slice_index}
 use Rattle.std.specs.Int.{w64, to_be_bytes, from_be_bytes}
-use Rattle.std.proofs.lemmas.Bool.{ltb-false, le-ltb, eqb-true}
+use Rattle.std.proofs.lemmas.Bool.{ltb-false, le-ltb, eqb-true, not-false, not_from_true, or_parts, or_from}
 use Rattle.std.proofs.lemmas.List.{take-append-drop, take_at, drop_at, length-take, length-drop}
 use Rattle.std.proofs.lemmas.Nat.{be_bytes_8, from_be_bytes-to_be_bytes_8}
 use Rattle.ike_values.specs.Values.{IdValue, AuthValue, NotifyValue, DeleteValue, SkValue}
@@ -10,7 +10,7 @@ use Rattle.ike_values.specs.Spelling.{two, SpellsNumbered, SpellsNonce, SpellsNo
 use Rattle.ike_grammar.specs.OctetRange.{IsOctets}
 use Rattle.ike_grammar.specs.Faults.{Passes}
 use Rattle.ike_grammar.specs.Bodies.{numbered_tests, id_at, auth_at, nonce_tests, nonce_at, notify_tests, notify_read, notify_at, delete_tests, delete_read, delete_at, sk_tests, sk_read, sk_at}
-use Rattle.ike_grammar.proofs.Binds.{done, ok_is, unless_ok, unless_passes, not_false, not_true, or_false, or_falses}
+use Rattle.ike_grammar.proofs.Binds.{done, ok_is, unless_ok, unless_passes}
 use Rattle.ike_grammar.proofs.Cells.{IsOctets-take, heads4, same4, high, low, two_again}
 
 -- ---- a number, three reserved octets and content
@@ -59,14 +59,14 @@ pub nonce_found : (end : ℕ) (body x : List ℕ) → nonce_at end body ≡ Ok x
 unfolding nonce_at
 nonce_found end body x e =
     let u = unless_ok (nonce_tests end body) (Ok body) x e in
-    let t = or_false _ _ u.0.0 in
+    let t = or_parts _ _ u.0.0 in
     subst (λ (y : List ℕ). SpellsNonce y body) (ok_is body x u.1) (record { bytes_are = refl; long = ltb-false _ _ t.0; short = ltb-false _ _ t.1 })
 
 pub nonce_again : (end : ℕ) (body x : List ℕ) → SpellsNonce x body → nonce_at end body ≡ Ok x
 unfolding nonce_at
 nonce_again end body x s =
     ap (nonce_at end) s.bytes_are ∙
-    unless_passes (nonce_tests end x) (Ok x) (or_falses _ _ (le-ltb _ _ s.long) (le-ltb _ _ s.short), tt)
+    unless_passes (nonce_tests end x) (Ok x) (or_from _ _ (le-ltb _ _ s.long) (le-ltb _ _ s.short), tt)
 
 -- ---- notifications
 
@@ -105,7 +105,7 @@ delete_found end body x fits e =
     subst (λ (y : DeleteValue). SpellsDelete y body) (ok_is (delete_read body) x u.1)
     (record {
       bytes_are = heads4 body long ∙ same4 refl refl (sym (high (slice_index body 2) (slice_index body 3) (fits 3))) (sym (low (slice_index body 2) (slice_index body 3) (fits 3))) refl;
-      spis_fit = eqb-true _ _ (not_false _ u.0.1.0);
+      spis_fit = eqb-true _ _ (not-false _ u.0.1.0);
     })
 
 delete_same : (p z n n' : ℕ) (s : List ℕ) → n ≡ n' → (let made : DeleteValue = record { protocol = p; size = z; number = n; spis = s } in done made) ≡ (let made : DeleteValue = record { protocol = p; size = z; number = n'; spis = s } in done made)
@@ -117,7 +117,7 @@ delete_again end body x s =
     let bytes : List ℕ = x.protocol ∷ x.size ∷ two x.number ++ x.spis in
     let sizes : length x.spis ≡ x.size * (256 * (x.number / 256) + x.number % 256) = s.spis_fit ∙ ap (λ (k : ℕ). x.size * k) (sym (two_again x.number)) in
     ap (delete_at end) s.bytes_are ∙
-    unless_passes (delete_tests end bytes) (Ok (delete_read bytes)) (le-ltb (length bytes) 4 (omega arith), (not_true _ (eq-eqb _ _ sizes), tt)) ∙
+    unless_passes (delete_tests end bytes) (Ok (delete_read bytes)) (le-ltb (length bytes) 4 (omega arith), (not_from_true _ (eq-eqb _ _ sizes), tt)) ∙
     delete_same x.protocol x.size _ x.number x.spis (two_again x.number)
 
 -- ---- encrypted payloads

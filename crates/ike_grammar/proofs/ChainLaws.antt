@@ -11,7 +11,7 @@ use Rattle.ike_grammar.specs.OctetRange.{IsOctets}
 use Rattle.ike_grammar.specs.Kinds.{payload_kind, is_sk}
 use Rattle.ike_grammar.specs.Faults.{◌>>=◌}
 use Rattle.ike_grammar.specs.Chain.{payload_at, end_tests, chain_by, chain_at, Refused}
-use Rattle.ike_grammar.proofs.Binds.{bind_ok, ok_is, unless_ok, unless_passes}
+use Rattle.ike_grammar.proofs.Binds.{bind_ok, ok_is, unless_ok, unless_passes, differ}
 use Rattle.ike_grammar.proofs.Chains.{payload_shortens, chain-end, chain-step}
 use Rattle.ike_grammar.proofs.KindLaws.{some_type}
 use Rattle.ike_grammar.proofs.PayloadLaws.{NextIs, Leads, payload_found, Stands, goes_to, payload_again}
@@ -84,9 +84,6 @@ some_reading first inner bytes fits = either bytes first inner (chain_at (length
 
 pub one_value : (first : ℕ) (inner : Bool) (bytes : List ℕ) (xs ys : List PayloadValue) → Spells xs first inner bytes → Spells ys first inner bytes → xs ≡ ys
 one_value first inner bytes xs ys s t = ok_is xs ys (sym (chain_again (length bytes) inner xs first bytes s) ∙ chain_again (length bytes) inner ys first bytes t)
-
-differ : {A : Type 0} (x : A) (b : Bad) (r : Result A Bad) → r ≡ Ok x → r ≡ Err b → ⊥
-differ x b r e f = absurd cc
 
 pub not_both : (first : ℕ) (inner : Bool) (bytes : List ℕ) (xs : List PayloadValue) (place : ℕ) (reason : Reason) → Spells xs first inner bytes → Refused first inner bytes place reason → ⊥
 not_both first inner bytes xs place reason s r =

@@ -1,7 +1,7 @@
 -- A chain of payloads, as a loop reads it.
 use Rattle.std.proofs.Common.{◌≡◌, ℕ, zero, suc, ◌+◌, ◌-◌, ◌≤◌, ◌<◌, Bool, true, false, List, [], ◌∷◌, ◌++◌, length, Result, Ok, Err, refl, sym, ap, subst, ◌∙◌, append_assoc, arith}
 use Rattle.std.specs.Prelude.{slice_index, nat_lt}
-use Rattle.std.proofs.lemmas.Bool.{ltb-false, lt-ltb, le-ltb}
+use Rattle.std.proofs.lemmas.Bool.{ltb-false, lt-ltb, le-ltb, or_parts}
 use Rattle.std.proofs.lemmas.List.{length-drop, append-nil}
 use Rattle.ike_values.specs.Values.{PayloadValue}
 use Rattle.ike_grammar.specs.declared.fault.Bad.{Bad}
@@ -13,7 +13,7 @@ use Rattle.ike_grammar.specs.declared.kind.Kind.TheVariants.{Sk}
 use Rattle.ike_grammar.specs.Kinds.{payload_kind}
 use Rattle.ike_grammar.specs.Faults.{◌>>=◌, Fails, unless, two_at}
 use Rattle.ike_grammar.specs.Chain.{body_at, payload_tests, body_of, behind_payload, last_tests, leads_to, payload_at, end_tests, chain_by, chain_at}
-use Rattle.ike_grammar.proofs.Binds.{bind_ok, bind_same, ok_is, unless_ok, or_false}
+use Rattle.ike_grammar.proofs.Binds.{bind_ok, bind_same, ok_is, unless_ok}
 use Rattle.ike_grammar.proofs.Many.{with_items}
 
 -- what is left behind a payload
@@ -28,7 +28,7 @@ unfolding payload_at
 payload_shortens end number inner bytes x e =
     let u = unless_ok (payload_tests end number inner bytes) (body_at (payload_kind number) (end - length (behind_payload bytes)) number (slice_index bytes 0) (body_of bytes) >>= λ payload. leads_to (payload_kind number) end (slice_index bytes 0) (behind_payload bytes) payload) x e in
     let b = bind_ok (body_at (payload_kind number) (end - length (behind_payload bytes)) number (slice_index bytes 0) (body_of bytes)) (λ payload. leads_to (payload_kind number) end (slice_index bytes 0) (behind_payload bytes) payload) x u.1 in
-    let t = or_false _ _ u.0.1.0 in
+    let t = or_parts _ _ u.0.1.0 in
     let least : 4 ≤ two_at bytes 2 = ltb-false _ _ t.0 in
     let most : two_at bytes 2 ≤ length bytes = ltb-false _ _ t.1 in
     rw (leads_left (payload_kind number) end (slice_index bytes 0) (behind_payload bytes) b.0 x b.2) (omega (arith, length-drop (two_at bytes 2) bytes))

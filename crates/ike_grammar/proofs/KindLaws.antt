@@ -1,7 +1,7 @@
 -- Which kind a payload type is of.
 use Rattle.std.proofs.Common.{◌≡◌, ℕ, ◌+◌, ◌≤◌, ◌<◌, ◌⊎◌, Bool, true, false, cond, eqb, refl, arith, inl, inr}
 use Rattle.std.specs.Prelude.{◌==◌, ◌&&◌, ◌||◌, nat_lt, IsTrue}
-use Rattle.std.proofs.lemmas.Bool.{eqb-true, eqb-false, ltb-true, lt-ltb, cases_lt}
+use Rattle.std.proofs.lemmas.Bool.{eqb-true, eqb-false, ltb-true, lt-ltb, cases_lt, and_from, or_left, or_right}
 use Rattle.ike_values.specs.Spelling.{is_unknown}
 use Rattle.ike_grammar.specs.declared.kind.Kind.{Kind}
 use Rattle.ike_grammar.specs.declared.kind.Kind.TheVariants.{Sa, Ke, IdI, IdR, Cert, CertReq, Auth, Nonce, Notify, Delete, Vendor, TsI, TsR, Sk, Cp, Eap, Other}
@@ -37,23 +37,11 @@ step a number l e =
     let other : number ≡ a → ⊥ = eqb-false number a e in
     elim (cases_lt a number) [ inl lt ↦ omega arith | inr le ↦ absurd (other (omega arith)) ]
 
-above : (a b : Bool) → b ≡ true → (a || b) ≡ true
-above true b e = refl
-above false b e = e
-
-below : (a b : Bool) → a ≡ true → (a || b) ≡ true
-below true b e = refl
-below false b e = absurd cc
-
-both : (a b : Bool) → a ≡ true → b ≡ true → (a && b) ≡ true
-both true b e f = f
-both false b e f = absurd cc
-
 outside : (number : ℕ) → 0 < number → eqb number 33 ≡ false → eqb number 34 ≡ false → eqb number 35 ≡ false → eqb number 36 ≡ false → eqb number 37 ≡ false → eqb number 38 ≡ false → eqb number 39 ≡ false → eqb number 40 ≡ false → eqb number 41 ≡ false → eqb number 42 ≡ false → eqb number 43 ≡ false → eqb number 44 ≡ false → eqb number 45 ≡ false → eqb number 46 ≡ false → eqb number 47 ≡ false → eqb number 48 ≡ false → IsTrue (is_unknown number)
 outside number some f33 f34 f35 f36 f37 f38 f39 f40 f41 f42 f43 f44 f45 f46 f47 f48 =
-    both (nat_lt 0 number) (nat_lt number 33 || nat_lt 48 number) (lt-ltb 0 number some)
+    and_from (nat_lt 0 number) (nat_lt number 33 || nat_lt 48 number) (lt-ltb 0 number some)
     (elim (cases_lt number 33) [
-      | inl lt ↦ below (nat_lt number 33) (nat_lt 48 number) (lt-ltb number 33 lt)
+      | inl lt ↦ or_left (nat_lt number 33) (nat_lt 48 number) (lt-ltb number 33 lt)
       | inr n33 ↦
           let n34 : 34 ≤ number = step 33 number n33 f33 in
           let n35 : 35 ≤ number = step 34 number n34 f34 in
@@ -71,7 +59,7 @@ outside number some f33 f34 f35 f36 f37 f38 f39 f40 f41 f42 f43 f44 f45 f46 f47 
           let n47 : 47 ≤ number = step 46 number n46 f46 in
           let n48 : 48 ≤ number = step 47 number n47 f47 in
           let n49 : 49 ≤ number = step 48 number n48 f48 in
-          above (nat_lt number 33) (nat_lt 48 number) (lt-ltb 48 number (omega (arith, n49)))
+          or_right (nat_lt number 33) (nat_lt 48 number) (lt-ltb 48 number (omega (arith, n49)))
     ])
 
 pub kind_is : (number : ℕ) → 0 < number → KindIs (payload_kind number) number

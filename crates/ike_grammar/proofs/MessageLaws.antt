@@ -2,7 +2,7 @@
 use Rattle.std.proofs.Common.{◌≡◌, ℕ, zero, suc, ◌+◌, ◌/◌, ◌^◌, ◌≤◌, ◌<◌, ◌⊎◌, Bool, false, eq-eqb, List, [], ◌∷◌, ◌++◌, length, drop, Result, Ok, Err, refl, sym, ap, subst, ◌∙◌, arith, inl, inr}
 use Rattle.std.specs.Prelude.{slice_index}
 use Rattle.std.specs.Int.{w32, w64, to_be_bytes, from_be_bytes}
-use Rattle.std.proofs.lemmas.Bool.{ltb-false, le-ltb, eqb-true}
+use Rattle.std.proofs.lemmas.Bool.{ltb-false, le-ltb, eqb-true, not-false, not_from_true}
 use Rattle.std.proofs.lemmas.List.{length-drop, get_or-drop, drop-drop}
 use Rattle.std.proofs.lemmas.Nat.{be_bytes_4, be_bytes_8, from_be_bytes-to_be_bytes_4, from_be_bytes-to_be_bytes_8}
 use Rattle.ike_values.specs.Values.{PayloadValue}
@@ -15,7 +15,7 @@ use Rattle.ike_grammar.specs.OctetRange.{IsOctets}
 use Rattle.ike_grammar.specs.Faults.{◌>>=◌}
 use Rattle.ike_grammar.specs.Chain.{chain_at}
 use Rattle.ike_grammar.specs.Messages.{four_at, eight_at, header_tests, header_read, header_at, message_at, MessageRefused}
-use Rattle.ike_grammar.proofs.Binds.{done, bind_ok, ok_is, unless_ok, unless_passes, not_false, not_true}
+use Rattle.ike_grammar.proofs.Binds.{done, bind_ok, ok_is, unless_ok, unless_passes, differ}
 use Rattle.ike_grammar.proofs.Cells.{IsOctets-drop, heads4, same4}
 use Rattle.ike_grammar.proofs.ChainLaws.{chain_found, chain_again}
 
@@ -94,8 +94,8 @@ unfolding header_at
 header_found bytes h fits e =
     let u = unless_ok (header_tests bytes) (Ok (header_read bytes)) h e in
     let long : 28 ≤ length bytes = ltb-false _ _ u.0.0 in
-    let version : slice_index bytes 17 / 16 ≡ 2 = eqb-true _ _ (not_false _ u.0.1.0) in
-    let len : four_at bytes 24 ≡ length bytes = eqb-true _ _ (not_false _ u.0.1.1.0) in
+    let version : slice_index bytes 17 / 16 ≡ 2 = eqb-true _ _ (not-false _ u.0.1.0) in
+    let len : four_at bytes 24 ≡ length bytes = eqb-true _ _ (not-false _ u.0.1.1.0) in
     let whole : 28 + length (drop 28 bytes) ≡ four_at bytes 24 = omega (arith, len, long, length-drop 28 bytes) in
     let rest = drop 28 bytes in
     let marks = cells4 bytes 16 in
@@ -129,7 +129,7 @@ header_again bytes h p s =
     let len : from_be_bytes w32 (to_be_bytes w32 (28 + length p.rest)) ≡ 28 + length p.rest = from_be_bytes-to_be_bytes_4 (28 + length p.rest) s.length_fits in
     let whole : length octets ≡ 28 + length p.rest = omega arith in
     ap header_at s.bytes_are ∙
-    unless_passes (header_tests octets) (Ok (header_read octets)) (le-ltb (length octets) 28 (omega arith), (not_true _ (eq-eqb _ _ s.version_is), (not_true _ (eq-eqb _ _ (len ∙ sym whole)), tt))) ∙
+    unless_passes (header_tests octets) (Ok (header_read octets)) (le-ltb (length octets) 28 (omega arith), (not_from_true _ (eq-eqb _ _ s.version_is), (not_from_true _ (eq-eqb _ _ (len ∙ sym whole)), tt))) ∙
     header_same _ h.spii _ h.spir h.exchange _ h.id _ h.initiator _ h.response (from_be_bytes-to_be_bytes_8 h.spii s.spii_fits) (from_be_bytes-to_be_bytes_8 h.spir s.spir_fits) (from_be_bytes-to_be_bytes_4 h.id s.id_fits) (sym s.initiator_is) (sym s.response_is)
 
 -- ---- messages
@@ -164,9 +164,6 @@ some_message bytes fits = either bytes (message_at bytes) fits refl
 
 pub one_message_value : (bytes : List ℕ) (m n : Message) → IsMessage m bytes → IsMessage n bytes → m ≡ n
 one_message_value bytes m n s t = ok_is m n (sym (message_again bytes m s) ∙ message_again bytes n t)
-
-differ : {A : Type 0} (x : A) (b : Bad) (r : Result A Bad) → r ≡ Ok x → r ≡ Err b → ⊥
-differ x b r e f = absurd cc
 
 pub not_both_messages : (bytes : List ℕ) (m : Message) (place : ℕ) (reason : Reason) → IsMessage m bytes → MessageRefused bytes place reason → ⊥
 not_both_messages bytes m place reason s r = differ m (record { place = place; reason = reason }) (message_at bytes) (message_again bytes m s) r

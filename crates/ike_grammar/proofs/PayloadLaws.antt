@@ -1,7 +1,7 @@
 -- Payloads that are read are spelled so, and what is spelled so is read.
 use Rattle.std.proofs.Common.{◌≡◌, ℕ, ◌+◌, ◌-◌, ◌*◌, ◌/◌, ◌%◌, ◌≤◌, ◌<◌, Bool, false, List, [], ◌∷◌, ◌++◌, length, drop, Result, Ok, refl, sym, ap, subst, ◌∙◌, arith, length-append}
 use Rattle.std.specs.Prelude.{slice_index, nat_le, ◌&&◌}
-use Rattle.std.proofs.lemmas.Bool.{ltb-false, le-ltb, leb-false, lt-leb}
+use Rattle.std.proofs.lemmas.Bool.{ltb-false, le-ltb, leb-false, lt-leb, or_parts, or_from, and_left, and_right}
 use Rattle.std.proofs.lemmas.List.{take_at, drop_at, nil_from_length}
 use Rattle.ike_values.specs.Values.{PayloadValue, OtherValue, sa, ke, idi, idr, cert, certreq, auth, nonce, notify, delete, vendor, tsi, tsr, sk, cp, eap, other}
 use Rattle.ike_values.specs.Spelling.{two, type_of, SpellsBody, MayHave, Front, SpellsFront}
@@ -15,7 +15,7 @@ use Rattle.ike_grammar.specs.Bodies.{id_at, auth_at, nonce_at, notify_at, delete
 use Rattle.ike_grammar.specs.Proposals.{proposals_at}
 use Rattle.ike_grammar.specs.Selectors.{traffic_at}
 use Rattle.ike_grammar.specs.Chain.{made, body_at, payload_tests, body_of, behind_payload, last_tests, leads_to, payload_at}
-use Rattle.ike_grammar.proofs.Binds.{done, bind_ok, ok_is, unless_ok, unless_passes, or_false, or_falses, and_false, and_first_false, and_second_false}
+use Rattle.ike_grammar.proofs.Binds.{done, bind_ok, ok_is, unless_ok, unless_passes, and_false}
 use Rattle.ike_grammar.proofs.Cells.{IsOctets-drop, IsOctets-take, heads4, same4, high, low, two_again, split_within, length-within}
 use Rattle.ike_grammar.proofs.Chains.{leads_left}
 use Rattle.ike_grammar.proofs.KindLaws.{KindIs, kind_is, unknown_kind}
@@ -122,7 +122,7 @@ payload_found end number inner bytes x fits some e =
     let read = body_at (payload_kind number) (end - length left) number next body in
     let u = unless_ok (payload_tests end number inner bytes) (read >>= λ payload. leads_to (payload_kind number) end next left payload) x e in
     let b = bind_ok read (λ payload. leads_to (payload_kind number) end next left payload) x u.1 in
-    let t = or_false _ _ u.0.1.0 in
+    let t = or_parts _ _ u.0.1.0 in
     let long : 4 ≤ length bytes = ltb-false _ _ u.0.0 in
     let least : 4 ≤ n = ltb-false _ _ t.0 in
     let most : n ≤ length bytes = ltb-false _ _ t.1 in
@@ -160,12 +160,12 @@ goes_to (sk x) f = 0
 goes_to item f = f.next
 
 flags_pass : (x : PayloadValue) (flags : ℕ) → MayHave x flags → (is_other (payload_kind (type_of x)) && nat_le 128 flags) ≡ false
-flags_pass (other x) flags l = and_second_false (is_other (payload_kind x.kind)) (nat_le 128 flags) (lt-leb 128 flags l)
+flags_pass (other x) flags l = and_right (is_other (payload_kind x.kind)) (nat_le 128 flags) (lt-leb 128 flags l)
 flags_pass item flags l = refl
 
 stands_pass : (x : PayloadValue) (inner : Bool) (f : Front) (body : List ℕ) → SpellsBody x body → Stands x inner f → (is_sk (payload_kind (type_of x)) && inner) ≡ false
 stands_pass (sk x) inner f body s l = l.0
-stands_pass (other x) inner f body s l = and_first_false (is_sk (payload_kind x.kind)) inner (ap is_sk (unknown_kind x.kind s.1))
+stands_pass (other x) inner f body s l = and_left (is_sk (payload_kind x.kind)) inner (ap is_sk (unknown_kind x.kind s.1))
 stands_pass item inner f body s l = refl
 
 stands_next : (x : PayloadValue) (inner : Bool) (f : Front) → Stands x inner f → NextIs x f.next
@@ -192,7 +192,7 @@ payload_again end number inner bytes x f s l =
     ap (λ (k : ℕ). payload_at end k inner bytes) s.first_is ∙
     ap (λ (b : List ℕ). payload_at end (type_of x) inner b) s.bytes_are ∙
     unless_passes (payload_tests end (type_of x) inner octets) (body_at kind inside_end (type_of x) f.next (body_of octets) >>= λ payload. leads_to kind end f.next (behind_payload octets) payload)
-    (le-ltb (length octets) 4 (omega arith), (or_falses _ _ (le-ltb _ _ (omega (arith, n))) (le-ltb (length octets) _ (omega (arith, n, length-append f.body f.rest))), (flags_pass x f.flags s.flags_fit, (stands_pass x inner f f.body s.body_is l, tt)))) ∙
+    (le-ltb (length octets) 4 (omega arith), (or_from _ _ (le-ltb _ _ (omega (arith, n))) (le-ltb (length octets) _ (omega (arith, n, length-append f.body f.rest))), (flags_pass x f.flags s.flags_fit, (stands_pass x inner f f.body s.body_is l, tt)))) ∙
     ap (λ (r : Result PayloadValue Bad). r >>= λ payload. leads_to kind end f.next (behind_payload octets) payload) read ∙
     ap (λ (left : List ℕ). leads_to kind end f.next left x) left_is ∙
     leads_again x inner end f f.body s.body_is l

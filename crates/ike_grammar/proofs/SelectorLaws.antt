@@ -2,7 +2,7 @@
 use Rattle.std.proofs.Common.{◌≡◌, ℕ, zero, suc, ◌+◌, ◌*◌, ◌/◌, ◌%◌, ◌≤◌, ◌<◌, Bool, true, false, eq-eqb, List, [], ◌∷◌, ◌++◌, length, take, drop, Result, Ok, refl, sym, ap, subst, ◌∙◌, append_assoc, arith, length-append}
 use Rattle.std.specs.Prelude.{slice_index, not, ◌&&◌, ◌||◌, ◌==◌}
 use Rattle.std.specs.List.{AllByRecursion}
-use Rattle.std.proofs.lemmas.Bool.{ltb-false, le-ltb, eqb-true}
+use Rattle.std.proofs.lemmas.Bool.{ltb-false, le-ltb, eqb-true, not-false, not_from_true}
 use Rattle.std.proofs.lemmas.List.{take-append-drop, take_at, drop_at, length-take, length-drop, nil_from_length, append-nil}
 use Rattle.ike_values.specs.Values.{SelectorValue}
 use Rattle.ike_values.specs.Spelling.{address_len, selector_spelling, FitsSelector, selectors_spelling, SpellsTraffic}
@@ -10,7 +10,7 @@ use Rattle.ike_grammar.specs.declared.fault.Bad.{Bad}
 use Rattle.ike_grammar.specs.OctetRange.{IsOctets}
 use Rattle.ike_grammar.specs.Faults.{◌>>=◌, two_at, counted}
 use Rattle.ike_grammar.specs.Selectors.{selector_tests, selector_read, selector_at, traffic_tests, behind_tests, traffic_made, traffic_at}
-use Rattle.ike_grammar.proofs.Binds.{done, bind_ok, ok_is, unless_ok, unless_passes, not_false, not_true, not_none, some_octets}
+use Rattle.ike_grammar.proofs.Binds.{done, bind_ok, ok_is, unless_ok, unless_passes, not_none, some_octets}
 use Rattle.ike_grammar.proofs.Cells.{IsOctets-drop, heads4, heads8, high, low, two_again}
 
 pub record TakesSelector (bytes : List ℕ) (x : SelectorValue × List ℕ) : Type 0 where
@@ -37,7 +37,7 @@ selector_takes end bytes x fits e =
     let u = unless_ok (selector_tests end bytes) (Ok (selector_read bytes)) x e in
     let long : 8 ≤ length bytes = ltb-false _ _ u.0.0 in
     let len = address_len (slice_index bytes 0) in
-    let size : two_at bytes 2 ≡ 8 + 2 * len = eqb-true _ _ (not_false _ u.0.1.1.0) in
+    let size : two_at bytes 2 ≡ 8 + 2 * len = eqb-true _ _ (not-false _ u.0.1.1.0) in
     let whole : two_at bytes 2 ≤ length bytes = ltb-false _ _ u.0.1.1.1.0 in
     let content = drop 8 bytes in
     let content_len = length-drop 8 bytes in
@@ -72,7 +72,7 @@ selector_again end x rest fits =
     let last : take len (drop len content) ≡ x.end = ap (λ (t : List ℕ). take len t) behind ∙ take_at x.end rest len fits.end_len in
     let left : drop len (drop len content) ≡ rest = ap (λ (t : List ℕ). drop len t) behind ∙ drop_at x.end rest len fits.end_len in
     unless_passes (selector_tests end bytes) (Ok (selector_read bytes))
-    (le-ltb (length bytes) 8 (omega arith), (unknown (x.kind == 7) (x.kind == 8) fits.kind_known, (not_true _ (eq-eqb _ _ size), (le-ltb (length bytes) _ (omega (arith, size, length-append (x.start ++ x.end) rest, length-append x.start x.end, fits.start_len, fits.end_len)), tt)))) ∙
+    (le-ltb (length bytes) 8 (omega arith), (unknown (x.kind == 7) (x.kind == 8) fits.kind_known, (not_from_true _ (eq-eqb _ _ size), (le-ltb (length bytes) _ (omega (arith, size, length-append (x.start ++ x.end) rest, length-append x.start x.end, fits.start_len, fits.end_len)), tt)))) ∙
     selector_same x.kind x.protocol _ x.start_port _ x.end_port _ x.start _ x.end _ rest (two_again x.start_port) (two_again x.end_port) start last left
 
 -- ---- lists of selectors

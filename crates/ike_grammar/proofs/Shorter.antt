@@ -1,14 +1,14 @@
 -- Each reader of an item takes octets from the front.
 use Rattle.std.proofs.Common.{◌≡◌, ℕ, ◌+◌, ◌-◌, ◌≤◌, ◌<◌, Bool, List, length, drop, Ok, refl, subst, arith, inl, inr}
 use Rattle.std.specs.Prelude.{◌==◌, slice_index, nat_lt}
-use Rattle.std.proofs.lemmas.Bool.{ltb-false}
+use Rattle.std.proofs.lemmas.Bool.{ltb-false, or_parts}
 use Rattle.std.proofs.lemmas.List.{length-drop}
 use Rattle.ike_values.specs.Values.{AttributeValue, TransformValue, ProposalValue, SelectorValue}
 use Rattle.ike_values.specs.Spelling.{address_len}
 use Rattle.ike_grammar.specs.Faults.{◌>>=◌, unless, Passes, two_at, many, counted}
 use Rattle.ike_grammar.specs.Proposals.{attribute_tests, attribute_at, formed_at, free_tests, free_read, fixed_read, item_tests, within, behind_item, transform_at, transform_read, transforms_at, proposal_tests, proposal_at, proposal_read, proposal_made, inside_at, left_tests}
 use Rattle.ike_grammar.specs.Selectors.{selector_tests, selector_read, selector_at}
-use Rattle.ike_grammar.proofs.Binds.{bind_ok, ok_is, unless_ok, chosen, or_false}
+use Rattle.ike_grammar.proofs.Binds.{bind_ok, ok_is, unless_ok, chosen}
 use Rattle.ike_grammar.proofs.Many.{Shortens}
 use Rattle.ike_grammar.proofs.Counted.{Counts}
 
@@ -30,7 +30,7 @@ attributes_shorten end = record { by = attribute_shortens end }
 -- what an item's length tells
 pub item_length : (end more least : ℕ) (last : Bool) (bytes : List ℕ) → 8 ≤ least → Passes (item_tests end more least last bytes) → (8 ≤ length bytes) × (least ≤ two_at bytes 2) × (two_at bytes 2 ≤ length bytes)
 item_length end more least last bytes l p =
-    let t = or_false _ _ p.1.1.0 in
+    let t = or_parts _ _ p.1.1.0 in
     (ltb-false _ _ p.0, ltb-false _ _ t.0, ltb-false _ _ t.1)
 
 transform_shortens : (end : ℕ) (last : Bool) (bytes : List ℕ) (x : TransformValue × List ℕ) → transform_at end last bytes ≡ Ok x → length x.1 < length bytes

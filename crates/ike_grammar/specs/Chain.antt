@@ -69,7 +69,8 @@ payload_at end number inner bytes = unless (payload_tests end number inner bytes
 abbrev pub end_tests : ℕ → List ℕ → List (Bool × Bad)
 end_tests end bytes = refuse (nat_lt 0 (length bytes)) (end - length bytes) Trailing ∷ []
 
--- Payloads until the type of the next one is 0. Each takes four octets at least, so n is never short.
+-- Payloads until the type of the next one is 0. Each takes four octets at least, so n is never
+-- short.
 unfoldable pub chain_by : ℕ → ℕ → Bool → ℕ → List ℕ → Result (List PayloadValue) Bad
 chain_by zero end inner number bytes = Ok []
 chain_by (suc n) end inner zero bytes = unless (end_tests end bytes) (Ok [])
@@ -81,7 +82,7 @@ chain_by (suc n) end inner (suc number) bytes = do
 abbrev pub chain_at : ℕ → Bool → ℕ → List ℕ → Result (List PayloadValue) Bad
 chain_at end inner first bytes = chain_by (length bytes + 1) end inner first bytes
 
--- The first test that is met, from the left, refuses the chain there and for this reason. Places count from the first
--- octet.
+-- The first test that is met, from the left, refuses the chain there and for this reason. Places
+-- count from the first octet.
 abbrev pub Refused : ℕ → Bool → List ℕ → ℕ → Reason → Type 0
 Refused first inner bytes place reason = chain_at (length bytes) inner first bytes ≡ Err (record { place = place; reason = reason })

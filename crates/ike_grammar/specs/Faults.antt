@@ -1,4 +1,5 @@
--- Tests in order, each with the place and the reason of its refusal, and reading that ends at the first one that is met.
+-- Tests in order, each with the place and the reason of its refusal, and reading that ends at the
+-- first one that is met.
 use Rattle.std.specs.Prelude.{◌≡◌, ℕ, zero, suc, ◌+◌, ◌*◌, Bool, false, List, [], ◌∷◌, length, slice_index, Result, Ok, Err, if◌then◌else◌}
 use Rattle.ike_grammar.specs.declared.fault.Reason.{Reason}
 use Rattle.ike_grammar.specs.declared.fault.Bad.{Bad}

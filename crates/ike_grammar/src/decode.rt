@@ -14,8 +14,9 @@ use crate::messages::{header_of, message_of};
 use ike_values::{Header, Message, Payloads};
 use std::alloc::Global;
 
-/// The header of a message, all of whose octets these are (RFC 7296, section 3.1). An error is the first fault: fewer
-/// than 28 octets, a major version other than 2, or a length field that is not the number of octets.
+/// The header of a message, all of whose octets these are (RFC 7296, section 3.1). An error is the
+/// first fault: fewer than 28 octets, a major version other than 2, or a length field that is not
+/// the number of octets.
 pub fn decode_header(bytes: &[u8]) -> Result<Header, Bad>
     // What is read is spelled so.
     ensures found { IfOk result (λ header. IsHeader header bytes.now) }
@@ -27,14 +28,16 @@ pub fn decode_header(bytes: &[u8]) -> Result<Header, Bad>
     header_of(bytes)
 }
 
-/// The payloads that the octets spell, where `first` is the type of the first one, 0 for none (RFC 7296, section 3.2).
-/// An inner chain is the content of an SK payload, and has no SK itself. `Bad` is the first fault from the left, its
-/// place counted from the first of these octets; `Memory` is want of memory.
+/// The payloads that the octets spell, where `first` is the type of the first one, 0 for none (RFC
+/// 7296, section 3.2). An inner chain is the content of an SK payload, and has no SK itself. `Bad`
+/// is the first fault from the left, its place counted from the first of these octets; `Memory` is
+/// want of memory.
 pub fn decode_chain(alloc: Global, first: u8, bytes: &[u8], inner: bool) -> Result<Payloads, Unread>
     // What is read is spelled so.
     ensures found { IfOk result (λ payloads. Spells payloads first inner bytes.now) }
     // What is spelled so is read, unless memory runs out.
-    ensures only { (payloads : List PayloadValue) → Spells payloads first inner bytes.now → Gives (λ x. x) result (Ok payloads) }
+    ensures only { (payloads : List PayloadValue) → Spells payloads first inner bytes.now → Gives
+        (λ x. x) result (Ok payloads) }
     // A fault is the first one.
     ensures refused { IfErr result (IsFaultAt (Refused first inner bytes.now)) }
     // Which of them it is.
@@ -43,13 +46,14 @@ pub fn decode_chain(alloc: Global, first: u8, bytes: &[u8], inner: bool) -> Resu
     chain_of(alloc, bytes.len(), inner, first, bytes)
 }
 
-/// The message that the octets spell (RFC 7296, section 3). `Bad` is the first fault from the left, its place counted
-/// from the first octet of the message; `Memory` is want of memory.
+/// The message that the octets spell (RFC 7296, section 3). `Bad` is the first fault from the left,
+/// its place counted from the first octet of the message; `Memory` is want of memory.
 pub fn decode_message(alloc: Global, bytes: &[u8]) -> Result<Message, Unread>
     // What is read is spelled so.
     ensures found { IfOk result (λ message. IsMessage message bytes.now) }
     // What is spelled so is read, unless memory runs out.
-    ensures only { (message : Message) → IsMessage message bytes.now → Gives (λ x. x) result (Ok message) }
+    ensures only { (message : Message) → IsMessage message bytes.now → Gives
+        (λ x. x) result (Ok message) }
     // A fault is the first one.
     ensures refused { IfErr result (IsFaultAt (MessageRefused bytes.now)) }
     // Which of them it is.

@@ -9,8 +9,9 @@ use ha_base::{Memory, Octets};
 use ike_values::Message;
 use std::alloc::Global;
 
-/// The spelling of a message with reserved bits 0 (RFC 7296, section 3). Its payloads have a spelling
-/// (`Payloads::is_valid`), which with the header is below 2^32 octets long (`fits_message`). An error is want of memory.
+/// The spelling of a message with reserved bits 0 (RFC 7296, section 3). Its payloads have a
+/// spelling (`Payloads::is_valid`), which with the header is below 2^32 octets long
+/// (`fits_message`). An error is want of memory.
 pub fn encode_message(alloc: Global, message: &Message) -> Result<Octets, Memory>
     requires valid { HasSpelling message.now.payloads }
     requires fits { 28 + length (chain_written message.now.payloads) < 2 ^ 32 }

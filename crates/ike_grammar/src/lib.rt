@@ -1,5 +1,5 @@
-//! The grammar of IKEv2 messages (RFC 7296, section 3) both ways: octets are one value, or one fault at one place; and a
-//! value that has a spelling is written and read again.
+//! The grammar of IKEv2 messages (RFC 7296, section 3) both ways: octets are one value, or one
+//! fault at one place; and a value that has a spelling is written and read again.
 #![tactic(auto)]
 
 mod bodies;

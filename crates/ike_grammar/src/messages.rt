@@ -7,22 +7,15 @@ ghost use Rattle.ike_grammar.specs.Messages.{four_at, eight_at, header_at, messa
 
 use crate::chain::chain_of;
 use crate::fault::{Bad, Reason, Unread};
-use ike_values::{Header, Message};
+use ike_values::{HEADER_OCTETS, Header, INITIATOR, Message, RESPONSE};
 use std::alloc::Global;
-
-/// The octets of a header (RFC 7296, section 3.1).
-const HEADER: usize = 28;
-
-const INITIATOR: u8 = 8;
-
-const RESPONSE: u8 = 32;
 
 #[tactic(auto, unfolding(crate::specs::Messages::header_at))]
 pub(crate) fn header_of(bytes: &[u8]) -> Result<Header, Bad>
     ensures read { result ≡ header_at bytes.now }
-    ensures long { IsOk result → HEADER ≤ length bytes.now }
+    ensures long { IsOk result → HEADER_OCTETS ≤ length bytes.now }
 {
-    if bytes.len() < HEADER {
+    if bytes.len() < HEADER_OCTETS {
         return Err(Bad {
             place: 0,
             reason: Reason::Short,
@@ -87,7 +80,7 @@ pub(crate) fn message_of(alloc: Global, bytes: &[u8]) -> Result<Message, Unread>
         Ok(header) => header,
         Err(bad) => return Err(Unread::Bad(bad)),
     };
-    let (_, chain) = bytes.split_at(HEADER);
+    let (_, chain) = bytes.split_at(HEADER_OCTETS);
     let payloads = chain_of(alloc, bytes.len(), false, bytes[16], chain)?;
     Ok(Message { header, payloads })
 }

@@ -9,13 +9,8 @@ ghost use Rattle.ike_grammar.specs.Selectors.{selector_at, traffic_at};
 use crate::fault::{Reason, Unread, bad_at};
 use crate::octets::{place, two};
 use ha_base::OctetList;
-use ike_values::{Selector, Selectors};
+use ike_values::{IPV4_RANGE, IPV6_RANGE, Selector, Selectors};
 use std::alloc::Global;
-
-/// The types of selectors (RFC 7296, section 3.13.1).
-const IPV4_RANGE: u8 = 7;
-
-const IPV6_RANGE: u8 = 8;
 
 #[tactic(auto, unfolding(crate::specs::Selectors::traffic_at))]
 pub(crate) fn traffic_of(alloc: Global, end: usize, body: &[u8]) -> Result<Selectors, Unread>

@@ -4,8 +4,8 @@ use ike_values::{Attribute, Payload};
 use std::alloc::{AllocError, Global};
 use std::test::*;
 
-/// Messages in hexadecimal, and what an independent reader makes of them: the header, its two flags and the payloads,
-/// or the fault.
+/// Messages in hexadecimal, and what an independent reader makes of them: the header, its two flags
+/// and the payloads, or the fault.
 const MESSAGES: [(&str, &str); 45] = [
     (
         "00000000000000010000000000000000c8202508000000000000002000800004",

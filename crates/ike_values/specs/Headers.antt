@@ -1,5 +1,5 @@
--- How headers and whole messages are spelled (RFC 7296, section 3.1). The minor version and all flags but Initiator and
--- Response are free.
+-- How headers and whole messages are spelled (RFC 7296, section 3.1). The minor version and all
+-- flags but Initiator and Response are free.
 use Rattle.std.specs.Prelude.{◌≡◌, ℕ, ◌+◌, ◌/◌, ◌<◌, ◌^◌, ◌==◌, not, Bool, false, bit_and, List, [], ◌∷◌, ◌++◌, length}
 use Rattle.std.specs.Int.{w32, w64, to_be_bytes}
 use Rattle.ike_values.specs.declared.header.Header.{Header}

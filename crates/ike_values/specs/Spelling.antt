@@ -1,10 +1,11 @@
--- How values are spelled in octets (RFC 7296, section 3), as a relation between values and lists of octets. What a
--- reader ignores is free: reserved bits, and the critical bit of payloads whose type is known. A field of a value lies
--- in the range of its type; what is said here are the lengths and the counts, which no value has, and the values that
--- have fewer bits than their type.
+-- How values are spelled in octets (RFC 7296, section 3), as a relation between values and lists of
+-- octets. What a reader ignores is free: reserved bits, and the critical bit of payloads whose type
+-- is known. A field of a value lies in the range of its type; what is said here are the lengths and
+-- the counts, which no value has, and the values that have fewer bits than their type.
 use Rattle.std.specs.Prelude.{◌≡◌, ℕ, ◌+◌, ◌*◌, ◌/◌, ◌%◌, ◌<◌, ◌≤◌, ◌^◌, Bool, true, false, ◌||◌, ◌&&◌, ◌==◌, nat_lt, IsTrue, if◌then◌else◌, List, [], ◌∷◌, ◌++◌, length}
 use Rattle.std.specs.List.{AllByRecursion}
 use Rattle.std.specs.Int.{w64, to_be_bytes}
+use Rattle.ike_values.specs.declared.lengths.TheConstants.{LENGTH_END}
 use Rattle.ike_values.specs.Values.{AttributeValue, fixed, free, TransformValue, ProposalValue, SelectorValue, NotifyValue, DeleteValue, SkValue, PayloadValue, sa, ke, idi, idr, cert, certreq, auth, nonce, notify, delete, vendor, tsi, tsr, sk, cp, eap, other}
 
 -- a number in two octets, big-endian
@@ -28,7 +29,7 @@ attribute_spelling (free kind value) = two kind ++ two (length value) ++ value
 
 abbrev pub FitsAttribute : AttributeValue → Type 0
 FitsAttribute (fixed kind value) = kind < 32768
-FitsAttribute (free kind value) = (kind < 32768) × (length value < 65536)
+FitsAttribute (free kind value) = (kind < 32768) × (length value < LENGTH_END)
 
 abbrev pub attributes_spelling : List AttributeValue → List ℕ
 attributes_spelling [] = []
@@ -44,7 +45,7 @@ pub record TransformParts : Type 0 where
 
 pub record SpellsTransform (x : TransformValue) (last : Bool) (bytes : List ℕ) (p : TransformParts) : Type 0 where
   pub bytes_are : bytes ≡ last_mark 3 last ∷ p.reserved ∷ two (8 + length (attributes_spelling x.attributes)) ++ (x.kind ∷ p.reserved_behind ∷ two x.id) ++ attributes_spelling x.attributes ++ p.rest
-  pub length_fits : 8 + length (attributes_spelling x.attributes) < 65536
+  pub length_fits : 8 + length (attributes_spelling x.attributes) < LENGTH_END
   pub attributes : AllByRecursion FitsAttribute x.attributes
 
 abbrev pub SpellsTransforms : List TransformValue → List ℕ → Type 0
@@ -62,7 +63,7 @@ pub record ProposalParts : Type 0 where
 
 pub record SpellsProposal (x : ProposalValue) (last : Bool) (bytes : List ℕ) (p : ProposalParts) : Type 0 where
   pub bytes_are : bytes ≡ last_mark 2 last ∷ p.reserved ∷ two (8 + length (x.spi ++ p.inside)) ++ (x.number ∷ x.protocol ∷ length x.spi ∷ length x.transforms ∷ []) ++ (x.spi ++ p.inside) ++ p.rest
-  pub length_fits : 8 + length (x.spi ++ p.inside) < 65536
+  pub length_fits : 8 + length (x.spi ++ p.inside) < LENGTH_END
   pub spi_fits : length x.spi < 256
   pub count_fits : length x.transforms < 256
   pub transforms : SpellsTransforms x.transforms p.inside
@@ -98,7 +99,8 @@ pub record SpellsTraffic (xs : List SelectorValue) (body : List ℕ) (reserved :
 
 -- ---- bodies without an inner list
 
--- a number, three reserved octets and content: an identity (section 3.5) or authentication data (section 3.8)
+-- a number, three reserved octets and content: an identity (section 3.5) or authentication data
+-- (section 3.8)
 pub record SpellsNumbered (number : ℕ) (content body : List ℕ) (reserved : ℕ × ℕ × ℕ) : Type 0 where
   pub bytes_are : body ≡ number ∷ reserved.0 ∷ reserved.1 ∷ reserved.2 ∷ content
 
@@ -118,8 +120,8 @@ pub record SpellsDelete (x : DeleteValue) (body : List ℕ) : Type 0 where
   pub bytes_are : body ≡ x.protocol ∷ x.size ∷ two x.number ++ x.spis
   pub spis_fit : length x.spis ≡ x.size * x.number
 
--- section 3.14 and RFC 5282: IV, ciphertext, integrity check value. With no padding the ciphertext still has the pad
--- length, so it is not empty.
+-- section 3.14 and RFC 5282: IV, ciphertext, integrity check value. With no padding the ciphertext
+-- still has the pad length, so it is not empty.
 pub record SpellsSk (x : SkValue) (body : List ℕ) : Type 0 where
   pub bytes_are : body ≡ to_be_bytes w64 x.iv ++ x.ciphertext ++ x.icv
   pub iv_fits : x.iv < 2 ^ 64
@@ -170,7 +172,8 @@ SpellsBody (cp x) body = body ≡ x
 SpellsBody (eap x) body = body ≡ x
 SpellsBody (other x) body = (body ≡ x.body) × IsTrue (is_unknown x.kind)
 
--- The critical bit and seven reserved bits: a payload of unknown type is not critical, else all are free.
+-- The critical bit and seven reserved bits: a payload of unknown type is not critical, else all are
+-- free.
 abbrev pub MayHave : PayloadValue → ℕ → Type 0
 MayHave (other x) flags = flags < 128
 MayHave item flags = flags < 256
@@ -185,18 +188,18 @@ pub record Front : Type 0 where
 pub record SpellsFront (item : PayloadValue) (first : ℕ) (bytes : List ℕ) (f : Front) : Type 0 where
   pub first_is : first ≡ type_of item
   pub bytes_are : bytes ≡ f.next ∷ f.flags ∷ two (4 + length f.body) ++ f.body ++ f.rest
-  pub length_fits : 4 + length f.body < 65536
+  pub length_fits : 4 + length f.body < LENGTH_END
   pub flags_fit : MayHave item f.flags
   pub body_is : SpellsBody item f.body
 
--- What stands behind a payload are the other payloads. SK stands in no inner chain, is the last of an outer one, and
--- has the type of the first inner payload for a next one.
+-- What stands behind a payload are the other payloads. SK stands in no inner chain, is the last of
+-- an outer one, and has the type of the first inner payload for a next one.
 abbrev pub GoesOn : PayloadValue → Bool → List PayloadValue → Front → Type 0 → Type 0
 GoesOn (sk x) inner items f others = (inner ≡ false) × (items ≡ []) × (f.rest ≡ []) × (f.next ≡ x.first)
 GoesOn item inner items f others = others
 
--- The octets spell the payloads, the first of which has this type, 0 where there is none. An inner chain is the
--- content of an SK payload.
+-- The octets spell the payloads, the first of which has this type, 0 where there is none. An inner
+-- chain is the content of an SK payload.
 abbrev pub Spells : List PayloadValue → ℕ → Bool → List ℕ → Type 0
 Spells [] first inner bytes = (first ≡ 0) × (bytes ≡ [])
 Spells (item ∷ items) first inner bytes = (f : Front) × SpellsFront item first bytes f × GoesOn item inner items f (Spells items f.next inner f.rest)

@@ -1,4 +1,5 @@
--- The values of payloads as plain data: what the types of the code hold, without where it lies in memory.
+-- The values of payloads as plain data: what the types of the code hold, without where it lies in
+-- memory.
 use Rattle.std.specs.Prelude.{ℕ, List}
 
 pub data AttributeValue : Type 0 where

@@ -2,6 +2,7 @@
 use Rattle.std.specs.Prelude.{◌≡◌, ℕ, ◌+◌, ◌*◌, ◌<◌, ◌≤◌, ◌^◌, Bool, false, IsTrue, List, [], ◌∷◌, ◌++◌, length}
 use Rattle.std.specs.List.{AllByRecursion}
 use Rattle.std.specs.Int.{w64, to_be_bytes}
+use Rattle.ike_values.specs.declared.lengths.TheConstants.{LENGTH_END}
 use Rattle.ike_values.specs.Values.{TransformValue, ProposalValue, SelectorValue, SkValue, PayloadValue, sa, ke, idi, idr, cert, certreq, auth, nonce, notify, delete, vendor, tsi, tsr, sk, cp, eap, other}
 use Rattle.ike_values.specs.Spelling.{two, is_last, last_mark, attributes_spelling, FitsAttribute, selectors_spelling, FitsSelector, is_unknown, type_of}
 
@@ -14,7 +15,7 @@ transforms_written (x ∷ xs) = transform_written x (is_last xs) ++ transforms_w
 
 pub record FitsTransform (x : TransformValue) : Type 0 where
   pub attributes : AllByRecursion FitsAttribute x.attributes
-  pub length_fits : 8 + length (attributes_spelling x.attributes) < 65536
+  pub length_fits : 8 + length (attributes_spelling x.attributes) < LENGTH_END
 
 abbrev pub proposal_written : ProposalValue → Bool → List ℕ
 proposal_written x last = last_mark 2 last ∷ 0 ∷ two (8 + length (x.spi ++ transforms_written x.transforms)) ++ (x.number ∷ x.protocol ∷ length x.spi ∷ length x.transforms ∷ []) ++ (x.spi ++ transforms_written x.transforms)
@@ -27,7 +28,7 @@ pub record FitsProposal (x : ProposalValue) : Type 0 where
   pub spi_fits : length x.spi < 256
   pub count_fits : length x.transforms < 256
   pub transforms : AllByRecursion FitsTransform x.transforms
-  pub length_fits : 8 + (length x.spi + length (transforms_written x.transforms)) < 65536
+  pub length_fits : 8 + (length x.spi + length (transforms_written x.transforms)) < LENGTH_END
 
 abbrev pub numbered_written : ℕ → List ℕ → List ℕ
 numbered_written number content = number ∷ 0 ∷ 0 ∷ 0 ∷ content
@@ -74,7 +75,7 @@ FitsBody item = Unit {0}
 
 pub record FitsPayload (item : PayloadValue) : Type 0 where
   pub body : FitsBody item
-  pub length_fits : 4 + length (body_written item) < 65536
+  pub length_fits : 4 + length (body_written item) < LENGTH_END
 
 -- the type of the first payload, 0 where there is none
 abbrev pub first_type_of : List PayloadValue → ℕ

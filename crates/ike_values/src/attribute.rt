@@ -42,7 +42,8 @@ impl Attributes {
         }
     }
 
-    /// Appends an attribute. An error is want of memory; it leaves the list as it was and drops the item.
+    /// Appends an attribute. An error is want of memory; it leaves the list as it was and drops the
+    /// item.
     pub fn push(&mut self, item: Attribute) -> Result<(), Memory>
         ensures ok { OnOk result (self.new ≡ self.old ++ attribute_value item ∷ []) }
         ensures err { OnErr result (self.new ≡ self.old) }

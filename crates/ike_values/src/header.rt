@@ -1,7 +1,7 @@
 use crate::payload::Payloads;
 
-/// The header of a message (RFC 7296, section 3.1), without what its spelling gives: the next payload, the version and
-/// the length.
+/// The header of a message (RFC 7296, section 3.1), without what its spelling gives: the next
+/// payload, the version and the length.
 #[derive(Clone, Copy, Debug, PartialEq, Eq)]
 pub struct Header {
     /// The initiator's SPI.
@@ -24,3 +24,15 @@ pub struct Message {
     pub header: Header,
     pub payloads: Payloads,
 }
+
+/// How many octets a header has (RFC 7296, section 3.1).
+pub const HEADER_OCTETS: usize = 28;
+
+/// Major version 2 and minor version 0, in the octet of a header that has the version.
+pub const VERSION: u8 = 0x20;
+
+/// The Initiator flag.
+pub const INITIATOR: u8 = 8;
+
+/// The Response flag.
+pub const RESPONSE: u8 = 32;

@@ -1,4 +1,5 @@
-//! How many octets values have on the wire. A count stops at 65,536, which no length field of two octets holds.
+//! How many octets values have on the wire. A count stops at 65,536, which no length field of two
+//! octets holds.
 
 ghost use Rattle.std.specs.Prelude.{◌≡◌, ◌+◌, ◌<◌, ◌^◌, length, map, min};
 ghost use Rattle.ike_values.specs.AttributeView.{attribute_value};
@@ -7,6 +8,7 @@ ghost use Rattle.ike_values.specs.ProposalView.{proposal_value};
 ghost use Rattle.ike_values.specs.SelectorView.{selector_value};
 ghost use Rattle.ike_values.specs.PayloadView.{payload_value};
 ghost use Rattle.ike_values.specs.Spelling.{attribute_spelling, attributes_spelling, selectors_spelling};
+ghost use Rattle.ike_values.specs.declared.lengths.TheConstants.{LENGTH_END};
 ghost use Rattle.ike_values.specs.Writing.{transforms_written, proposals_written, body_written};
 
 use crate::attribute::Attribute;
@@ -15,12 +17,12 @@ use crate::proposal::Proposal;
 use crate::selector::Selector;
 use crate::transform::Transform;
 
-/// One more than a length field of two octets holds.
-pub(crate) const LIMIT: usize = 65536;
+/// Every length that a field of two octets holds is below this (RFC 7296, section 3.2).
+pub const LENGTH_END: usize = 65_536;
 
 /// The octets of a payload's body, or 65,536 where there are more.
 pub fn body_len(payload: &Payload) -> usize
-    ensures { result ≡ min 65536 (length (body_written (payload_value payload.now))) }
+    ensures { result ≡ min LENGTH_END (length (body_written (payload_value payload.now))) }
 {
     match payload {
         Payload::Sa(proposals) => proposals_len(proposals.as_slice()),
@@ -63,13 +65,13 @@ fn code_len(icv: &[u8; 16]) -> usize
 }
 
 pub(crate) fn capped(len: usize) -> usize
-    ensures { result ≡ min 65536 len }
+    ensures { result ≡ min LENGTH_END len }
 {
-    len.min(LIMIT)
+    len.min(LENGTH_END)
 }
 
 pub(crate) fn proposals_len(proposals: &[Proposal]) -> usize
-    ensures { result ≡ min 65536 (length (proposals_written (map proposal_value proposals.now))) }
+    ensures { result ≡ min LENGTH_END (length (proposals_written (map proposal_value proposals.now))) }
 {
     let mut len = 0;
     let mut rest = proposals;
@@ -82,14 +84,14 @@ pub(crate) fn proposals_len(proposals: &[Proposal]) -> usize
 
 /// The octets of a proposal, or 65,536 where there are more.
 pub fn proposal_len(proposal: &Proposal) -> usize
-    ensures { result ≡ min 65536 (8 + (length (proposal_value proposal.now).spi + length (transforms_written (proposal_value proposal.now).transforms))) }
+    ensures { result ≡ min LENGTH_END (8 + (length (proposal_value proposal.now).spi + length (transforms_written (proposal_value proposal.now).transforms))) }
 {
     let spi = capped(proposal.spi.as_slice().len());
     capped(8 + spi + transforms_len(proposal.transforms.as_slice()))
 }
 
 pub(crate) fn transforms_len(transforms: &[Transform]) -> usize
-    ensures { result ≡ min 65536 (length (transforms_written (map transform_value transforms.now))) }
+    ensures { result ≡ min LENGTH_END (length (transforms_written (map transform_value transforms.now))) }
 {
     let mut len = 0;
     let mut rest = transforms;
@@ -102,7 +104,7 @@ pub(crate) fn transforms_len(transforms: &[Transform]) -> usize
 
 /// The octets of attributes, or 65,536 where there are more.
 pub fn attributes_len(attributes: &[Attribute]) -> usize
-    ensures { result ≡ min 65536 (length (attributes_spelling (map attribute_value attributes.now))) }
+    ensures { result ≡ min LENGTH_END (length (attributes_spelling (map attribute_value attributes.now))) }
 {
     let mut len = 0;
     let mut rest = attributes;
@@ -114,7 +116,7 @@ pub fn attributes_len(attributes: &[Attribute]) -> usize
 }
 
 fn attribute_len(attribute: &Attribute) -> usize
-    ensures { result ≡ min 65536 (length (attribute_spelling (attribute_value attribute.now))) }
+    ensures { result ≡ min LENGTH_END (length (attribute_spelling (attribute_value attribute.now))) }
 {
     match attribute {
         Attribute::Fixed { .. } => 4,
@@ -123,7 +125,7 @@ fn attribute_len(attribute: &Attribute) -> usize
 }
 
 fn selectors_len(selectors: &[Selector]) -> usize
-    ensures { result ≡ min 65536 (length (selectors_spelling (map selector_value selectors.now))) }
+    ensures { result ≡ min LENGTH_END (length (selectors_spelling (map selector_value selectors.now))) }
 {
     let mut len = 0;
     let mut rest = selectors;

@@ -1,4 +1,5 @@
-//! The values that IKEv2 messages carry (RFC 7296, section 3): headers, payloads and the lists inside them.
+//! The values that IKEv2 messages carry (RFC 7296, section 3): headers, payloads and the lists
+//! inside them.
 #![tactic(auto)]
 
 mod attribute;
@@ -7,6 +8,7 @@ mod lengths;
 mod notifications;
 pub mod notify_types;
 mod payload;
+pub mod payload_types;
 mod proposal;
 mod selector;
 mod transform;
@@ -14,11 +16,11 @@ mod validity;
 
 pub use attribute::{Attribute, Attributes};
 pub use ha_base::{GatewayId, Identity};
-pub use header::{Header, Message};
-pub use lengths::{attributes_len, body_len, proposal_len};
+pub use header::{HEADER_OCTETS, Header, INITIATOR, Message, RESPONSE, VERSION};
+pub use lengths::{LENGTH_END, attributes_len, body_len, proposal_len};
 pub use payload::{AuthBody, DeleteBody, IdBody, NotifyBody, OtherBody, Payload, Payloads, SkBody};
 pub use proposal::{Proposal, Proposals};
-pub use selector::{Selector, Selectors};
+pub use selector::{IPV4_RANGE, IPV6_RANGE, Selector, Selectors};
 pub use transform::{Transform, Transforms};
 
 #[cfg(test)]

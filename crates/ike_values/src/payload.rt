@@ -8,8 +8,8 @@ use ha_base::{Memory, Octets};
 use std::alloc::Global;
 use std::marker::Model;
 
-/// A payload by its type (RFC 7296, section 3.2). Length fields, counts, reserved fields and the octets that tell the
-/// last item of a list are in no value.
+/// A payload by its type (RFC 7296, section 3.2). Length fields, counts, reserved fields and the
+/// octets that tell the last item of a list are in no value.
 #[derive(Debug, Drop)]
 pub enum Payload {
     /// Security association, type 33.
@@ -80,8 +80,8 @@ pub struct DeleteBody {
     pub spis: Octets,
 }
 
-/// An encrypted payload with AES-GCM (RFC 5282): the type of the first inner payload, an IV of 8 octets, the
-/// ciphertext, which is not empty, and the integrity check value.
+/// An encrypted payload with AES-GCM (RFC 5282): the type of the first inner payload, an IV of 8
+/// octets, the ciphertext, which is not empty, and the integrity check value.
 #[derive(Debug, Drop)]
 pub struct SkBody {
     pub first: u8,
@@ -129,7 +129,8 @@ impl Payloads {
         }
     }
 
-    /// Appends a payload. An error is want of memory; it leaves the list as it was and drops the item.
+    /// Appends a payload. An error is want of memory; it leaves the list as it was and drops the
+    /// item.
     pub fn push(&mut self, item: Payload) -> Result<(), Memory>
         ensures ok { OnOk result (self.new ≡ self.old ++ payload_value item ∷ []) }
         ensures err { OnErr result (self.new ≡ self.old) }
@@ -147,7 +148,8 @@ impl Payloads {
         self.items.as_slice()
     }
 
-    /// The data of the first notification of a type (`notify_types`), and none where there is no such.
+    /// The data of the first notification of a type (`notify_types`), and none where there is no
+    /// such.
     pub fn first_notify(&self, kind: u16) -> Option<&[u8]>
         ensures { MatchOption result
             (first_notify kind self.now ≡ None)
@@ -156,9 +158,10 @@ impl Payloads {
         first_notify(self.as_slice(), kind)
     }
 
-    /// Whether the payloads have a spelling. Every size fits its field, SPIs to delete are as many octets as their size
-    /// and number say, a nonce has 16 to 256 octets, lists of proposals and of selectors are not empty, a selector's
-    /// addresses have the length of its type, the type of an unknown payload is unknown, and SK is the last payload.
+    /// Whether the payloads have a spelling. Every size fits its field, SPIs to delete are as many
+    /// octets as their size and number say, a nonce has 16 to 256 octets, lists of proposals and of
+    /// selectors are not empty, a selector's addresses have the length of its type, the type of an
+    /// unknown payload is unknown, and SK is the last payload.
     pub fn is_valid(&self) -> bool
         ensures { IsTrue result ↔ HasSpelling self.now }
     {

@@ -5,8 +5,8 @@ use ha_base::{Memory, Octets};
 use std::alloc::Global;
 use std::marker::Model;
 
-/// A proposal of a security association (RFC 7296, section 3.3.1): its number, its protocol, its SPI and its
-/// transforms.
+/// A proposal of a security association (RFC 7296, section 3.3.1): its number, its protocol, its
+/// SPI and its transforms.
 #[derive(Debug, Drop)]
 pub struct Proposal {
     pub number: u8,
@@ -44,7 +44,8 @@ impl Proposals {
         }
     }
 
-    /// Appends a proposal. An error is want of memory; it leaves the list as it was and drops the item.
+    /// Appends a proposal. An error is want of memory; it leaves the list as it was and drops the
+    /// item.
     pub fn push(&mut self, item: Proposal) -> Result<(), Memory>
         ensures ok { OnOk result (self.new ≡ self.old ++ proposal_value item ∷ []) }
         ensures err { OnErr result (self.new ≡ self.old) }

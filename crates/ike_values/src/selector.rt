@@ -4,7 +4,14 @@ use ha_base::{Memory, OctetList};
 use std::alloc::Global;
 use std::marker::Model;
 
-/// A traffic selector (RFC 7296, section 3.13.1): type 7 has two IPv4 addresses, type 8 two IPv6 addresses.
+/// The type of a selector of IPv4 addresses (RFC 7296, section 3.13.1).
+pub const IPV4_RANGE: u8 = 7;
+
+/// The type of a selector of IPv6 addresses.
+pub const IPV6_RANGE: u8 = 8;
+
+/// A traffic selector (RFC 7296, section 3.13.1): type 7 has two IPv4 addresses, type 8 two IPv6
+/// addresses.
 #[derive(Clone, Debug, Drop)]
 pub struct Selector {
     pub kind: u8,
@@ -44,7 +51,8 @@ impl Selectors {
         }
     }
 
-    /// Appends a selector. An error is want of memory; it leaves the list as it was and drops the item.
+    /// Appends a selector. An error is want of memory; it leaves the list as it was and drops the
+    /// item.
     pub fn push(&mut self, item: Selector) -> Result<(), Memory>
         ensures ok { OnOk result (self.new ≡ self.old ++ selector_value item ∷ []) }
         ensures err { OnErr result (self.new ≡ self.old) }

@@ -42,7 +42,8 @@ impl Transforms {
         }
     }
 
-    /// Appends a transform. An error is want of memory; it leaves the list as it was and drops the item.
+    /// Appends a transform. An error is want of memory; it leaves the list as it was and drops the
+    /// item.
     pub fn push(&mut self, item: Transform) -> Result<(), Memory>
         ensures ok { OnOk result (self.new ≡ self.old ++ transform_value item ∷ []) }
         ensures err { OnErr result (self.new ≡ self.old) }

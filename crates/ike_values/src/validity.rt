@@ -9,18 +9,14 @@ ghost use Rattle.ike_values.specs.Spelling.{attribute_spelling, attributes_spell
 ghost use Rattle.ike_values.specs.Writing.{transforms_written, proposals_written, FitsTransform, FitsProposal, FitsSelectors, FitsSk, FitsPayload, FitsBody, body_written, MayStand, AreValid};
 
 use crate::attribute::Attribute;
-use crate::lengths::{LIMIT, attributes_len, body_len, capped, sk_len, transforms_len};
+use crate::lengths::{LENGTH_END, attributes_len, body_len, capped, sk_len, transforms_len};
 use crate::payload::{Payload, SkBody};
 use crate::proposal::Proposal;
-use crate::selector::Selector;
+use crate::selector::{IPV4_RANGE, IPV6_RANGE, Selector};
 use crate::transform::Transform;
 
 /// The octets of an SK body with a ciphertext of one octet.
 const SHORTEST_SK: usize = 25;
-/// The types of traffic selectors (RFC 7296, section 3.13.1).
-const IPV4_RANGE: u8 = 7;
-
-const IPV6_RANGE: u8 = 8;
 
 /// Whether payloads, those behind each of them and all that they hold have a spelling.
 pub(crate) fn fits_chain(payloads: &[Payload]) -> bool
@@ -48,7 +44,7 @@ fn may_stand_before(payload: &Payload, others: &[Payload]) -> bool
 fn fits_payload(payload: &Payload) -> bool
     ensures { IsTrue result ↔ FitsPayload (payload_value payload.now) }
 {
-    fits_body(payload) && 4 + body_len(payload) < LIMIT
+    fits_body(payload) && 4 + body_len(payload) < LENGTH_END
 }
 
 fn fits_body(payload: &Payload) -> bool
@@ -113,7 +109,7 @@ fn fits_proposal(proposal: &Proposal) -> bool
     spi < 256
         && transforms.len() < 256
         && all_transforms_fit(transforms)
-        && 8 + spi + transforms_len(transforms) < LIMIT
+        && 8 + spi + transforms_len(transforms) < LENGTH_END
 }
 
 fn all_transforms_fit(transforms: &[Transform]) -> bool
@@ -133,7 +129,7 @@ fn fits_transform(transform: &Transform) -> bool
     ensures { IsTrue result ↔ FitsTransform (transform_value transform.now) }
 {
     let attributes = transform.attributes.as_slice();
-    all_attributes_fit(attributes) && 8 + attributes_len(attributes) < LIMIT
+    all_attributes_fit(attributes) && 8 + attributes_len(attributes) < LENGTH_END
 }
 
 fn all_attributes_fit(attributes: &[Attribute]) -> bool
@@ -154,7 +150,7 @@ fn fits_attribute(attribute: &Attribute) -> bool
 {
     match attribute {
         Attribute::Fixed { kind, .. } => *kind < 32768,
-        Attribute::Free { kind, value } => *kind < 32768 && value.as_slice().len() < LIMIT,
+        Attribute::Free { kind, value } => *kind < 32768 && value.as_slice().len() < LENGTH_END,
     }
 }
 

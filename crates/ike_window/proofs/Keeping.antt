@@ -78,75 +78,72 @@ settled floor from low kept ring up below end whole least first is = record {
         go (inr more) = among_from (message_ids_of kept) id (least.taken id more under)
 
 -- what the storing of a response leaves
-pub stored_window : (floor low new_low : ℕ) (old ring : SlidingRing) (message : KeptMessage) → IsWindow floor low old →
-    IsNewRequest low (IsAnswered (seen floor low old)) message.id →
-    IsLeastFree low (Contains (message_ids_of (with_kept message old.kept))) new_low → ring.first ≡ max floor (new_low - 8) →
-    ring.kept ≡ filter (is_repeatable floor new_low) (with_kept message old.kept) → IsWindow floor new_low ring
-stored_window floor low new_low old ring message is new least first kept =
-    settled floor low new_low (with_kept message old.kept) ring is.ordered
-    (below_inserted (low + 8) message old.kept new.within is.below) (below_inserted (2 ^ 32 - 1) message old.kept new.below_the_end is.below_the_end)
-    (λ id above under near. among_inserted message old.kept id
-    ∙ either (message.id == id) (has_message_id (message_ids_of old.kept) id) (among_from (message_ids_of old.kept) id (is.whole id above under near)))
-    least first kept
-  where
-    either : (a b : Bool) → b ≡ true → (a || b) ≡ true
-    either true b so = refl
-    either false b so = so
+module _ (floor low new_low : ℕ) (old ring : SlidingRing) (message : KeptMessage) (is : IsWindow floor low old)
+    (least : IsLeastFree low (Contains (message_ids_of (with_kept message old.kept))) new_low)
+    (kept : ring.kept ≡ filter (is_repeatable floor new_low) (with_kept message old.kept)) where
+  pub stored_window : IsNewRequest low (IsAnswered (seen floor low old)) message.id → ring.first ≡ max floor (new_low - 8) → IsWindow floor new_low ring
+  stored_window new first =
+      settled floor low new_low (with_kept message old.kept) ring is.ordered
+      (below_inserted (low + 8) message old.kept new.within is.below) (below_inserted (2 ^ 32 - 1) message old.kept new.below_the_end is.below_the_end)
+      (λ id above under near. among_inserted message old.kept id
+      ∙ either (message.id == id) (has_message_id (message_ids_of old.kept) id) (among_from (message_ids_of old.kept) id (is.whole id above under near)))
+      least first kept
+    where
+      either : (a b : Bool) → b ≡ true → (a || b) ≡ true
+      either true b so = refl
+      either false b so = so
 
-pub stores_of : (floor low new_low : ℕ) (old ring : SlidingRing) (message : KeptMessage) → IsWindow floor low old →
-    IsLeastFree low (Contains (message_ids_of (with_kept message old.kept))) new_low →
-    ring.kept ≡ filter (is_repeatable floor new_low) (with_kept message old.kept) → Stores message (seen floor low old) (seen floor new_low ring)
-stores_of floor low new_low old ring message is least kept = record {
-  floor = refl;
-  low = record {
-    from = let a = is.ordered in let b = least.from in omega arith;
-    taken = λ m above under. ⊎_elim (λ less. inr (inl (above, less))) (λ more. split m (among_from (message_ids_of all) m (least.taken m more under)))
-        (cases_lt m low);
-    free = λ either. least.free (from_among (message_ids_of all) new_low (among_inserted message old.kept new_low ∙ joined either));
-  };
-  responses = kept;
-}
-  where
-    all : List KeptMessage
-    all = with_kept message old.kept
+  pub stores_of : Stores message (seen floor low old) (seen floor new_low ring)
+  stores_of = record {
+    floor = refl;
+    low = record {
+      from = let a = is.ordered in let b = least.from in omega arith;
+      taken = λ m above under. ⊎_elim (λ less. inr (inl (above, less))) (λ more. split m (among_from (message_ids_of all) m (least.taken m more under)))
+          (cases_lt m low);
+      free = λ either. least.free (from_among (message_ids_of all) new_low (among_inserted message old.kept new_low ∙ joined either));
+    };
+    responses = kept;
+  }
+    where
+      all : List KeptMessage
+      all = with_kept message old.kept
 
-    split : (m : ℕ) → has_message_id (message_ids_of all) m ≡ true → (m ≡ message.id) ⊎ IsAnswered (seen floor low old) m
-    split m among = go (message.id == m) refl (sym (among_inserted message old.kept m) ∙ among)
-      where
-        go : (b : Bool) → (message.id == m) ≡ b → (b || has_message_id (message_ids_of old.kept) m) ≡ true →
-            (m ≡ message.id) ⊎ IsAnswered (seen floor low old) m
-        go true same so = inl (sym (eqb-true message.id m same))
-        go false other so = inr (inr (from_among (message_ids_of old.kept) m so))
+      split : (m : ℕ) → has_message_id (message_ids_of all) m ≡ true → (m ≡ message.id) ⊎ IsAnswered (seen floor low old) m
+      split m among = go (message.id == m) refl (sym (among_inserted message old.kept m) ∙ among)
+        where
+          go : (b : Bool) → (message.id == m) ≡ b → (b || has_message_id (message_ids_of old.kept) m) ≡ true →
+              (m ≡ message.id) ⊎ IsAnswered (seen floor low old) m
+          go true same so = inl (sym (eqb-true message.id m same))
+          go false other so = inr (inr (from_among (message_ids_of old.kept) m so))
 
-    joined : (new_low ≡ message.id) ⊎ IsAnswered (seen floor low old) new_low →
-        ((message.id == new_low) || has_message_id (message_ids_of old.kept) new_low) ≡ true
-    joined (inl same) = grind (arith, nat_tests)
-    joined (inr (inl below)) = let up = least.from in absurd (omega (arith, below.1))
-    joined (inr (inr among)) = let there : has_message_id (message_ids_of old.kept) new_low ≡ true = among_from (message_ids_of old.kept) new_low among in
-        grind (arith, nat_tests)
+      joined : (new_low ≡ message.id) ⊎ IsAnswered (seen floor low old) new_low →
+          ((message.id == new_low) || has_message_id (message_ids_of old.kept) new_low) ≡ true
+      joined (inl same) = grind (arith, nat_tests)
+      joined (inr (inl below)) = let up = least.from in absurd (omega (arith, below.1))
+      joined (inr (inr among)) = let there : has_message_id (message_ids_of old.kept) new_low ≡ true = among_from (message_ids_of old.kept) new_low among in
+          grind (arith, nat_tests)
 
 -- what a jump leaves
-pub jumped_window : (floor low to new_low : ℕ) (old ring : SlidingRing) → IsWindow floor low old →
-    IsLeastFree (max low to) (Contains (message_ids_of old.kept)) new_low → ring.first ≡ max (max floor to) (new_low - 8) →
-    ring.kept ≡ filter (is_repeatable (max floor to) new_low) old.kept → IsWindow (max floor to) new_low ring
-jumped_window floor low to new_low old ring is least first kept =
-    settled (max floor to) (max low to) new_low old.kept ring (let a = is.ordered in omega arith)
-    (below_higher (low + 8) (max low to + 8) old.kept (omega arith) is.below) is.below_the_end
-    (λ id above under near. among_from (message_ids_of old.kept) id (is.whole id (omega arith) (omega arith) (omega arith)))
-    least first kept
+module _ (floor low to new_low : ℕ) (old ring : SlidingRing) (is : IsWindow floor low old)
+    (least : IsLeastFree (max low to) (Contains (message_ids_of old.kept)) new_low)
+    (kept : ring.kept ≡ filter (is_repeatable (max floor to) new_low) old.kept) where
+  pub jumped_window : ring.first ≡ max (max floor to) (new_low - 8) → IsWindow (max floor to) new_low ring
+  jumped_window first =
+      settled (max floor to) (max low to) new_low old.kept ring (let a = is.ordered in omega arith)
+      (below_higher (low + 8) (max low to + 8) old.kept (omega arith) is.below) is.below_the_end
+      (λ id above under near. among_from (message_ids_of old.kept) id (is.whole id (omega arith) (omega arith) (omega arith)))
+      least first kept
 
-pub jumps_of : (floor low to new_low : ℕ) (old ring : SlidingRing) → IsWindow floor low old →
-    IsLeastFree (max low to) (Contains (message_ids_of old.kept)) new_low →
-    ring.kept ≡ filter (is_repeatable (max floor to) new_low) old.kept → Jumps to (seen floor low old) (seen (max floor to) new_low ring)
-jumps_of floor low to new_low old ring is least kept = record {
-  floor = refl;
-  low = record {
-    from = let a = is.ordered in let b = least.from in omega arith;
-    taken = λ m above under. ⊎_elim (λ less. inl (omega arith, omega arith)) (λ more. inr (least.taken m more under)) (cases_lt m (max low to));
-    free = λ either. ⊎_elim (λ below. let b = least.from in absurd (omega (arith, below.1))) least.free either;
-  };
-  responses = kept;
-}
+  pub jumps_of : Jumps to (seen floor low old) (seen (max floor to) new_low ring)
+  jumps_of = record {
+    floor = refl;
+    low = record {
+      from = let a = is.ordered in let b = least.from in omega arith;
+      taken = λ m above under. ⊎_elim (λ less. inl (omega arith, omega arith)) (λ more. inr (least.taken m more under)) (cases_lt m (max low to));
+      free = λ either. ⊎_elim (λ below. let b = least.from in absurd (omega (arith, below.1))) least.free either;
+    };
+    responses = kept;
+  }
 
 -- the two tests of a response are one
 pub one_test : (floor low : ℕ) (kept : List KeptMessage) →

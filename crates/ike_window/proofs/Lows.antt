@@ -43,7 +43,7 @@ from_among (id ∷ ids) m sure = go (cases_eq id m) (λ later. from_among ids m 
     go (inr other) rest so = Contains-more id ids m (let no : (id == m) ≡ false = ne_eqb id m other in rest (rw no at so))
 
 -- octets are kept under an identifier exactly where it is among those of the messages
-pub octets_contained : {X : Type 0} (id : ℕ) (kept : List KeptMessage) (result : Option X) (octets : X → List ℕ) →
+pub octets_contained : {X : Type 0} (id : ℕ) (kept : List KeptMessage) → (result : Option X) (octets : X → List ℕ) →
     MatchOption result (kept_octets id kept ≡ None) (λ x. kept_octets id kept ≡ Some (octets x)) →
     MatchOption result (¬ Contains (message_ids_of kept) id) (λ x. Contains (message_ids_of kept) id)
 octets_contained id kept None octets is = λ among. true_not_false (sym (among_from (message_ids_of kept) id among) ∙ not_among_from_octets id kept is)

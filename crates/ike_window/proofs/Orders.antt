@@ -155,7 +155,7 @@ filter_again first second (message ∷ kept) passes = go (second message) refl (
     go false is true so rest = let both : second message ≡ true = passes message so in absurd (cc)
     go false is false so rest = rw so rest
 
--- the same around a message that is with_kept
+-- the same around a message that is inserted
 pub inserted_filter : (first second : KeptMessage → Bool) (message : KeptMessage) (least : ℕ) (kept : List KeptMessage) → NotFalling least kept →
     ((other : KeptMessage) → first other ≡ true → second other ≡ true) →
     filter first (with_kept message (filter second kept)) ≡ filter first (with_kept message kept)

@@ -31,96 +31,96 @@ no_messages n slots zero from none = refl
 no_messages n slots (suc count) from none = rw (no_octets slots n from none) (no_messages n slots count (from + 1) none)
 
 -- one message more
-pub inserted_ring : (first n : ℕ) (slots : List (Option KeptMessage)) (message : KeptMessage) → 0 < n → n ≡ length slots → IsRing first slots →
-    first ≤ message.id → message.id < first + n → IsRing first (set slots (message.id % n) (Some message))
-inserted_ring first n slots message some size ring from within = ring_of first (set slots (message.id % n) (Some message)) all
-  where
-    long : length (set slots (message.id % n) (Some message)) ≡ n
-    long = length-set slots (message.id % n) (Some message) ∙ sym size
+module _ (first n : ℕ) (slots : List (Option KeptMessage)) (message : KeptMessage) (some : 0 < n) (size : n ≡ length slots) (ring : IsRing first slots)
+    (from : first ≤ message.id) (within : message.id < first + n) where
+  pub inserted_ring : IsRing first (set slots (message.id % n) (Some message))
+  inserted_ring = ring_of first (set slots (message.id % n) (Some message)) all
+    where
+      long : length (set slots (message.id % n) (Some message)) ≡ n
+      long = length-set slots (message.id % n) (Some message) ∙ sym size
 
-    foreign : (id : ℕ) → id ≢ message.id → octets_in_slot (Some message) id ≡ None
-    foreign id other = rw (ne_eqb message.id id (λ is. other (sym is))) refl
+      foreign : (id : ℕ) → id ≢ message.id → octets_in_slot (Some message) id ≡ None
+      foreign id other = rw (ne_eqb message.id id (λ is. other (sym is))) refl
 
-    all : (id : ℕ) (octets : List ℕ) → octets_at (set slots (message.id % n) (Some message)) id ≡ Some octets →
-        (first ≤ id) × (id < first + length (set slots (message.id % n) (Some message)))
-    all id octets is =
-        go (cases_eq message.id id) (sym (octets_set first n slots message.id id (Some message) some size ring from within (foreign id)) ∙ is)
-      where
-        go : (message.id ≡ id) ⊎ (message.id ≢ id) → (if message.id == id then octets_in_slot (Some message) message.id else octets_at slots id) ≡ Some octets →
-            (first ≤ id) × (id < first + length (set slots (message.id % n) (Some message)))
-        go (inl same) so = (omega arith, omega (arith, long))
-        go (inr other) so =
-            let old : octets_at slots id ≡ Some octets = rw (ne_eqb message.id id other) at so in
-            (ring.from id (ap is_some old), (let high = ring.below id (ap is_some old) in omega (arith, long, size)))
+      all : (id : ℕ) (octets : List ℕ) → octets_at (set slots (message.id % n) (Some message)) id ≡ Some octets →
+          (first ≤ id) × (id < first + length (set slots (message.id % n) (Some message)))
+      all id octets is =
+          go (cases_eq message.id id) (sym (octets_set first n slots message.id id (Some message) some size ring from within (foreign id)) ∙ is)
+        where
+          go : (message.id ≡ id) ⊎ (message.id ≢ id) → (if message.id == id then octets_in_slot (Some message) message.id else octets_at slots id) ≡ Some octets →
+              (first ≤ id) × (id < first + length (set slots (message.id % n) (Some message)))
+          go (inl same) so = (omega arith, omega (arith, long))
+          go (inr other) so =
+              let old : octets_at slots id ≡ Some octets = rw (ne_eqb message.id id other) at so in
+              (ring.from id (ap is_some old), (let high = ring.below id (ap is_some old) in omega (arith, long, size)))
 
-pub inserted_messages : (first n : ℕ) (slots : List (Option KeptMessage)) (message : KeptMessage) → 0 < n → n ≡ length slots → IsRing first slots →
-    first ≤ message.id → message.id < first + n → has_message_id (message_ids_of (messages_from slots n first)) message.id ≡ false →
-    messages_from (set slots (message.id % n) (Some message)) n first ≡ with_kept message (messages_from slots n first)
-inserted_messages first n slots message some size ring from within free =
-    same_messages first first (messages_from after n first) (with_kept message kept)
-    (rise_messages after n first)
-    (rise_inserted first message kept from (rise_messages slots n first) (all_other (message_ids_of kept) message.id free))
-    (λ id. octets_ring first n after id (inserted_ring first n slots message some size ring from within)
-    (size ∙ sym (length-set slots (message.id % n) (Some message)))
-    ∙ octets_set first n slots message.id id (Some message) some size ring from within (foreign id)
-    ∙ here id (message.id == id)
-    ∙ ap (λ o. if message.id == id then Some message.octets else o) (sym (octets_ring first n slots id ring size))
-    ∙ sym (octets_inserted message kept id))
-  where
-    after : List (Option KeptMessage)
-    after = set slots (message.id % n) (Some message)
+  pub inserted_messages : has_message_id (message_ids_of (messages_from slots n first)) message.id ≡ false →
+      messages_from (set slots (message.id % n) (Some message)) n first ≡ with_kept message (messages_from slots n first)
+  inserted_messages free =
+      same_messages first first (messages_from after n first) (with_kept message kept)
+      (rise_messages after n first)
+      (rise_inserted first message kept from (rise_messages slots n first) (all_other (message_ids_of kept) message.id free))
+      (λ id. octets_ring first n after id inserted_ring
+      (size ∙ sym (length-set slots (message.id % n) (Some message)))
+      ∙ octets_set first n slots message.id id (Some message) some size ring from within (foreign id)
+      ∙ here id (message.id == id)
+      ∙ ap (λ o. if message.id == id then Some message.octets else o) (sym (octets_ring first n slots id ring size))
+      ∙ sym (octets_inserted message kept id))
+    where
+      after : List (Option KeptMessage)
+      after = set slots (message.id % n) (Some message)
 
-    kept : List KeptMessage
-    kept = messages_from slots n first
+      kept : List KeptMessage
+      kept = messages_from slots n first
 
-    foreign : (id : ℕ) → id ≢ message.id → octets_in_slot (Some message) id ≡ None
-    foreign id other = rw (ne_eqb message.id id (λ is. other (sym is))) refl
+      foreign : (id : ℕ) → id ≢ message.id → octets_in_slot (Some message) id ≡ None
+      foreign id other = rw (ne_eqb message.id id (λ is. other (sym is))) refl
 
-    here : (id : ℕ) (b : Bool) → (if b then octets_in_slot (Some message) message.id else octets_at slots id) ≡
-        (if b then Some message.octets else octets_at slots id)
-    here id true = rw (eq-eqb message.id message.id refl) refl
-    here id false = refl
+      here : (id : ℕ) (b : Bool) → (if b then octets_in_slot (Some message) message.id else octets_at slots id) ≡
+          (if b then Some message.octets else octets_at slots id)
+      here id true = rw (eq-eqb message.id message.id refl) refl
+      here id false = refl
 
 -- one message less
-pub removed_ring : (first n : ℕ) (slots : List (Option KeptMessage)) (id : ℕ) → 0 < n → n ≡ length slots → IsRing first slots →
-    first ≤ id → id < first + n → IsRing first (set slots (id % n) None)
-removed_ring first n slots id some size ring from within = ring_of first (set slots (id % n) None) all
-  where
-    all : (other : ℕ) (octets : List ℕ) → octets_at (set slots (id % n) None) other ≡ Some octets →
-        (first ≤ other) × (other < first + length (set slots (id % n) None))
-    all other octets is =
-        go (cases_eq id other) (sym (octets_set first n slots id other None some size ring from within (λ differs. refl)) ∙ is)
-      where
-        go : (id ≡ other) ⊎ (id ≢ other) → (if id == other then None else octets_at slots other) ≡ Some octets →
-            (first ≤ other) × (other < first + length (set slots (id % n) None))
-        go (inl same) so = absurd (let no : None ≡ Some octets = rw (eq-eqb id other same) at so in cc)
-        go (inr differs) so =
-            let old : octets_at slots other ≡ Some octets = rw (ne_eqb id other differs) at so in
-            (ring.from other (ap is_some old), (let high = ring.below other (ap is_some old) in omega (arith, length-set slots (id % n) None)))
+module _ (first n : ℕ) (slots : List (Option KeptMessage)) (id : ℕ) (some : 0 < n) (size : n ≡ length slots) (ring : IsRing first slots)
+    (from : first ≤ id) (within : id < first + n) where
+  pub removed_ring : IsRing first (set slots (id % n) None)
+  removed_ring = ring_of first (set slots (id % n) None) all
+    where
+      all : (other : ℕ) (octets : List ℕ) → octets_at (set slots (id % n) None) other ≡ Some octets →
+          (first ≤ other) × (other < first + length (set slots (id % n) None))
+      all other octets is =
+          go (cases_eq id other) (sym (octets_set first n slots id other None some size ring from within (λ differs. refl)) ∙ is)
+        where
+          go : (id ≡ other) ⊎ (id ≢ other) → (if id == other then None else octets_at slots other) ≡ Some octets →
+              (first ≤ other) × (other < first + length (set slots (id % n) None))
+          go (inl same) so = absurd (let no : None ≡ Some octets = rw (eq-eqb id other same) at so in cc)
+          go (inr differs) so =
+              let old : octets_at slots other ≡ Some octets = rw (ne_eqb id other differs) at so in
+              (ring.from other (ap is_some old), (let high = ring.below other (ap is_some old) in omega (arith, length-set slots (id % n) None)))
 
-pub removed_messages : (first n : ℕ) (slots : List (Option KeptMessage)) (id : ℕ) → 0 < n → n ≡ length slots → IsRing first slots →
-    first ≤ id → id < first + n →
-    messages_from (set slots (id % n) None) n first ≡ filter (λ message. not (message.id == id)) (messages_from slots n first)
-removed_messages first n slots id some size ring from within =
-    same_messages first first (messages_from after n first) (filter (λ message. not (message.id == id)) kept)
-    (rise_messages after n first)
-    (rise_filtered (λ message. not (message.id == id)) first kept (rise_messages slots n first))
-    (λ other. octets_ring first n after other (removed_ring first n slots id some size ring from within) (size ∙ sym (length-set slots (id % n) None))
-    ∙ octets_set first n slots id other None some size ring from within (λ differs. refl)
-    ∙ turned other (cases_eq id other)
-    ∙ ap (λ o. if not (other == id) then o else None) (sym (octets_ring first n slots other ring size))
-    ∙ sym (octets_tested (λ m. not (m == id)) kept other))
-  where
-    after : List (Option KeptMessage)
-    after = set slots (id % n) None
+  pub removed_messages :
+      messages_from (set slots (id % n) None) n first ≡ filter (λ message. not (message.id == id)) (messages_from slots n first)
+  removed_messages =
+      same_messages first first (messages_from after n first) (filter (λ message. not (message.id == id)) kept)
+      (rise_messages after n first)
+      (rise_filtered (λ message. not (message.id == id)) first kept (rise_messages slots n first))
+      (λ other. octets_ring first n after other removed_ring (size ∙ sym (length-set slots (id % n) None))
+      ∙ octets_set first n slots id other None some size ring from within (λ differs. refl)
+      ∙ turned other (cases_eq id other)
+      ∙ ap (λ o. if not (other == id) then o else None) (sym (octets_ring first n slots other ring size))
+      ∙ sym (octets_tested (λ m. not (m == id)) kept other))
+    where
+      after : List (Option KeptMessage)
+      after = set slots (id % n) None
 
-    kept : List KeptMessage
-    kept = messages_from slots n first
+      kept : List KeptMessage
+      kept = messages_from slots n first
 
-    turned : (other : ℕ) → (id ≡ other) ⊎ (id ≢ other) →
-        (if id == other then None else octets_at slots other) ≡ (if not (other == id) then octets_at slots other else None)
-    turned other (inl same) = rw (eq-eqb id other same, eq-eqb other id (sym same)) refl
-    turned other (inr differs) = rw (ne_eqb id other differs, ne_eqb other id (λ is. differs (sym is))) refl
+      turned : (other : ℕ) → (id ≡ other) ⊎ (id ≢ other) →
+          (if id == other then None else octets_at slots other) ≡ (if not (other == id) then octets_at slots other else None)
+      turned other (inl same) = rw (eq-eqb id other same, eq-eqb other id (sym same)) refl
+      turned other (inr differs) = rw (ne_eqb id other differs, ne_eqb other id (λ is. differs (sym is))) refl
 
 -- where there was none of this Message ID, nothing goes
 pub nothing_removed : (id : ℕ) (kept : List KeptMessage) → has_message_id (message_ids_of kept) id ≡ false →
@@ -135,37 +135,37 @@ nothing_removed id (message ∷ kept) none = go (message.id == id) refl none (no
     go false is so rest = ap (λ ms. message ∷ ms) (rest so)
 
 -- the ring has slots from another Message ID on
-pub moved_ring : (first to n : ℕ) (slots : List (Option KeptMessage)) → 0 < n → n ≡ length slots → IsRing first slots →
-    AllBelow (to + n) (messages_from slots n first) → IsRing to (map (from_on to) slots)
-moved_ring first to n slots some size ring below = ring_of to (map (from_on to) slots) all
-  where
-    all : (id : ℕ) (octets : List ℕ) → octets_at (map (from_on to) slots) id ≡ Some octets → (to ≤ id) × (id < to + length (map (from_on to) slots))
-    all id octets is = go (nat_le to id) refl (sym (octets_from_on to id slots (rw (← size) some)) ∙ is)
-      where
-        go : (b : Bool) → nat_le to id ≡ b → (if b then octets_at slots id else None) ≡ Some octets → (to ≤ id) × (id < to + length (map (from_on to) slots))
-        go true up so =
-            let high : id < to + n = below_contains (to + n) (messages_from slots n first) id below
-            (among_from_octets id octets (messages_from slots n first) (octets_ring first n slots id ring size ∙ so)) in
-            ((let from : to ≤ id = grind (arith, nat_tests) in from), omega (arith, length-map slots (from_on to), size))
-        go false up so = absurd (cc)
+module _ (first to n : ℕ) (slots : List (Option KeptMessage)) (some : 0 < n) (size : n ≡ length slots) (ring : IsRing first slots)
+    (below : AllBelow (to + n) (messages_from slots n first)) where
+  pub moved_ring : IsRing to (map (from_on to) slots)
+  moved_ring = ring_of to (map (from_on to) slots) all
+    where
+      all : (id : ℕ) (octets : List ℕ) → octets_at (map (from_on to) slots) id ≡ Some octets → (to ≤ id) × (id < to + length (map (from_on to) slots))
+      all id octets is = go (nat_le to id) refl (sym (octets_from_on to id slots (rw (← size) some)) ∙ is)
+        where
+          go : (b : Bool) → nat_le to id ≡ b → (if b then octets_at slots id else None) ≡ Some octets → (to ≤ id) × (id < to + length (map (from_on to) slots))
+          go true up so =
+              let high : id < to + n = below_contains (to + n) (messages_from slots n first) id below
+              (among_from_octets id octets (messages_from slots n first) (octets_ring first n slots id ring size ∙ so)) in
+              ((let from : to ≤ id = grind (arith, nat_tests) in from), omega (arith, length-map slots (from_on to), size))
+          go false up so = absurd (cc)
 
-pub moved_messages : (first to n : ℕ) (slots : List (Option KeptMessage)) → 0 < n → n ≡ length slots → IsRing first slots →
-    AllBelow (to + n) (messages_from slots n first) →
-    messages_from (map (from_on to) slots) n to ≡ filter (λ message. nat_le to message.id) (messages_from slots n first)
-moved_messages first to n slots some size ring below =
-    same_messages to first (messages_from after n to) (filter (λ message. nat_le to message.id) kept)
-    (rise_messages after n to)
-    (rise_filtered (λ message. nat_le to message.id) first kept (rise_messages slots n first))
-    (λ id. octets_ring to n after id (moved_ring first to n slots some size ring below) (size ∙ sym (length-map slots (from_on to)))
-    ∙ octets_from_on to id slots (rw (← size) some)
-    ∙ ap (λ o. if nat_le to id then o else None) (sym (octets_ring first n slots id ring size))
-    ∙ sym (octets_tested (λ m. nat_le to m) kept id))
-  where
-    after : List (Option KeptMessage)
-    after = map (from_on to) slots
+  pub moved_messages :
+      messages_from (map (from_on to) slots) n to ≡ filter (λ message. nat_le to message.id) (messages_from slots n first)
+  moved_messages =
+      same_messages to first (messages_from after n to) (filter (λ message. nat_le to message.id) kept)
+      (rise_messages after n to)
+      (rise_filtered (λ message. nat_le to message.id) first kept (rise_messages slots n first))
+      (λ id. octets_ring to n after id moved_ring (size ∙ sym (length-map slots (from_on to)))
+      ∙ octets_from_on to id slots (rw (← size) some)
+      ∙ ap (λ o. if nat_le to id then o else None) (sym (octets_ring first n slots id ring size))
+      ∙ sym (octets_tested (λ m. nat_le to m) kept id))
+    where
+      after : List (Option KeptMessage)
+      after = map (from_on to) slots
 
-    kept : List KeptMessage
-    kept = messages_from slots n first
+      kept : List KeptMessage
+      kept = messages_from slots n first
 
 -- a loop that went over all of a list
 pub mapped_all : {X : Type 0} (f : X → X) (xs ys : List X) (i : ℕ) → length xs ≤ i → ys ≡ map f (take i xs) ++ drop i xs → ys ≡ map f xs

@@ -186,7 +186,7 @@ with_last message (other ∷ kept) below =
     rw above (ap (λ ms. other ∷ ms) (with_last message kept (All-tail (λ id. id < message.id) other.id (message_ids_of kept) below)))
 
 -- a test of Message IDs
-pub among_where : (test : ℕ → Bool) (kept : List KeptMessage) (id : ℕ) →
+pub among_where : (test : ℕ → Bool) (kept : List KeptMessage) → (id : ℕ) →
     has_message_id (message_ids_of (filter (λ message. test message.id) kept)) id ≡ (test id && has_message_id (message_ids_of kept) id)
 among_where test [] id = go (test id)
   where

@@ -1,6 +1,6 @@
 -- What is kept of the responses that were stored.
 use Rattle.std.proofs.Common.{◌≡◌, ℕ, ◌+◌, ◌<◌, ◌≤◌, ◌⊎◌, inl, inr, ⊎_elim, Bool, true, false, cond, nat_le, max, ◌==◌, ◌&&◌, ◌||◌, List, [], ◌∷◌, filter, zero, subst, refl, sym, ap, ◌∙◌, arith}
-use Rattle.std.proofs.lemmas.Bool.{cases_lt}
+use Rattle.std.proofs.lemmas.Bool.{cases_lt, or_right}
 use Rattle.std.proofs.lemmas.Bool.Decides.{nat_tests}
 use Rattle.std.specs.List.{Contains}
 use Rattle.ike_window.specs.Kept.{KeptMessage, by_message_id, message_ids_of, has_message_id, kept_octets, with_kept}
@@ -17,10 +17,6 @@ repeatable_more : (floor low higher_floor higher_low id : ℕ) → floor ≤ hig
     (nat_le higher_floor id && nat_le higher_low (id + 8)) ≡ true → (nat_le floor id && nat_le low (id + 8)) ≡ true
 repeatable_more floor low higher_floor higher_low id up over passed = grind (arith, nat_tests)
 
-pub or_true : (a b : Bool) → b ≡ true → (a || b) ≡ true
-or_true true b is = refl
-or_true false b is = is
-
 -- what passes a test is among what was tested
 pub among_tested : (test : KeptMessage → Bool) (kept : List KeptMessage) (m : ℕ) → has_message_id (message_ids_of (filter test kept)) m ≡ true →
     has_message_id (message_ids_of kept) m ≡ true
@@ -36,7 +32,7 @@ among_tested test (message ∷ kept) m among = go (test message) (message.id == 
             (c || has_message_id (message_ids_of (filter test kept)) m) ≡ true → (c || has_message_id (message_ids_of kept) m) ≡ true
         either true rest so = refl
         either false rest so = rest so
-    go false b rest so = or_true (message.id == m) (has_message_id (message_ids_of kept) m) (rest so)
+    go false b rest so = or_right (message.id == m) (has_message_id (message_ids_of kept) m) (rest so)
 
 -- what a window knows of the responses that were stored
 pub answered_are : AnsweredAreStored

@@ -100,8 +100,8 @@ impl Answering {
     }
 }
 
-/// Drops the responses that cannot be asked for again, and gives the first Message ID from `from` on
-/// without one.
+/// Drops the responses that cannot be asked for again, and gives the first Message ID from `from`
+/// on without one.
 fn settle(ring: &mut Ring<ANSWERED>, floor: u32, from: u32) -> u32
     requires ordered { floor ≤ from }
     requires below { AllBelow (from + WINDOW) ring.old.kept }

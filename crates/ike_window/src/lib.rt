@@ -1,9 +1,10 @@
 //! The windows of IKE requests (RFC 7296, sections 2.1 to 2.3).
 //!
-//! [`Asking`] keeps the requests of an end that wait for their responses, so that the same octets can
-//! be sent again. [`Answering`] judges the requests that come to an end, and keeps the responses that
-//! may be asked for again. The window is eight at both, and no call takes memory. Octets are kept as
-//! they are handed in, with their room.
+//! [`Asking`] keeps the requests of an end that wait for their responses, so that the same octets
+//! can be sent again. [`Answering`] judges the requests that come to an end, and keeps the
+//! responses that may be asked for again. The window is eight at both, and no call takes memory.
+//! Octets are kept as they are handed in, with their room, so lists are handed in that were made
+//! for just these octets.
 #![tactic(auto)]
 
 mod answering;

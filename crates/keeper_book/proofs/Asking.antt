@@ -51,7 +51,8 @@ asks_one {K} {book} {told} old answered call new sees entered added cause promis
   each = (new, given, refl);
 }
 
-entered_then : (old : Book) (xs ys : List Call) (mid new : Book) → EntersAll old xs mid → EntersAll mid ys new → EntersAll old (xs ++ ys) new
+-- the book goes on by calls, and then by others
+pub entered_then : (old : Book) (xs ys : List Call) (mid new : Book) → EntersAll old xs mid → EntersAll mid ys new → EntersAll old (xs ++ ys) new
 entered_then old [] ys mid new e f = subst (λ b. EntersAll b ys new) e f
 entered_then old (x ∷ xs) ys mid new e f = (e.0, e.1, entered_then e.0 xs ys mid new e.2 f)
 
@@ -70,21 +71,21 @@ adds_then (Some old) xs ys mid new a b = λ few.
     told (omega (arith, length-append old xs)) ∙ ap Some (append_assoc old xs ys)
 
 -- one of the calls is of the first ones or of those after them
-failed_then : (xs ys : List Call) → AnyFailed (xs ++ ys) → AnyFailed xs ⊎ AnyFailed ys
+pub failed_then : (xs ys : List Call) → AnyFailed (xs ++ ys) → AnyFailed xs ⊎ AnyFailed ys
 failed_then [] ys f = inr f
 failed_then (x ∷ xs) ys f = ⊎_elim (λ h. inl (inl h)) (λ h. ⊎_elim (λ t. inl (inr t)) (λ t. inr t) (failed_then xs ys h)) f
+
+pub rose_before : (before mid now : ℕ) → Rose before mid → mid ≤ now → Rose before now
+rose_before before mid now r l = omega (arith, r, l)
+
+pub rose_after : (before mid now : ℕ) → before ≤ mid → Rose mid now → Rose before now
+rose_after before mid now l r = omega (arith, r, l)
 
 cause_then : (before mid now : ℕ) (xs ys : List Call) → HaveCause before mid xs → HaveCause mid now ys → HaveCause before now (xs ++ ys)
 cause_then before mid now xs ys a b = record {
   later = omega (arith, a.later, b.later);
   failed = λ f. ⊎_elim (λ h. rose_before before mid now (a.failed h) b.later) (λ h. rose_after before mid now a.later (b.failed h)) (failed_then xs ys f);
 }
-  where
-    rose_before : (before mid now : ℕ) → Rose before mid → mid ≤ now → Rose before now
-    rose_before before mid now r l = omega (arith, r, l)
-
-    rose_after : (before mid now : ℕ) → before ≤ mid → Rose mid now → Rose before now
-    rose_after before mid now l r = omega (arith, r, l)
 
 gives_then : {K : Type 0} (gives : K → Call → K → Type 0) (old : K) (xs ys : List Call) (mid new : K) → EachGives gives old xs mid → EachGives gives mid ys new → EachGives gives old (xs ++ ys) new
 gives_then gives old [] ys mid new a b = subst (λ m. EachGives gives m ys new) a b

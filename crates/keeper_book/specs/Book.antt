@@ -15,7 +15,8 @@ use Rattle.keeper_book.specs.declared.records.Record.{Record}
 use Rattle.keeper_book.specs.CounterEnds.{end_of}
 use Rattle.keeper_book.specs.Counters.{counter_named, five_at, with_five}
 
--- An association in the book. Its epoch is the number of its bases: each epoch begins at the highs of its time.
+-- An association in the book. Its epoch is the number of its bases: each epoch begins at the highs
+-- of its time.
 pub record Entry : Type 0 where
   pub sa : Record
   pub closed : Bool
@@ -23,7 +24,8 @@ pub record Entry : Type 0 where
   pub bases : List Five
   pub highs : Five
 
--- The associations in the order in which they came, the next number of each pool, and the tickets that were spent.
+-- The associations in the order in which they came, the next number of each pool, and the tickets
+-- that were spent.
 pub record Book : Type 0 where
   pub entries : List Entry
   pub next_ticket : ℕ
@@ -64,7 +66,8 @@ abbrev pub when : Bool → KeeperFault → Option KeeperFault → Option KeeperF
 when true why later = Some why
 when false why later = later
 
--- the SPIs by which an association is found: the responder's, and the one at which the cluster receives
+-- the SPIs by which an association is found: the responder's, and the one at which the cluster
+-- receives
 abbrev pub shares_spi : Record → Entry → Bool
 shares_spi sa e = (e.sa.spir == sa.spir) || (e.sa.spi_in == sa.spi_in)
 
@@ -128,8 +131,8 @@ takes_memory (ask.Enter sa) = true
 takes_memory (ask.TakeOver spir member) = true
 takes_memory (ask.Cover spir kind child epoch upto) = false
 
--- What an answer says of the book: a failed call was entered or it was not; want of memory comes where nothing else is
--- refused, and changes nothing; any other answer is the one by the book.
+-- What an answer says of the book: a failed call was entered or it was not; want of memory comes
+-- where nothing else is refused, and changes nothing; any other answer is the one by the book.
 abbrev pub Answers : Book → KeeperAsk → KeeperAnswer → Book → Type 0
 Answers old asked (answer.Refused fault.Failed) new = (new ≡ old) ⊎ (new ≡ book_after old asked)
 Answers old asked (answer.Refused fault.Memory) new = (takes_memory asked ≡ true) × (refusal old asked ≡ None) × (new ≡ old)

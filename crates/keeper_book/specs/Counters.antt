@@ -1,6 +1,6 @@
 -- The counters that the book keeps of an association, and where they end.
 use Rattle.std.specs.Prelude.{ℕ, ◌≤◌, ◌==◌, Option, Some, None, if◌then◌else◌}
-use Rattle.keeper_book.specs.declared.TheConstants.{ESP_END, IV_END, MESSAGE_ID_END}
+use Rattle.ha_base.specs.declared.limits.TheConstants.{IV_END, MESSAGE_ID_END, SEQUENCE_END}
 use Rattle.ha_base.specs.declared.counter_names.Kind.{Kind}
 use Rattle.ha_base.specs.declared.counter_names.Kind.TheVariants as kind
 use Rattle.keeper_book.specs.declared.counters.Counter.{Counter}
@@ -31,10 +31,11 @@ counter_of_kind kind.Answer = Some Answer
 counter_of_kind kind.TicketIv = None
 counter_of_kind kind.Nonce = None
 
--- no number of a counter reaches this end, where sequence numbers are extended (RFC 4303, section 2.2.1)
+-- no number of a counter reaches this end, where sequence numbers are extended (RFC 4303, section
+-- 2.2.1)
 abbrev pub extended_end : Counter → ℕ
-extended_end EspOut = ESP_END
-extended_end EspIn = ESP_END
+extended_end EspOut = SEQUENCE_END
+extended_end EspIn = SEQUENCE_END
 extended_end Iv = IV_END
 extended_end Ask = MESSAGE_ID_END
 extended_end Answer = MESSAGE_ID_END
@@ -57,8 +58,8 @@ with_five Answer n five = record five { answer = n }
 
 -- each number is at most the end of its counter
 pub record AreWithinEnds (five : Five) : Type 0 where
-  pub esp_out : five.esp_out ≤ ESP_END
-  pub esp_in : five.esp_in ≤ ESP_END
+  pub esp_out : five.esp_out ≤ SEQUENCE_END
+  pub esp_in : five.esp_in ≤ SEQUENCE_END
   pub iv : five.iv ≤ IV_END
   pub ask : five.ask ≤ MESSAGE_ID_END
   pub answer : five.answer ≤ MESSAGE_ID_END

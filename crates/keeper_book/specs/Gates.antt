@@ -5,7 +5,8 @@ use Rattle.keeper_book.specs.Book.{Book}
 use Rattle.keeper_book.specs.Spoken.{Spoken}
 use Rattle.keeper_book.specs.Told.{IsCallOf}
 
--- a gate: the keeper behind it, the first eight calls since they were last taken, and whether there was a ninth
+-- a gate: the keeper behind it, the first eight calls since they were last taken, and whether there
+-- was a ninth
 pub record Gated (K : Type 0) : Type 0 where
   pub keeper : K
   pub first : List Call
@@ -31,8 +32,8 @@ kept calls call = if has_room calls then calls ++ call ∷ [] else calls
 abbrev pub missed_one : List Call → Bool → Bool
 missed_one calls missed = missed || not (has_room calls)
 
--- A call that was passed on and answered as the keeper below answered it: what that keeper says of a call holds of the one
--- that it was asked. Calls and answers are recorded as they were.
+-- A call that was passed on and answered as the keeper below answered it: what that keeper says of
+-- a call holds of the one that it was asked. Calls and answers are recorded as they were.
 pub record PassedOn {K : Type 0} (book : K → Option Book) (told : K → Option (List Call)) (faults : K → ℕ) (gives : K → Call → K → Type 0) (old : Gated K) (call : Call) (new : Gated K) : Type 0 where
   pub open_answer : call.hidden ≡ false
   pub recorded : new.first ≡ kept old.first call

@@ -89,7 +89,8 @@ abbrev pub AnyFailed : List Call → Type 0
 AnyFailed [] = ⊥
 AnyFailed (call ∷ calls) = IsFailed (seen call) ⊎ AnyFailed calls
 
--- the count does not fall over these calls, and one of them failed only where it rose
+-- the count does not fall over these calls, and one of them failed only where it rose: by one at
+-- least, however many failed
 pub record HaveCause (before now : ℕ) (calls : List Call) : Type 0 where
   pub later : before ≤ now
   pub failed : AnyFailed calls → Rose before now

@@ -66,8 +66,12 @@ impl Association {
 
     /// Begins an epoch for a member. Want of memory comes last.
     pub fn take_over(&mut self, member: u32) -> Result<Taken, KeeperFault>
-        ensures ok { IfOk result (λ t. (take_over_refusal (Some self.old) ≡ None) × (taken_answer result ≡ takeover_answer (Some self.old)) × (self.new ≡ taken_over member self.old)) }
-        ensures err { IfErr result (λ why. RefusedAs why (take_over_refusal (Some self.old)) × (self.new ≡ self.old)) }
+        ensures ok { IfOk result
+            (λ t. (take_over_refusal (Some self.old) ≡ None)
+            × (taken_answer result ≡ takeover_answer (Some self.old))
+            × (self.new ≡ taken_over member self.old)) }
+        ensures err { IfErr result
+            (λ why. RefusedAs why (take_over_refusal (Some self.old)) × (self.new ≡ self.old)) }
         ensures refusals { IfErr result (IsRefusalOf (ask.TakeOver self.old.sa.spir member)) }
         ensures record { IfOk result (λ t. t.sa.spir ≡ self.old.sa.spir) }
         ensures bases_within { IfOk result (λ t. AreWithinEnds t.bases) }
@@ -98,8 +102,12 @@ impl Association {
         epoch: u64,
         upto: u64,
     ) -> Result<(), KeeperFault>
-        ensures ok { IfOk result (λ _. (cover_refusal (Some self.old) (counter_named kind child) epoch ≡ None) × (self.new ≡ raised_at (counter_named kind child) upto self.old)) }
-        ensures err { IfErr result (λ why. (cover_refusal (Some self.old) (counter_named kind child) epoch ≡ Some why) × (self.new ≡ self.old)) }
+        ensures ok { IfOk result
+            (λ _. (cover_refusal (Some self.old) (counter_named kind child) epoch ≡ None)
+            × (self.new ≡ raised_at (counter_named kind child) upto self.old)) }
+        ensures err { IfErr result
+            (λ why. (cover_refusal (Some self.old) (counter_named kind child) epoch ≡ Some why)
+            × (self.new ≡ self.old)) }
         ensures refusals { IfErr result (IsRefusalOf (ask.Cover self.old.sa.spir kind child epoch upto)) }
     {
         let Some(counter) = Counter::named(kind, child) else {
@@ -129,7 +137,8 @@ pub fn any_shares_spi(associations: &[Association], sa: &Record) -> bool
 
 /// Where the association of a responder's SPI stands.
 pub fn place_of(associations: &[Association], spir: u64) -> Option<usize>
-    ensures { MatchOption result (entry_of spir associations.now ≡ None) (λ place. IsPlaceOf spir place associations.now) }
+    ensures { MatchOption result (entry_of spir associations.now ≡ None)
+        (λ place. IsPlaceOf spir place associations.now) }
 {
     for (place, association) in associations.iter().enumerate() {
         if association.spir() == spir {

@@ -12,7 +12,8 @@ pub enum KeeperAsk {
     Enter {
         sa: Record,
     },
-    /// To begin an epoch of the association with this responder's SPI, for a member; members are counted from 1.
+    /// To begin an epoch of the association with this responder's SPI, for a member; members are
+    /// counted from 1.
     TakeOver {
         spir: u64,
         member: u32,
@@ -42,7 +43,8 @@ pub enum KeeperAnswer {
 #[derive(Debug, PartialEq, Eq, Drop)]
 pub struct Call {
     pub asked: KeeperAsk,
-    /// What was answered; where the answer was hidden from the caller, what the keeper answered below.
+    /// What was answered; where the answer was hidden from the caller, what the keeper answered
+    /// below.
     pub answer: KeeperAnswer,
     /// The caller saw a failed call in place of the answer.
     pub hidden: bool,

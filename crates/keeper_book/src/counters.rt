@@ -1,8 +1,7 @@
 ghost use Rattle.std.specs.Prelude.{◌≡◌};
 ghost use Rattle.keeper_book.specs.Counters.{counter_named, counter_of_kind, extended_end, five_at, with_five};
 
-use crate::{ESP_END, IV_END, MESSAGE_ID_END};
-use ha_base::Kind;
+use ha_base::{IV_END, Kind, MESSAGE_ID_END, SEQUENCE_END};
 
 /// The counters that the book keeps of each association.
 #[derive(Clone, Copy, Debug, PartialEq, Eq)]
@@ -30,8 +29,8 @@ pub struct Five {
 }
 
 impl Counter {
-    /// The counter of this kind and child, where it is one of an association: the child is 1 at the kinds of ESP, and 0
-    /// at the others.
+    /// The counter of this kind and child, where it is one of an association: the child is 1 at the
+    /// kinds of ESP, and 0 at the others.
     pub fn named(kind: Kind, child: u32) -> Option<Counter>
         ensures { result ≡ counter_named kind child }
     {
@@ -59,12 +58,13 @@ impl Counter {
         }
     }
 
-    /// The end of the counter, where sequence numbers are extended: no number of it reaches this one.
+    /// The end of the counter, where sequence numbers are extended: no number of it reaches this
+    /// one.
     pub fn extended_end(self) -> u64
         ensures { result ≡ extended_end self }
     {
         match self {
-            Counter::EspOut | Counter::EspIn => ESP_END,
+            Counter::EspOut | Counter::EspIn => SEQUENCE_END,
             Counter::Iv => IV_END,
             Counter::Ask | Counter::Answer => MESSAGE_ID_END,
         }

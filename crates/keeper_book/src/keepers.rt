@@ -28,17 +28,19 @@ pub trait Keeper {
     // what else it says of a call that leads from one state to the next
     ghost call_gives: { Self → Call → Self → Type 0 };
 
-    /// Adds an association, in epoch 0 and with no owner. `SpiInUse` where an association has its SPIr or its `spi_in`, `Full(1024)` at
-    /// 1,024 associations, `Memory`, and `Failed`, after which it was added or not. After every other error nothing has changed.
+    /// Adds an association, in epoch 0 and with no owner. `SpiInUse` where an association has its
+    /// SPIr or its `spi_in`, `Full(1024)` at 1,024 associations, `Memory`, and `Failed`, after
+    /// which it was added or not. After every other error nothing has changed.
     fn enter(&mut self, sa: &Record) -> Result<(), KeeperFault>
         ensures call { (call : Call) × IsCallOf (ask.Enter sa.now) (done result) call
             × Spoken book calls faults call_gives self.old (call ∷ []) self.new }
         ensures refusals { IfErr result (IsRefusalOf (ask.Enter sa.now)) }
         ensures held { held self.new ≡ held self.old };
 
-    /// Begins an epoch of an association for a member: the highs become its bases. `Unknown` where there is no such association,
-    /// `Closed` where it was closed, `Full(4096)` at epoch 4,096, `Memory`, and `Failed`, after which the epoch began or not. After every
-    /// other error nothing has changed.
+    /// Begins an epoch of an association for a member: the highs become its bases. `Unknown` where
+    /// there is no such association, `Closed` where it was closed, `Full(4096)` at epoch 4,096,
+    /// `Memory`, and `Failed`, after which the epoch began or not. After every other error nothing
+    /// has changed.
     fn take_over(&mut self, spir: u64, member: u32) -> Result<Taken, KeeperFault>
         ensures call { (call : Call) × IsCallOf (ask.TakeOver spir member) (taken_answer result) call
             × Spoken book calls faults call_gives self.old (call ∷ []) self.new }
@@ -47,9 +49,10 @@ pub trait Keeper {
         ensures bases_within { IfOk result (λ t. AreWithinEnds t.bases) }
         ensures held { held self.new ≡ held self.old };
 
-    /// Raises the high of a counter in an epoch to `upto`, or to the counter's end where that is less; a high never falls. `Unknown`
-    /// where there is no such association or counter, `Closed` where it was closed, `Replaced(epoch)` where the book is at another
-    /// epoch, and `Failed`, after which the high was raised or not. After every other error nothing has changed.
+    /// Raises the high of a counter in an epoch to `upto`, or to the counter's end where that is
+    /// less; a high never falls. `Unknown` where there is no such association or counter, `Closed`
+    /// where it was closed, `Replaced(epoch)` where the book is at another epoch, and `Failed`,
+    /// after which the high was raised or not. After every other error nothing has changed.
     fn cover(
         &mut self,
         spir: u64,

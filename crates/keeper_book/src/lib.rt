@@ -1,5 +1,5 @@
-//! The keeper's book: what a cluster records before it uses it. Its entries, the calls that change them, a keeper in
-//! memory, and the gate that records the calls of a turn.
+//! The keeper's book: what a cluster records before it uses it. Its entries, the calls that change
+//! them, a keeper in memory, and the gate that records the calls of a turn.
 #![tactic(auto)]
 
 mod associations;
@@ -27,15 +27,6 @@ pub const MAX_ASSOCIATIONS: u64 = 1024;
 
 /// The last epoch of an association.
 pub const MAX_EPOCHS: u64 = 4096;
-
-/// The end of ESP sequence numbers, where they are extended. RFC 4303, section 2.2.1, has 64 bits for them.
-pub const ESP_END: u64 = 1 << 63;
-
-/// The end of the IVs of a key.
-pub const IV_END: u64 = 1 << 63;
-
-/// The end of Message IDs (RFC 7296, section 2.2).
-pub const MESSAGE_ID_END: u64 = 0xffff_ffff;
 
 #[cfg(test)]
 mod tests;

@@ -10,7 +10,8 @@ use ha_base::Kind;
 use std::alloc::Global;
 use std::marker::Model;
 
-/// A keeper that keeps its book in memory. It never fails.
+/// A keeper that keeps its book in memory. It never fails. It finds an association by a walk over
+/// all, of which there are at most 1,024.
 #[derive(Drop)]
 pub struct MemoryKeeper {
     alloc: Global,

@@ -31,7 +31,8 @@ pub struct Record {
     pub ghost starts_within: { AreWithinEnds starts },
 }
 
-/// What a member holds of an association that it took over: its epoch, the bases of this epoch, and the record.
+/// What a member holds of an association that it took over: its epoch, the bases of this epoch, and
+/// the record.
 #[derive(Debug, PartialEq, Eq, Drop)]
 pub struct Taken {
     pub epoch: u64,

@@ -1,22 +1,15 @@
 -- When two lists of octets have no bit that differs.
-use Rattle.std.proofs.Common.{◌≡◌, ℕ, ◌≤◌, List, [], ◌∷◌, length, sym, ◌∙◌, ap, subst, refl, arith}
+use Rattle.std.proofs.Common.{◌≡◌, ℕ, ◌≤◌, List, [], ◌∷◌, length, ◌∙◌, ap, subst, refl, arith}
 use Rattle.std.specs.Prelude.{fold, bit_or, bit_xor}
 use Rattle.std.specs.List.{zip}
 use Rattle.std.proofs.lemmas.Nat.{le_or_l, le_or_r}
-use lib.Bits.{xor_assoc, xor_self, xor_zero_l, xor_zero_r, or_zero_l}
+use lib.Bits.{xor_self, or_zero_l}
+use Rattle.ha_base.proofs.Bits.{same_from_xor}
 use Rattle.key_schedule.specs.Codes.{difference_of}
 
 -- the bits in which two lists differ, beside those of a start
 abbrev gathered : ℕ → List ℕ → List ℕ → ℕ
 gathered start a b = fold (λ bits (pair : ℕ × ℕ). bit_or bits (bit_xor pair.0 pair.1)) start (zip a b)
-
-same_from_xor : (x y : ℕ) → bit_xor x y ≡ 0 → x ≡ y
-same_from_xor x y none =
-    sym (xor_zero_r x)
-    ∙ ap (bit_xor x) (sym (xor_self y))
-    ∙ sym (xor_assoc x y y)
-    ∙ ap (λ z. bit_xor z y) none
-    ∙ xor_zero_l y
 
 start_le-gathered : (start : ℕ) (a b : List ℕ) → start ≤ gathered start a b
 start_le-gathered start [] b = omega arith

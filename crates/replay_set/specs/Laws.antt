@@ -8,7 +8,8 @@ abbrev pub NotingAddsTheNumber : Type 0
 NotingAddsTheNumber =
     (size base : ℕ) (numbers : List ℕ) (n : ℕ) → with_noted (window_of size base numbers) n ≡ window_of size base (n ∷ numbers)
 
--- a number is stale below the base and where it is `size` or more below the top, else seen exactly where it was noted
+-- a number is stale below the base and where it is `size` or more below the top, else seen exactly
+-- where it was noted
 pub record IsJudgedBy (size base : ℕ) (numbers : List ℕ) (n : ℕ) (judgement : Judgement) : Type 0 where
   pub below_base : n < base → judgement ≡ Stale
   pub below_window : n + size < next_noted base numbers → judgement ≡ Stale
@@ -19,7 +20,8 @@ abbrev pub JudgingByNumbers : Type 0
 JudgingByNumbers =
     (size base : ℕ) (numbers : List ℕ) (n : ℕ) → IsJudgedBy size base numbers n (judged (window_of size base numbers) n)
 
--- the next number is above all the numbers and at or above the base, and no greater than that asks for
+-- the next number is above all the numbers and at or above the base, and no greater than that asks
+-- for
 pub record IsNextOf (base : ℕ) (numbers : List ℕ) (next : ℕ) : Type 0 where
   pub above_all : All (λ n. n < next) numbers
   pub from_base : base ≤ next

@@ -1,13 +1,11 @@
 ghost use Rattle.std.specs.Prelude.{◌≡◌, ℕ, ◌+◌, ◌<◌, ◌≤◌, [], IfSome, IfNone, SomeIff};
 ghost use Rattle.replay_set.specs.Window.{IsWindowSize, IsMeant, is_noted, judged, with_noted, window_of};
-ghost use Rattle.replay_set.specs.declared.set.TheConstants.{SEQUENCE_END};
+ghost use Rattle.ha_base.specs.declared.limits.TheConstants.{SEQUENCE_END};
 
 use super::judgement::Judgement;
 use super::ring::Ring;
+use ha_base::SEQUENCE_END;
 use std::marker::Model;
-
-/// Sequence numbers are below this one.
-pub const SEQUENCE_END: u64 = 1 << 63;
 
 /// A receive window: which of the newest sequence numbers were noted.
 ///
@@ -42,7 +40,8 @@ impl Model for ReplaySet {
 impl ReplaySet {
     /// A window in which nothing was noted and no number is below `base`.
     ///
-    /// `window` is how many numbers it has. None exactly where that is not 64, 128, 256, 512 or 1024.
+    /// `window` is how many numbers it has. None exactly where that is not 64, 128, 256, 512 or
+    /// 1024.
     pub fn new(window: u32, base: u64) -> Option<ReplaySet>
         ensures { SomeIff result (IsWindowSize window) (window_of window base []) }
     {
@@ -57,8 +56,9 @@ impl ReplaySet {
         }
     }
 
-    /// The sequence number that is meant by its low 32 bits (RFC 4303, Appendix A): the one that has them, of the
-    /// 2^32 numbers from the least of the window on. None exactly where it is below zero or at or above 2^63.
+    /// The sequence number that is meant by its low 32 bits (RFC 4303, Appendix A): the one that
+    /// has them, of the 2^32 numbers from the least of the window on. None exactly where it is
+    /// below zero or at or above 2^63.
     pub fn meant(&self, low32: u32) -> Option<u64>
         ensures found { IfSome result (λ n. IsMeant self.now low32 n) }
         ensures none { IfNone result ((n : ℕ) → IsMeant self.now low32 n → SEQUENCE_END ≤ n) }

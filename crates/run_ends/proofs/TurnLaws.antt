@@ -1,11 +1,11 @@
 -- What the calls of one more turn are, and what they do to the keeper.
 use Rattle.std.proofs.Common.{◌≡◌, ℕ, ◌≤◌, Bool, true, false, Option, Some, None, List, [], ◌∷◌, ◌++◌, length, ⊎_elim, ◌⊎◌, inl, inr, arith, subst}
 use Rattle.events.specs.declared.turn.Turn.{Turn}
-use Rattle.keeper_book.specs.Book.{Book, EntersAll, EntersAllTold}
+use Rattle.keeper_book.proofs.Asking.{entered_then, failed_then, rose_after, rose_before}
+use Rattle.keeper_book.specs.Book.{Book, EntersAllTold}
 use Rattle.keeper_book.specs.Gates.{Gated, told_calls, unless_missed}
 use Rattle.keeper_book.specs.Spoken.{EachGives, Spoken}
-use Rattle.ha_base.specs.Faults.{Rose}
-use Rattle.keeper_book.specs.Told.{AddsAllTold, AnyFailed, HaveCause}
+use Rattle.keeper_book.specs.Told.{AddsAllTold, HaveCause}
 use Rattle.keeper_book.specs.declared.calls.Call.{Call}
 use Rattle.turn_rules.specs.Local.{AreShown, calls_of}
 use Rattle.run_ends.specs.Runs.{CausedSince, StandsTold}
@@ -24,25 +24,11 @@ pub shown-all : {G : Type 0} (gives : G → Call → G → Type 0) → ((a : G) 
 shown-all gives plain old [] new e = tt
 shown-all gives plain old (call ∷ calls) new e = (plain old call e.0 e.1, shown-all gives plain e.0 calls new e.2)
 
-entered_then : (old : Book) (xs ys : List Call) (mid new : Book) → EntersAll old xs mid → EntersAll mid ys new → EntersAll old (xs ++ ys) new
-entered_then old [] ys mid new e f = subst (λ b. EntersAll b ys new) e f
-entered_then old (x ∷ xs) ys mid new e f = (e.0, e.1, entered_then e.0 xs ys mid new e.2 f)
-
 -- the book goes on by the calls of the newest turn
 pub stands-more : (turn : Turn) (past : List Turn) (old new : Option Book) → EntersAllTold old turn.calls new → StandsTold past old → StandsTold (turn ∷ past) new
 stands-more turn past None new e s = absurd s
 stands-more turn past (Some old) None e s = absurd e
 stands-more turn past (Some old) (Some new) e s = entered_then _ (calls_of past) turn.calls old new s e
-
-failed_then : (xs ys : List Call) → AnyFailed (xs ++ ys) → AnyFailed xs ⊎ AnyFailed ys
-failed_then [] ys f = inr f
-failed_then (x ∷ xs) ys f = ⊎_elim (λ h. inl (inl h)) (λ h. ⊎_elim (λ t. inl (inr t)) (λ t. inr t) (failed_then xs ys h)) f
-
-rose_before : (before mid now : ℕ) → Rose before mid → mid ≤ now → Rose before now
-rose_before before mid now r l = omega (arith, r, l)
-
-rose_after : (before mid now : ℕ) → before ≤ mid → Rose mid now → Rose before now
-rose_after before mid now l r = omega (arith, r, l)
 
 -- and a call of it failed only where the count rose
 pub caused-more : (turn : Turn) (past : List Turn) (start mid now : ℕ) → HaveCause mid now turn.calls → CausedSince start mid past → CausedSince start now (turn ∷ past)

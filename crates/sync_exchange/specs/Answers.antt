@@ -1,4 +1,5 @@
--- What is answered to a synchronisation: each drop is the first check that fails (RFC 6311, section 5).
+-- What is answered to a synchronisation: each drop is the first check that fails (RFC 6311, section
+-- 5).
 use Rattle.std.specs.Prelude.{◌≡◌, ◌≢◌, ℕ, ◌≤◌, List, Option, None, Some, Result, Ok, Err}
 use Rattle.ike_values.specs.Values.{PayloadValue}
 use Rattle.sync_exchange.specs.Counters.{CanRise, CannotRise, IsAbove, accepted_counters, next_after, synced_ids}
@@ -8,7 +9,7 @@ use Rattle.sync_exchange.specs.declared.replay_counter.TheConstants.{DELTA_OCTET
 use Rattle.sync_exchange.specs.declared.request.SyncRequest.{SyncRequest}
 use Rattle.sync_exchange.specs.declared.peer.PeerState.{PeerState}
 use Rattle.sync_exchange.specs.declared.peer.Accepted.{Accepted}
-use Rattle.sync_exchange.specs.declared.peer.TheConstants.{SEQUENCE_END}
+use Rattle.ha_base.specs.declared.limits.TheConstants.{SEQUENCE_END}
 use Rattle.sync_exchange.specs.declared.sync_drop.SyncDrop.{SyncDrop}
 use Rattle.sync_exchange.specs.declared.sync_drop.SyncDrop.TheVariants.{NotSync, NotAbove, Nonce, Delta}
 

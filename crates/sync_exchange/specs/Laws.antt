@@ -42,7 +42,8 @@ peer_state_after request counters = record {
   next_esp = counters.next_esp;
 }
 
--- a request that is repeated is not accepted again, so that its delta counts once (RFC 6311, section 5.1)
+-- a request that is repeated is not accepted again, so that its delta counts once (RFC 6311,
+-- section 5.1)
 abbrev pub RequestsAreAcceptedOnce : Type 0
 RequestsAreAcceptedOnce =
     (state : PeerState) (request : SyncRequest) (counters : Accepted) (answer : Result Accepted SyncDrop) →

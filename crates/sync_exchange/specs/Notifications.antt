@@ -1,4 +1,5 @@
--- What the two synchronisation notifications of a message say (RFC 6311, section 6). Of each type the first counts.
+-- What the two synchronisation notifications of a message say (RFC 6311, section 6). Of each type
+-- the first counts.
 use Rattle.std.specs.Prelude.{◌≡◌, ℕ, ◌-◌, ◌^◌, ◌==◌, min, List, [], ◌++◌, length, take, drop, Option, None, Some, unwrap_or, if◌then◌else◌}
 use Rattle.std.specs.Int.{w32, w64, to_be_bytes, from_be_bytes}
 use Rattle.ike_values.specs.Values.{PayloadValue}
@@ -9,8 +10,8 @@ use Rattle.sync_exchange.specs.declared.message_ids.TheConstants.{MESSAGE_IDS_OC
 use Rattle.sync_exchange.specs.declared.replay_counter.TheConstants.{DELTA_OCTETS}
 use Rattle.sync_exchange.specs.declared.request.SyncRequest.{SyncRequest}
 
--- the data of IKEV2_MESSAGE_ID_SYNC (section 6.3): a nonce, the Message ID of the sender's next request, and that of the
--- next request that it expects, each in four octets
+-- the data of IKEV2_MESSAGE_ID_SYNC (section 6.3): a nonce, the Message ID of the sender's next
+-- request, and that of the next request that it expects, each in four octets
 abbrev pub message_ids_spelling : MessageIds → List ℕ
 message_ids_spelling ids = to_be_bytes w32 ids.nonce ++ to_be_bytes w32 ids.send ++ to_be_bytes w32 ids.receive
 
@@ -30,7 +31,8 @@ ids_if_whole (Some octets) = if length octets == MESSAGE_IDS_OCTETS then Some (i
 abbrev pub ids_in : List PayloadValue → Option MessageIds
 ids_in payloads = ids_if_whole (first_notify IKEV2_MESSAGE_ID_SYNC payloads)
 
--- the data of the first IPSEC_REPLAY_COUNTER_SYNC (section 6.4), where an empty one is as good as none
+-- the data of the first IPSEC_REPLAY_COUNTER_SYNC (section 6.4), where an empty one is as good as
+-- none
 abbrev pub replay_in : List PayloadValue → List ℕ
 replay_in payloads = unwrap_or (first_notify IPSEC_REPLAY_COUNTER_SYNC payloads) []
 

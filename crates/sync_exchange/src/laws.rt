@@ -15,7 +15,8 @@ pub fn requests_are_accepted_once()
     ensures { RequestsAreAcceptedOnce }
 {}
 
-/// A member that accepts the peer's response has the peer's two Message IDs, where it announced no less than its own.
+/// A member that accepts the peer's response has the peer's two Message IDs, where it announced no
+/// less than its own.
 pub fn both_ends_agree()
     ensures { BothEndsAgree }
 {}

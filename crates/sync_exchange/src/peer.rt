@@ -5,15 +5,14 @@ ghost use Rattle.sync_exchange.specs.Counters.{CanRise, CannotRise, rise_of};
 use crate::replay_counter::DELTA_OCTETS;
 use crate::request::SyncRequest;
 use crate::sync_drop::SyncDrop;
-
-/// The end of outgoing sequence numbers: each is below it, and the next one at most this.
-pub const SEQUENCE_END: u64 = 1 << 63;
+use ha_base::SEQUENCE_END;
 
 /// What the peer knows of an IKE SA when a synchronisation comes.
 #[derive(Clone, Copy)]
 pub struct PeerState {
-    /// The highest Message ID that the cluster used in a request or announced in a synchronisation that was accepted; else
-    /// the one before the first that the association was imported with; and none where there is no such.
+    /// The highest Message ID that the cluster used in a request or announced in a synchronisation
+    /// that was accepted; else the one before the first that the association was imported with; and
+    /// none where there is no such.
     pub highest: Option<u32>,
     /// The Message ID of the peer's own next request.
     pub next_ask: u32,
@@ -34,9 +33,10 @@ pub struct Accepted {
 
 /// The peer's answer to a request to synchronise (RFC 6311, section 5).
 ///
-/// The error is `NotAbove` with the highest Message ID that the cluster used, where the request's is not above it. Else
-/// it is `Delta` where the replay counter notification has neither no octets nor eight, or where the sequence number
-/// would pass its end. A notification without octets, or none, is a delta of 0.
+/// The error is `NotAbove` with the highest Message ID that the cluster used, where the request's
+/// is not above it. Else it is `Delta` where the replay counter notification has neither no octets
+/// nor eight, or where the sequence number would pass its end. A notification without octets, or
+/// none, is a delta of 0.
 pub fn peer_accepts(state: &PeerState, request: &SyncRequest) -> Result<Accepted, SyncDrop>
     ensures { IsPeerAnswer state.now request.now result }
 {
@@ -62,7 +62,8 @@ fn least_above(highest: Option<u32>, id: u32) -> Result<u32, SyncDrop>
     }
 }
 
-/// The sequence number after the rise that is asked for, where a delta of this size can be added below this end.
+/// The sequence number after the rise that is asked for, where a delta of this size can be added
+/// below this end.
 fn risen(size: u32, end: u64, next_esp: u64, request: &SyncRequest) -> Option<u64>
     ensures { MatchOption result
         (CannotRise size end next_esp request.now)

@@ -14,16 +14,18 @@ pub struct SyncRequest {
     pub m1: u32,
     /// The Message ID of the next request that the member expects.
     pub p1: u32,
-    /// How many octets the replay counter notification has, 2^32 - 1 at most, and 0 where there is none.
+    /// How many octets the replay counter notification has, 2^32 - 1 at most, and 0 where there is
+    /// none.
     pub size: u32,
-    /// By how much the peer's outgoing ESP sequence number is to rise. It counts only where the size is eight.
+    /// By how much the peer's outgoing ESP sequence number is to rise. It counts only where the
+    /// size is eight.
     pub delta: u64,
 }
 
 /// Reads the request to synchronise from the payloads of a message (RFC 6311, section 6).
 ///
-/// Of each type the first notification counts. The error is `NotSync`, and comes exactly where the first
-/// IKEV2_MESSAGE_ID_SYNC has not twelve octets or there is none.
+/// Of each type the first notification counts. The error is `NotSync`, and comes exactly where the
+/// first IKEV2_MESSAGE_ID_SYNC has not twelve octets or there is none.
 pub fn request_of(payloads: &Payloads) -> Result<SyncRequest, SyncDrop>
     ensures { IsRequestAnswer payloads.now result }
 {

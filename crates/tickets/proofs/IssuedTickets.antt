@@ -2,8 +2,6 @@
 use Rattle.std.proofs.Common.{◌≡◌, ℕ, ◌^◌, ◌<◌, ◌≤◌, ◌⊎◌, List, length, inl, inr, refl, sym, subst, ◌∙◌, length-append, arith}
 use Rattle.std.specs.Prelude.{Result, Ok, Err}
 use Rattle.std.proofs.lemmas.Nat.{from_be_bytes-to_be_bytes_8}
-use Rattle.ha_base.specs.KeySizes.{HasKeySize}
-use Rattle.ha_base.specs.declared.key_material.KeySize.TheVariants.{Bits128, Bits256}
 use Rattle.aes_gcm.specs.Sealing.{IsSealing}
 use Rattle.tickets.specs.declared.bad_ticket.BadTicket.{BadTicket}
 use Rattle.tickets.specs.declared.bad_ticket.BadTicket.TheVariants as bad
@@ -12,10 +10,6 @@ use Rattle.tickets.specs.Answers.{IsSealedIn, IsTicketAnswer}
 use Rattle.tickets.specs.Tickets.{IsCarried, content_octets, number_in, terms_octets, ticket_front, ticket_octets}
 use Rattle.tickets.proofs.Contents.{content_same}
 use Rattle.tickets.proofs.Parts.{parts, ticket_length}
-
-pub key_octets : (key : List ℕ) → HasKeySize key → (length key ≡ 20) ⊎ (length key ≡ 36)
-key_octets key (Bits128, is) = inl is
-key_octets key (Bits256, is) = inr is
 
 module _ (key : List ℕ) (sealing : IsSealing key) (number : ℕ) (small : number < 2 ^ 64) (content : Content) (carried : IsCarried content) where
   abbrev ticket : List ℕ

@@ -4,9 +4,10 @@ use Rattle.ha_base.specs.declared.key_material.ChildKeys.{ChildKeys}
 use Rattle.ha_base.specs.declared.key_material.KeySize.{KeySize}
 use Rattle.ha_base.specs.declared.key_material.KeySize.TheVariants.{Bits128, Bits256}
 use Rattle.ha_base.specs.declared.key_material.SaKeys.{SaKeys}
-use Rattle.keeper_book.specs.Records.{HaveKeyLengths, sealing_key_octets}
+use Rattle.ha_base.specs.KeySizes.{sealing_octets}
+use Rattle.keeper_book.specs.Records.{HaveKeyLengths}
 
-sized : (size : KeySize) (n : ℕ) → n ≡ sealing_key_octets size → (n ≡ 20) ⊎ (n ≡ 36)
+sized : (size : KeySize) (n : ℕ) → n ≡ sealing_octets size → (n ≡ 20) ⊎ (n ≡ 36)
 sized Bits128 n e = inl e
 sized Bits256 n e = inr e
 

@@ -6,8 +6,8 @@ invariant_of-self c =
     rw c.max-self-inside.ensures
     (jumped_window c.self.inside.floor c.self.inside.low c.args.floor c.settle-self-inside.result c.self.inside.ring c.settle-self-inside.new.ring c.self.invariant
     (rw c.max.ensures at c.settle-self-inside.ensures.low)
-    (rw c.max-self-inside.ensures at c.settle-self-inside.ensures.first)
-    (rw c.max-self-inside.ensures at c.settle-self-inside.ensures.kept))
+    (rw c.max-self-inside.ensures at c.settle-self-inside.ensures.kept)
+    (rw c.max-self-inside.ensures at c.settle-self-inside.ensures.first))
 
 pub returns : goal.returns
 returns c =

@@ -38,9 +38,9 @@ invariant_of-self c =
     let new : IsNewRequest c.self.inside.low (IsAnswered (seen c.self.inside.floor c.self.inside.low c.self.inside.ring)) c.args.id = rw
     (← c.self.view_is) at c.requires in
     stored_window c.self.inside.floor c.self.inside.low c.settle-self-inside.result c.self.inside.ring c.settle-self-inside.new.ring
-    (record { id = c.args.id; octets = c.args.response.octets }) c.self.invariant new
-    (rw c.insert.ensures at c.settle-self-inside.ensures.low) c.settle-self-inside.ensures.first
-    (rw c.insert.ensures at c.settle-self-inside.ensures.kept)
+    (record { id = c.args.id; octets = c.args.response.octets }) c.self.invariant
+    (rw c.insert.ensures at c.settle-self-inside.ensures.low) (rw c.insert.ensures at c.settle-self-inside.ensures.kept)
+    new c.settle-self-inside.ensures.first
 
 pub returns : goal.returns
 returns c =
