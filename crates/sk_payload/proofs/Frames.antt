@@ -1,5 +1,5 @@
 -- Messages in the making, and the payloads that are put in.
-use Rattle.std.proofs.Common.{◌≡◌, ℕ, ◌+◌, ◌-◌, ◌<◌, ◌≤◌, true, List, [], ◌∷◌, ◌++◌, length, take, drop, set, replicate, get_or, vec_len, vec_capacity, refl, sym, ap, subst, ◌∙◌, append_assoc, append-nil, length-append, length-set, length-drop, take_at, take_all, drop_at, true≢false, arith}
+use Rattle.std.proofs.Common.{◌≡◌, ℕ, ◌+◌, ◌-◌, ◌<◌, ◌≤◌, true, List, [], ◌∷◌, ◌++◌, length, take, drop, set, replicate, get_or, refl, sym, ap, subst, ◌∙◌, append_assoc, append-nil, length-append, length-set, length-drop, take_at, take_all, true≢false, arith}
 use Rattle.std.proofs.lemmas.List.{set-append_right}
 use Rattle.ike_values.specs.Values.{PayloadValue, sk}
 use Rattle.ike_values.specs.Spelling.{two, type_of}
@@ -8,7 +8,8 @@ use Rattle.ike_values.proofs.SpellingLaws.{chain_spelled}
 use Rattle.ike_grammar.specs.Chain.{chain_at}
 use Rattle.ike_grammar.proofs.ChainLaws.{chain_again}
 use Rattle.sk_payload.specs.HeldFrame.{read_or_none, payloads_in, first_or, chain_before, octets_before, IsFrame}
-use Rattle.sk_payload.specs.Message.{plain_of, notify_of}
+use Rattle.ike_values.specs.Notifications.{notify_of}
+use Rattle.sk_payload.specs.Message.{plain_of}
 use Rattle.sk_payload.specs.declared.frame.Frame.TheInside.{Inside}
 
 -- ---- what a message in the making holds
@@ -98,9 +99,10 @@ module _ (items : List ℕ) (link : ℕ) (xs : List PayloadValue) (y : PayloadVa
 
 -- ---- frames
 
-pub frame_begun : (f : Inside) → f.message.items ≡ octets_before 0 [] → f.link ≡ 28 → vec_len f.message ≡ 41 → 2048 ≤ vec_capacity f.message → 2048 ≤ f.bodies.spare → IsFrame f
-frame_begun f is link long room spare =
-    let held : payloads_in f.message.items ≡ [] = ap payloads_in is ∙ held_is [] tt in
+pub frame_begun : (f : Inside) → f.message.octets ≡ octets_before 0 [] → f.link ≡ 28 → 2048 ≤ length f.message.octets + f.message.spare → IsFrame f
+frame_begun f is link room =
+    let held : payloads_in f.message.octets ≡ [] = ap payloads_in is ∙ held_is [] tt in
+    let long : length f.message.octets ≡ 41 = ap length is in
     record {
       valid = subst (AreValid true) (sym held) tt;
       octets = is ∙ ap (octets_before 0) (sym held);
@@ -108,40 +110,48 @@ frame_begun f is link long room spare =
       link_within = omega (arith, link, long);
       small = omega (arith, long);
       room = room;
-      spare = omega (arith, spare);
     }
 
 module _ (old new : Inside) (y : PayloadValue) (frame : IsFrame old) (fits : AreValid true (y ∷ []))
-    (is : new.message.items ≡ set old.message.items old.link (type_of y) ++ behind y) (link_is : new.link + 1 ≡ vec_len old.message)
-    (long : vec_len new.message ≡ vec_len old.message + 4 + length (body_written y)) (capacity : vec_capacity old.message ≤ vec_capacity new.message)
-    (spare : old.bodies.spare ≤ new.bodies.spare + length (body_written y)) (room : 4 + length (body_written y) ≤ 2032 - vec_len old.message) where
-  at : new.link + 1 ≡ length old.message.items
-  at = omega (arith, link_is, old.message.ok.0)
+    (is : new.message.octets ≡ set old.message.octets old.link (type_of y) ++ behind y) (link_is : new.link + 1 ≡ length old.message.octets)
+    (spare : old.message.spare ≤ new.message.spare + 4 + length (body_written y)) (room : 4 + length (body_written y) ≤ 2032 - length old.message.octets) where
+  long : length new.message.octets ≡ length old.message.octets + 4 + length (body_written y)
+  long = omega (
+    arith,
+    ap length is,
+    length-append (set old.message.octets old.link (type_of y)) (behind y),
+    length-set old.message.octets old.link (type_of y),
+    length-append (body_written y) (0 ∷ []),
+  )
 
-  pub payloads_after : payloads_in new.message.items ≡ payloads_in old.message.items ++ y ∷ []
-  payloads_after = held_after old.message.items old.link (payloads_in old.message.items) y new.message.items new.link frame.links frame.valid fits is at
+  pub payloads_after : payloads_in new.message.octets ≡ payloads_in old.message.octets ++ y ∷ []
+  payloads_after = held_after old.message.octets old.link (payloads_in old.message.octets) y new.message.octets new.link frame.links frame.valid fits is link_is
 
   pub frame_after : IsFrame new
   frame_after =
-      let xs : List PayloadValue = payloads_in old.message.items in
+      let xs : List PayloadValue = payloads_in old.message.octets in
       record {
-        valid = subst (AreValid true) (sym payloads_after) (valid_after old.message.items old.link xs y new.message.items new.link frame.links frame.valid fits is at);
-        octets = octets_after old.message.items old.link xs y new.message.items new.link frame.links frame.valid fits is at ∙ ap (octets_before 0) (sym payloads_after);
-        links = λ next. links_after old.message.items old.link xs y new.message.items new.link frame.links frame.valid fits is at next ∙ ap (octets_before next) (sym payloads_after);
+        valid = subst (AreValid true) (sym payloads_after) (valid_after old.message.octets old.link xs y new.message.octets new.link frame.links frame.valid fits is link_is);
+        octets = octets_after old.message.octets old.link xs y new.message.octets new.link frame.links frame.valid fits is link_is ∙ ap (octets_before 0) (sym payloads_after);
+        links = λ next. links_after old.message.octets old.link xs y new.message.octets new.link frame.links frame.valid fits is link_is next ∙ ap (octets_before next) (sym payloads_after);
         link_within = omega (arith, link_is, long);
         small = omega (arith, long, room, frame.small);
-        room = omega (arith, capacity, frame.room);
-        spare = omega (arith, spare, long, frame.spare);
+        room = omega (arith, long, spare, frame.room);
       }
 
--- ---- slices
+  pub room_after : 2032 - length new.message.octets + 4 + length (body_written y) ≡ 2032 - length old.message.octets
+  room_after = omega (arith, long, room)
 
--- what was appended to octets
-pub appended : (before body now : List ℕ) (start : ℕ) → now ≡ before ++ body → start ≡ length before → take (length now - start) (drop start now) ≡ body
-appended before body now start is at =
-    let behind_it : drop start now ≡ body = ap (drop start) is ∙ drop_at before body start (sym at) in
-    ap (take (length now - start)) behind_it
-    ∙ take_all (length now - start) body (omega (arith, ap length is, at, length-append before body))
+-- a payload that was written piece by piece: what tells its type and length, its body, and a pad length
+pub put_together : (front : List ℕ) (y : PayloadValue) (begun written done : List ℕ) (size : ℕ) → size ≡ length (body_written y) →
+    begun ≡ front ++ (0 ∷ two (4 + size)) → written ≡ begun ++ body_written y → done ≡ written ++ 0 ∷ [] → done ≡ front ++ behind y
+put_together front y begun written done size size_is begun_is written_is is =
+    is
+    ∙ ap (λ ys. ys ++ 0 ∷ []) (written_is ∙ ap (λ ys. ys ++ body_written y) (begun_is ∙ ap (λ n. front ++ (0 ∷ two (4 + n))) size_is))
+    ∙ ap (λ ys. ys ++ 0 ∷ []) (append_assoc front (0 ∷ two (4 + length (body_written y))) (body_written y))
+    ∙ append_assoc front (0 ∷ two (4 + length (body_written y)) ++ body_written y) (0 ∷ [])
+
+-- ---- slices
 
 pub plain_is : (shown items : List ℕ) (payloads : List PayloadValue) → shown ≡ items → items ≡ octets_before 0 payloads → AreValid true payloads →
     take (length shown - 40) (drop 40 shown) ≡ plain_of payloads

@@ -14,8 +14,10 @@ use Rattle.ike_grammar.specs.Messages.{MessageRefused}
 use Rattle.sk_payload.specs.declared.open.Opened.{Opened}
 use Rattle.sk_payload.specs.declared.not_read.NotRead.{NotRead}
 use Rattle.sk_payload.specs.declared.not_read.NotRead.TheVariants.{Bad, NotOpened, Memory}
+use Rattle.sk_payload.specs.declared.not_read.OpenFault.{OpenFault}
+use Rattle.sk_payload.specs.declared.not_read.OpenFault.TheVariants as fault
 use Rattle.sk_payload.specs.Message.{only_sk, plain_of, IsSealed, IsDatagram, pad_length_in, chain_in, IsInner}
-use Rattle.sk_payload.specs.Answers.{IsAnswer, IsMessageFault, IsText, IsTextOpened, IsTextFault}
+use Rattle.sk_payload.specs.Answers.{IsAnswer, IsOpening, IsText, IsTextOpened, IsSealedTextFault}
 
 -- ---- messages whose only payload is SK
 
@@ -53,7 +55,7 @@ module _ (unique : OneMessage) (key octets : List ℕ) (header : Header) (body :
       subst (λ b. IsText key b octets plain) same is.text
 
   pub answers_opened : (plain : List ℕ) (inner : Result (List PayloadValue) Fault) → IsTextOpened key body octets plain → IsInner body.first plain inner →
-      IsAnswer key octets (Ok (record { header = header; inner = inner }))
+      IsOpening key octets (Ok (record { header = header; inner = inner }))
   answers_opened plain inner opened is = (
     body,
     plain,
@@ -64,26 +66,17 @@ module _ (unique : OneMessage) (key octets : List ℕ) (header : Header) (body :
     is,
   )
 
-  pub answers_fault : (why : NotRead) → IsTextFault key body octets why → IsAnswer key octets (Err why)
-  answers_fault (Bad bad) none = absurd none
-  answers_fault NotOpened none = record {
+  pub answers_fault : (why : OpenFault) → IsSealedTextFault key body octets why → IsOpening key octets (Err why)
+  answers_fault fault.NotOpened none = record {
     message = only_sk header body;
     is = message;
     none = λ others other plain sealed. none plain (text_of others other plain sealed);
   }
-  answers_fault Memory none = tt
-
-pub answers_memory : (key octets : List ℕ) (why : NotRead) → why ≡ Memory → IsAnswer key octets (Err why)
-answers_memory key octets why is = subst (λ w. IsAnswer key octets (Err w)) (sym is) tt
-
-pub answers_refused : (key octets : List ℕ) (why : NotRead) → IsMessageFault octets why → IsAnswer key octets (Err why)
-answers_refused key octets (Bad bad) refused = refused
-answers_refused key octets NotOpened refused = absurd refused
-answers_refused key octets Memory refused = tt
+  answers_fault fault.Memory none = tt
 
 -- SK is not the only payload
 pub answers_others : (unique : OneMessage) (key octets : List ℕ) (message : Message) → IsMessage message octets →
-    ((body : SkValue) → message.payloads ≡ sk body ∷ [] → ⊥) → IsAnswer key octets (Err NotOpened)
+    ((body : SkValue) → message.payloads ≡ sk body ∷ [] → ⊥) → IsOpening key octets (Err fault.NotOpened)
 answers_others unique key octets message is none = record {
   message = message;
   is = is;

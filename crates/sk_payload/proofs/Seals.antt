@@ -9,9 +9,9 @@ use Rattle.ike_values.specs.Spelling.{two}
 use Rattle.ike_values.specs.Headers.{IsMessage}
 use Rattle.ike_values.specs.Writing.{body_written, first_type_of, chain_written, AreValid}
 use Rattle.ike_values.proofs.SpellingLaws.{chain_spelled}
-use Rattle.ike_encoding.specs.Messages.{FitsHeader, message_written}
+use Rattle.ike_encoding.specs.Messages.{FitsHeader, header_written, message_written}
 use Rattle.ike_encoding.proofs.WrittenLaws.{message_spelled}
-use Rattle.sk_payload.specs.Front.{header_octets, sk_front}
+use Rattle.sk_payload.specs.Front.{sk_front}
 use Rattle.sk_payload.specs.Message.{only_sk, plain_of, IsDatagram}
 
 module _ (key : List ℕ) (sealing : IsSealing key) (iv : ℕ) (small : iv < 2 ^ 64) (header : Header) (fits : FitsHeader header)
@@ -20,7 +20,7 @@ module _ (key : List ℕ) (sealing : IsSealing key) (iv : ℕ) (small : iv < 2 ^
   size = 56 + length (plain_of payloads)
 
   abbrev front : List ℕ
-  front = header_octets header (56 + length (plain_of payloads)) ++ sk_front (first_type_of payloads) (56 + length (plain_of payloads) - 28) iv
+  front = header_written header 46 (56 + length (plain_of payloads)) ++ sk_front (first_type_of payloads) (56 + length (plain_of payloads) - 28) iv
 
   abbrev text : Sealed
   text = sealed key iv (take 32 front) (plain_of payloads)
@@ -47,7 +47,7 @@ module _ (key : List ℕ) (sealing : IsSealing key) (iv : ℕ) (small : iv < 2 ^
   written =
       let whole : 56 + length (plain_of payloads) ≡ 28 + length (chain_written (sk body ∷ [])) = omega (arith, chain_long) in
       let inside : 56 + length (plain_of payloads) - 28 ≡ 4 + length (body_written (sk body)) = omega (arith, body_long) in
-      λ i. header_octets header (whole i) ++ (first_type_of payloads ∷ 0 ∷ two (inside i) ++ to_be_bytes w64 iv ++ sym (append-nil (text.ciphertext ++ text.tag)) i)
+      λ i. header_written header 46 (whole i) ++ (first_type_of payloads ∷ 0 ∷ two (inside i) ++ to_be_bytes w64 iv ++ sym (append-nil (text.ciphertext ++ text.tag)) i)
 
   is_message : IsMessage (only_sk header body) (front ++ text.ciphertext ++ text.tag)
   is_message =
@@ -67,11 +67,11 @@ module _ (key : List ℕ) (sealing : IsSealing key) (iv : ℕ) (small : iv < 2 ^
   }
 
   pub datagram_is : (total first : ℕ) (plain before octets : List ℕ) → total ≡ 56 + length (plain_of payloads) → first ≡ first_type_of payloads → plain ≡ plain_of payloads →
-      before ≡ header_octets header total ++ sk_front first (total - 28) iv →
+      before ≡ header_written header 46 total ++ sk_front first (total - 28) iv →
       octets ≡ before ++ (sealed key iv (take 32 before) plain).ciphertext ++ (sealed key iv (take 32 before) plain).tag →
       IsDatagram key iv header payloads octets
   datagram_is total first plain before octets is_total is_first is_plain is_before is =
-      let same : before ≡ front = is_before ∙ (λ i. header_octets header (is_total i) ++ sk_front (is_first i) (is_total i - 28) iv) in
+      let same : before ≡ front = is_before ∙ (λ i. header_written header 46 (is_total i) ++ sk_front (is_first i) (is_total i - 28) iv) in
       let sealed_so : octets ≡ front ++ text.ciphertext ++ text.tag =
       is ∙ (λ i. same i ++ (sealed key iv (take 32 (same i)) (is_plain i)).ciphertext ++ (sealed key iv (take 32 (same i)) (is_plain i)).tag) in
       subst (IsDatagram key iv header payloads) (sym sealed_so) datagram

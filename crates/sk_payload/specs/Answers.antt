@@ -9,17 +9,29 @@ use Rattle.ike_grammar.specs.Messages.{MessageRefused}
 use Rattle.sk_payload.specs.declared.open.Opened.{Opened}
 use Rattle.sk_payload.specs.declared.not_read.NotRead.{NotRead}
 use Rattle.sk_payload.specs.declared.not_read.NotRead.TheVariants.{Bad, NotOpened, Memory}
+use Rattle.sk_payload.specs.declared.not_read.OpenFault.{OpenFault}
+use Rattle.sk_payload.specs.declared.not_read.OpenFault.TheVariants as fault
 use Rattle.sk_payload.specs.Message.{associated_data, IsSealed, OpensMessage, IsInner}
 
 -- no plaintext is sealed in the message that the octets spell
 pub record IsNotOpened (key octets : List ℕ) : Type 0 where
   pub message : Message
   pub is : IsMessage message octets
-  pub none : (header : Header) (body : SkValue) (plain : List ℕ) → ¬ IsSealed key header body plain octets
+  pub none :
+      (header : Header) (body : SkValue) (plain : List ℕ) →
+      ¬ IsSealed key header body plain octets
 
--- the answer to octets under the octets of a key and its salt
+-- the answer to a message that the octets spell, under the octets of a key and its salt
+abbrev pub IsOpening : List ℕ → List ℕ → Result Opened OpenFault → Type 0
+IsOpening key octets (Ok opened) =
+    (body : SkValue) × (plain : List ℕ)
+    × OpensMessage key opened.header body plain octets × IsInner body.first plain opened.inner
+IsOpening key octets (Err fault.NotOpened) = IsNotOpened key octets
+IsOpening key octets (Err fault.Memory) = Unit {0}
+
+-- the answer to octets
 abbrev pub IsAnswer : List ℕ → List ℕ → Result Opened NotRead → Type 0
-IsAnswer key octets (Ok opened) = (body : SkValue) × (plain : List ℕ) × OpensMessage key opened.header body plain octets × IsInner body.first plain opened.inner
+IsAnswer key octets (Ok opened) = IsOpening key octets (Ok opened)
 IsAnswer key octets (Err (Bad bad)) = MessageRefused octets bad.place bad.reason
 IsAnswer key octets (Err NotOpened) = IsNotOpened key octets
 IsAnswer key octets (Err Memory) = Unit {0}
@@ -33,14 +45,15 @@ IsMessageFault octets Memory = Unit {0}
 
 -- the plaintext is sealed in the body of SK in a message of these octets
 abbrev pub IsText : List ℕ → SkValue → List ℕ → List ℕ → Type 0
-IsText key body octets plain = sealed key body.iv (associated_data octets) plain ≡ record { ciphertext = body.ciphertext; tag = body.icv }
+IsText key body octets plain =
+    sealed key body.iv (associated_data octets) plain
+    ≡ record { ciphertext = body.ciphertext; tag = body.icv }
 
 -- and no other is
 pub record IsTextOpened (key : List ℕ) (body : SkValue) (octets plain : List ℕ) : Type 0 where
   pub is : IsText key body octets plain
   pub only : (other : List ℕ) → IsText key body octets other → other ≡ plain
 
-abbrev pub IsTextFault : List ℕ → SkValue → List ℕ → NotRead → Type 0
-IsTextFault key body octets (Bad bad) = ⊥
-IsTextFault key body octets NotOpened = (plain : List ℕ) → ¬ IsText key body octets plain
-IsTextFault key body octets Memory = Unit {0}
+abbrev pub IsSealedTextFault : List ℕ → SkValue → List ℕ → OpenFault → Type 0
+IsSealedTextFault key body octets fault.NotOpened = (plain : List ℕ) → ¬ IsText key body octets plain
+IsSealedTextFault key body octets fault.Memory = Unit {0}

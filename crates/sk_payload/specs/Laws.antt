@@ -11,6 +11,7 @@ use Rattle.sk_payload.specs.Answers.{IsAnswer}
 -- what was sealed opens with its header and its inner payloads, unless memory runs out
 abbrev pub SealedMessagesOpen : Type 0
 SealedMessagesOpen =
-    (key : List ℕ) (iv : ℕ) (header : Header) (payloads : List PayloadValue) (octets : List ℕ) (answer : Result Opened NotRead) →
+    (key : List ℕ) (iv : ℕ) (header : Header) (payloads : List PayloadValue) (octets : List ℕ) →
+    (answer : Result Opened NotRead) →
     IsDatagram key iv header payloads octets → IsAnswer key octets answer →
     (answer ≡ Ok (record { header = header; inner = Ok payloads })) ⊎ (answer ≡ Err Memory)

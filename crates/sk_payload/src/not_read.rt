@@ -10,3 +10,12 @@ pub enum NotRead {
     /// Memory was wanting.
     Memory,
 }
+
+/// Why a message that was decoded before was not opened.
+#[derive(Clone, Copy, Debug, PartialEq, Eq)]
+pub enum OpenFault {
+    /// SK is not the only payload, or its integrity check value is not that of its ciphertext.
+    NotOpened,
+    /// Memory was wanting.
+    Memory,
+}

@@ -34,12 +34,13 @@ const TWO: &str =
 const TWO_PLAIN: &str =
     "29000014000040260202021200000010000000100000001000004027000000000000040000";
 
-/// A nonce and a notification under IV 1, as another program seals them in a CREATE_CHILD_SA request.
+/// A nonce and a notification under IV 1, as another program seals them in a CREATE_CHILD_SA
+/// request.
 const MIXED: &str =
     "000100000000000100010000000000022e2024080000000000000055280000390000000000000001a43d1f6b40326de1c059b15724bbee07f3da173b019e020b02fde1efd857357479a3c534d4408ce302c16f457f";
 
-/// Messages as another program seals them, and what is to be read: the Message ID and the number of inner payloads, or
-/// the fault.
+/// Messages as another program seals them, and what is to be read: the Message ID and the number of
+/// inner payloads, or the fault.
 const MESSAGES: [(&str, &str); 15] = [
     (TWO, "ok 0 2"),
     // no inner payloads, in a response

@@ -1,6 +1,7 @@
-use Rattle.std.proofs.Common.{◌≡◌, ◌+◌, ◌-◌, ◌^◌, ◌<◌, ◌++◌, length, drop, take, vec_len, ap, ◌∙◌, take_at, arith}
+use Rattle.std.proofs.Common.{length-append, ◌≡◌, ◌+◌, ◌-◌, ◌^◌, ◌<◌, ◌++◌, length, drop, take, vec_len, ap, ◌∙◌, take_at, arith}
 use Rattle.ike_values.specs.Writing.{first_type_of}
-use Rattle.sk_payload.specs.Front.{header_octets, sk_front}
+use Rattle.ike_encoding.specs.Messages.{header_written}
+use Rattle.sk_payload.specs.Front.{sk_front}
 use Rattle.sk_payload.specs.Message.{plain_of}
 use Rattle.sk_payload.proofs.Frames.{text_is, front_is, octets_long}
 use Rattle.sk_payload.proofs.Seals.{datagram_is}
@@ -27,16 +28,20 @@ module _ (c : goal.After-of) where
   first : c.index.result.now ≡ first_type_of c.args.frame.payloads
   first = c.index.ensures ∙ front_is c.into_message-message.result.items c.args.frame.payloads c.index.result.now c.into_message-message.ensures.octets
 
-  before : c.front_octets-front.result ≡ header_octets c.args.header.now (vec_len c.into_message-message.result + 16) ++ sk_front c.index.result.now (vec_len c.into_message-message.result + 16 - 28) c.args.n.value
+  before : c.front_octets-front.result ≡ header_written c.args.header.now 46 (vec_len c.into_message-message.result + 16) ++ sk_front c.index.result.now (vec_len c.into_message-message.result + 16 - 28) c.args.n.value
   before =
-      c.front_octets-front.ensures
-      ∙ (λ i. header_octets c.args.header.now (c.len-length.ensures i + 16) ++ sk_front c.index.result.now (c.len-length.ensures i + 16 - 28) (c.value.ensures i))
+      c.front_octets-front.ensures.octets
+      ∙ (λ i. header_written c.args.header.now 46 (c.len-length.ensures i + 16) ++ sk_front c.index.result.now (c.len-length.ensures i + 16 - 28) (c.value.ensures i))
 
 pub returns-clause-datagram : goal.returns-clause-datagram
 returns-clause-datagram c =
     datagram_is c.args.key.now.octets (c.sealing_laws.ensures c.args.key.now.octets c.seal_text-tag.ensures.key_size) c.args.n.value (small c) c.args.header.now
-    (record { spii = c.in_range.ensures.spii; spir = c.in_range.ensures.spir; id = c.in_range.ensures.id })
+    c.front_octets-front.ensures.fits
     c.args.frame.payloads c.into_message-message.ensures.valid (omega (arith, long c, c.into_message-message.ensures.small))
     (vec_len c.into_message-message.result + 16) c.index.result.now (drop 40 c.deref_mut.result.now) c.front_octets-front.result c.of.result.octets
     (omega (arith, long c)) (first c) (text c) (before c)
     (sealed c ∙ (λ i. c.seal_text-tag.ensures.octets i ++ c.seal_text-tag.ensures.tag i))
+
+pub returns-clause-length : goal.returns-clause-length
+returns-clause-length c =
+    omega (arith, ap length (sealed c), length-append c.seal_text-tag.new.message c.seal_text-tag.result, c.seal_text-tag.auto.message, c.deref_mut.ensures.len, long c)

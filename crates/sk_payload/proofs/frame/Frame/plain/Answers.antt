@@ -7,5 +7,5 @@ use Rattle.sk_payload.proofs.frame.Frame.plain.Goals as goal
 pub returns : goal.returns
 returns c =
     let f = c.self.inside in
-    plain_is c.deref.result.now f.message.items (payloads_in f.message.items) c.deref.ensures.value c.self.invariant.octets c.self.invariant.valid
+    plain_is c.as_slice.result.now f.message.octets (payloads_in f.message.octets) c.as_slice.ensures.value c.self.invariant.octets c.self.invariant.valid
     ∙ ap (λ frame. plain_of frame.payloads) c.self.view_is
