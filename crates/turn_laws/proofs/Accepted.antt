@@ -47,7 +47,7 @@ module _ (event : Event) (step : Step) (packet : Packet) (accepted : accepted_as
 
   packet-noted : {past : List Turn} {calls : List Call} (o : Outcome past event calls step) → Noted packet (λ p. spent p o)
   packet-noted (Idle rests) = absurd (no-packet packet (sym (idle-packet step.verdict rests.idle) ∙ accepted))
-  packet-noted (Over said quiet) = absurd (no-packet packet (sym (ap accepted_as said) ∙ accepted))
+  packet-noted (Over member said ends quiet) = absurd (no-packet packet (sym (ap accepted_as said) ∙ accepted))
   packet-noted (Ours_used u it) = spends-packet (Ours u.held.sa.spir u.c) u.number it.spends
   packet-noted (Theirs_used u) = spends-packet (Theirs u.slot.sa.spir u.c) u.number u.spends
 

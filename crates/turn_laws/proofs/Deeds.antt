@@ -1,5 +1,5 @@
 -- What a turn may be: it makes no call or one, a member ends, or a number of a member or of the peer is used.
-use Rattle.std.proofs.Common.{◌≡◌, ℕ, ◌<◌, ◌^◌, Bool, Some, None, List, [], ◌∷◌, ◌++◌, map, sym, subst}
+use Rattle.std.proofs.Common.{◌≡◌, ℕ, ◌<◌, Bool, Some, None, List, [], ◌∷◌, ◌++◌, map, sym, subst}
 use Rattle.events.specs.declared.event.Event.{Event}
 use Rattle.events.specs.declared.turn.Step.{Step}
 use Rattle.events.specs.declared.turn.Turn.{Turn}
@@ -15,7 +15,7 @@ use Rattle.keeper_book.specs.declared.counters.Counter.TheVariants as counter
 use Rattle.keeper_book.specs.declared.records.Taken.{Taken}
 use Rattle.replay_set.specs.Window.{judged}
 use Rattle.replay_set.specs.declared.judgement.Judgement.TheVariants.{Fresh}
-use Rattle.turn_laws.proofs.Arrivals.{came, number_theirs}
+use Rattle.turn_laws.specs.PeerTurns.{came, number_theirs}
 use Rattle.turn_laws.proofs.Uses.{IsUse, number_at}
 use Rattle.turn_laws.specs.Acts.{Act, MayAsk, Move, Seals, entered_at}
 use Rattle.turn_laws.specs.Holdings.{Actor}
@@ -27,6 +27,7 @@ use Rattle.turn_rules.specs.Held.{Held, granted, held_by, used, window_by}
 use Rattle.turn_rules.specs.Peers.{record_entered}
 use Rattle.turn_rules.specs.Safe.{Packet, accepted_as}
 use Rattle.turn_rules.specs.Slots.{Slot, first_slot, slots_by}
+use Rattle.turn_rules.specs.States.{ended_by}
 use Rattle.turn_rules.specs.Steps.{IsQuiet, Says}
 
 -- the verdict uses no number, and ends no member
@@ -115,6 +116,6 @@ pub record Asks (event : Event) (calls : List Call) (step : Step) : Type 0 where
 pub data Deed (past : List Turn) (event : Event) (calls : List Call) (step : Step) : Type 0 where
   Rested : calls ≡ [] → Rests step → record_entered event step.verdict ≡ None → Deed past event calls step
   Asked : Asks event calls step → Deed past event calls step
-  Ended : (member : ℕ) → performer_at event step.verdict ≡ Some (Member member) → calls ≡ [] → step.verdict ≡ out.Down → IsQuiet step → Deed past event calls step
+  Ended : (member : ℕ) → performer_at event step.verdict ≡ Some (Member member) → calls ≡ [] → step.verdict ≡ out.Down → ended_by event out.Down ≡ Some member → IsQuiet step → Deed past event calls step
   Used : MemberUses past event calls step → Deed past event calls step
   Used_theirs : PeerUses past event calls step → Deed past event calls step

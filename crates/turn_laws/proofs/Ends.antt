@@ -1,112 +1,210 @@
--- No number reaches the end of its counter.
-use Rattle.std.proofs.Common.{◌≡◌, ℕ, ◌<◌, ◌≤◌, ◌==◌, min, max, Bool, true, false, Option, Some, None, List, [], ◌∷◌, map, length, ⊎_elim, refl, ap, sym, ◌∙◌, subst, arith, if◌then◌else◌}
+-- No number reaches the end of its counter, whatever the keeper's book is.
+use Rattle.std.proofs.Common.{◌≡◌, ℕ, ◌<◌, ◌≤◌, ◌==◌, ◌&&◌, Bool, true, false, Option, Some, None, MatchOption, List, [], ◌∷◌, ◌++◌, map, refl, ap, sym, ◌∙◌, subst, arith, if◌then◌else◌}
+use Rattle.std.proofs.lemmas.Bool.{and_parts, eqb-true}
 use Rattle.std.proofs.lemmas.Option.{same_Some}
 use Rattle.std.specs.List.{AllByRecursion, filter_map}
 use Rattle.std.specs.Option.{option_map}
+use Rattle.events.specs.declared.seals.Seal.{Seal}
 use Rattle.events.specs.declared.turn.Turn.{Turn}
-use Rattle.keeper_book.specs.Book.{Book, EntersAll, Enters, Entry, empty, entry_of, fresh, entry_raised, raised_at, taken_over}
+use Rattle.keeper_book.specs.Book.{Book}
 use Rattle.keeper_book.specs.CounterEnds.{end_of}
-use Rattle.keeper_book.specs.Counters.{counter_named, five_at}
+use Rattle.keeper_book.specs.Counters.{AreWithinEnds, counter_named, five_at}
+use Rattle.keeper_book.specs.Told.{AreAnswers, IsAnswerOf, seen}
 use Rattle.keeper_book.specs.declared.calls.Call.{Call}
+use Rattle.keeper_book.specs.declared.calls.KeeperAnswer.{KeeperAnswer}
+use Rattle.keeper_book.specs.declared.calls.KeeperAnswer.TheVariants as answer
 use Rattle.keeper_book.specs.declared.calls.KeeperAsk.{KeeperAsk}
 use Rattle.keeper_book.specs.declared.calls.KeeperAsk.TheVariants as ask
 use Rattle.keeper_book.specs.declared.counters.Counter.{Counter}
-use Rattle.turn_laws.proofs.All.{owned-run}
-use Rattle.turn_laws.proofs.Books.{answers-entry}
-use Rattle.turn_laws.proofs.Columns.{mark-high}
-use Rattle.turn_laws.proofs.Entries.{entry-entered, entry_after, five_at-with_five, is_counter-true, within_end}
+use Rattle.keeper_book.specs.declared.counters.Counter.TheVariants as counter
+use Rattle.keeper_book.specs.declared.faults.KeeperFault.TheVariants as fault
+use Rattle.keeper_book.specs.declared.records.Taken.{Taken}
+use Rattle.turn_laws.proofs.All.{owned-run, turn-well}
+use Rattle.turn_laws.proofs.Holdings.{is_actor-true}
+use Rattle.turn_laws.proofs.Lists.{all-append, all-both, all-each}
+use Rattle.turn_laws.proofs.Moves.{IsUseOrEnd, are-uses}
 use Rattle.turn_laws.proofs.Numbers.{counters-hold}
-use Rattle.turn_laws.specs.Acts.{numbers_at, uses_at}
-use Rattle.turn_laws.specs.Columns.{Column, column_mark}
-use Rattle.turn_laws.specs.Holdings.{IsOwned, IsUseOf, Use}
-use Rattle.turn_laws.specs.Places.{Ours, Place, Theirs, column, column_ours, column_theirs, end_at}
-use Rattle.turn_laws.specs.Turns.{acts_of}
-use Rattle.turn_rules.specs.Held.{is_counter, number_of}
-use Rattle.turn_rules.specs.Local.{Local, Stands, calls_of}
+use Rattle.turn_laws.proofs.Safety.{failed_effect, is_place-true, named-counter}
+use Rattle.turn_laws.specs.Acts.{Act, Calls, Ends, HoldsFor, MayAsk, MayCover, MayDo, MayDoAll, Move, Seals, Uses, acts_onto, effect_of, effect_of_call, effect_of_use, effect_ours, effect_theirs, holding_at, numbers_at, uses_at}
+use Rattle.turn_laws.specs.Holdings.{Actor, Begins, Draws, Effect, Holding, Nothing, Rises, Use, drawn, holding_after, is_actor, raised_to, use_end, uses_after}
+use Rattle.turn_laws.specs.Places.{Ours, Place, Theirs, column, end_at, is_place, place_of}
+use Rattle.turn_laws.specs.Turns.{actor_of, acts_of, key_iv, moves_of, uses_of}
+use Rattle.turn_rules.specs.Held.{is_named, number_of}
+use Rattle.turn_rules.specs.Local.{Local, Stands}
 
--- a cover leaves the record
-sa-raised : (d : Option Counter) (upto : ℕ) (e : Entry) → (raised_at d upto e).sa ≡ e.sa
-sa-raised None upto e = refl
-sa-raised (Some d) upto e = refl
+-- what ends hold does not pass the counter's end, and what was used lies below it
+abbrev HighsWithin : (Actor → Option Holding) → Type 0
+HighsWithin held = (w : Actor) (h : Holding) → held w ≡ Some h → h.high ≤ h.end
 
-module _ (c : Counter) where
-  -- the high of an association, where there is one, is at most the counter's end
-  abbrev pub IsWithin : Option Entry → Type 0
-  IsWithin x = (e : Entry) → x ≡ Some e → five_at e.highs c ≤ end_of e.sa c
+abbrev IsBelowEnd : Use → Type 0
+IsBelowEnd u = u.number < u.end
 
-  raised-within : (d : Option Counter) (upto : ℕ) (e : Entry) → five_at e.highs c ≤ end_of e.sa c → five_at (raised_at d upto e).highs c ≤ end_of e.sa c
-  raised-within None upto e within = within
-  raised-within (Some d) upto e within = by_test (is_counter d c) refl
+-- what an effect needs for that
+abbrev KeepsEnds : Effect → (Actor → Option Holding) → Type 0
+KeepsEnds Nothing held = Unit {0}
+KeepsEnds (Begins w h) held = h.high ≤ h.end
+KeepsEnds (Rises w upto) held = (h : Holding) → held w ≡ Some h → upto ≤ h.end
+KeepsEnds (Draws w n) held = (h : Holding) × (held w ≡ Some h) × (n < h.high)
+
+highs-after : (held : Actor → Option Holding) (e : Effect) → HighsWithin held → KeepsEnds e held → HighsWithin (holding_after e held)
+highs-after held Nothing within keeps v g is = within v g is
+highs-after held (Begins w h) within keeps v g is = by_test (is_actor w v) is
+  where
+    by_test : (b : Bool) → (if b then Some h else held v) ≡ Some g → g.high ≤ g.end
+    by_test true is = subst (λ (x : Holding). x.high ≤ x.end) (same_Some h g is) keeps
+    by_test false is = within v g is
+highs-after held (Rises w upto) within keeps v g is = by_test (is_actor w v) refl is
+  where
+    raised : (x : Option Holding) → held v ≡ x → held w ≡ held v → option_map (raised_to upto) x ≡ Some g → g.high ≤ g.end
+    raised None e same is = absurd (cc)
+    raised (Some h) e same is =
+        let a : h.high ≤ h.end = within v h e in
+        let b : upto ≤ h.end = keeps h (same ∙ e) in
+        subst (λ (x : Holding). x.high ≤ x.end) (same_Some (raised_to upto h) g is) (omega arith)
+
+    by_test : (b : Bool) → is_actor w v ≡ b → (if b then option_map (raised_to upto) (held v) else held v) ≡ Some g → g.high ≤ g.end
+    by_test true t is = raised (held v) refl (ap held (is_actor-true w v t)) is
+    by_test false t is = within v g is
+highs-after held (Draws w n) within keeps v g is = by_test (is_actor w v) is
+  where
+    used : (x : Option Holding) → held v ≡ x → option_map (drawn n) x ≡ Some g → g.high ≤ g.end
+    used None e is = absurd (cc)
+    used (Some h) e is = subst (λ (x : Holding). x.high ≤ x.end) (same_Some (drawn n h) g is) (within v h e)
+
+    by_test : (b : Bool) → (if b then option_map (drawn n) (held v) else held v) ≡ Some g → g.high ≤ g.end
+    by_test true is = used (held v) refl is
+    by_test false is = within v g is
+
+below-after : (held : Actor → Option Holding) (us : List Use) (e : Effect) → HighsWithin held → KeepsEnds e held → AllByRecursion IsBelowEnd us → AllByRecursion IsBelowEnd (uses_after e held us)
+below-after held us (Draws w n) within keeps all =
+    let h : Holding = keeps.0 in
+    let a : n < h.high = keeps.2 in
+    let b : h.high ≤ h.end = within w h keeps.1 in
+    (subst (λ x. n < use_end x) (sym keeps.1) (let c : n < h.end = omega arith in c), all)
+below-after held us e within keeps all = all
+
+-- a call is answered as such a call may be
+abbrev IsAnswered : Move → Type 0
+IsAnswered (Calls call) = IsAnswerOf call.asked call.answer
+IsAnswered move = Unit {0}
+
+bases-within : (taken : Taken) (c : Counter) → AreWithinEnds taken.bases → five_at taken.bases c ≤ end_of taken.sa c
+bases-within taken counter.EspOut within = within.esp_out
+bases-within taken counter.EspIn within = within.esp_in
+bases-within taken counter.Iv within = within.iv
+bases-within taken counter.Ask within = within.ask
+bases-within taken counter.Answer within = within.answer
+
+module _ (acts : List Act) (w : Actor) where
+  ends-answered : (p : Place) (asked : KeeperAsk) (answered : KeeperAnswer) → MayAsk acts w asked → IsAnswerOf asked answered → KeepsEnds (effect_of_call p w asked answered) (holding_at p acts)
+  ends-answered (Ours spir c) (ask.TakeOver asked member) (answer.Taken taken) may is = by_test (asked == spir)
     where
-      by_test : (b : Bool) → is_counter d c ≡ b → five_at (entry_raised d upto e).highs c ≤ end_of e.sa c
+      by_test : (b : Bool) → KeepsEnds (effect_ours w c (if b then Some taken else None) None) (holding_at (Ours spir c) acts)
+      by_test true = bases-within taken c is.within
+      by_test false = tt
+  ends-answered (Ours spir c) (ask.Cover asked kind child epoch upto) answer.Done may is = by_test ((asked == spir) && is_named c (counter_named kind child)) refl
+    where
+      covers : ((asked == spir) && is_named c (counter_named kind child)) ≡ true → (h : Holding) → holding_at (Ours spir c) acts w ≡ Some h → upto ≤ h.end
+      covers t h holds =
+          let parts = and_parts (asked == spir) (is_named c (counter_named kind child)) t in
+          let cover : MayCover (holding_at (Ours spir c) acts w) epoch upto =
+          subst (λ n. MayCover (holding_at (Ours n c) acts w) epoch upto) (eqb-true asked spir parts.0)
+          (subst (λ o. MatchOption o ⊥ (λ d. MayCover (holding_at (Ours asked d) acts w) epoch upto)) (named-counter c (counter_named kind child) parts.1) may) in
+          subst (λ (x : Holding). upto ≤ x.end) (same_Some cover.holding h (sym cover.holds ∙ holds)) cover.within_end
+
+      by_test : (b : Bool) → ((asked == spir) && is_named c (counter_named kind child)) ≡ b → KeepsEnds (effect_ours w c None (if b then Some upto else None)) (holding_at (Ours spir c) acts)
+      by_test true t = covers t
+      by_test false t = tt
+  ends-answered (Theirs spir c) (ask.Enter sa) answer.Done may is = by_test (sa.spir == spir)
+    where
+      by_test : (b : Bool) → KeepsEnds (effect_theirs w c (if b then Some sa else None)) (holding_at (Theirs spir c) acts)
+      by_test true = let least : end_of sa c ≤ end_of sa c = omega arith in least
+      by_test false = tt
+  ends-answered p asked answered may is = tt
+
+  ends-call : (p : Place) (call : Call) → MayAsk acts w call.asked → IsAnswerOf call.asked call.answer → KeepsEnds (effect_of p w (Calls call)) (holding_at p acts)
+  ends-call p call may is = by_test call.hidden refl
+    where
+      by_test : (b : Bool) → call.hidden ≡ b → KeepsEnds (effect_of_call p w call.asked (seen call)) (holding_at p acts)
+      by_test true t = rw t (subst (λ e. KeepsEnds e (holding_at p acts)) (failed_effect w p call.asked fault.Failed) tt)
+      by_test false t = rw t (ends-answered p call.asked call.answer may is)
+
+  ends-use : (p q : Place) (n : ℕ) → HoldsFor (holding_at q acts w) n → KeepsEnds (effect_of_use p (Some q) w n) (holding_at p acts)
+  ends-use p q n may = by_test (is_place q p) refl
+    where
+      by_test : (b : Bool) → is_place q p ≡ b → KeepsEnds (if b then Draws w n else Nothing) (holding_at p acts)
       by_test true t =
-          let is : five_at (entry_raised d upto e).highs c ≡ max (five_at e.highs d) (min upto (end_of e.sa d)) = five_at-with_five d c (max (five_at e.highs d) (min upto (end_of e.sa d))) e.highs ∙ rw t in
-          let high : five_at e.highs d ≡ five_at e.highs c = ap (five_at e.highs) (is_counter-true d c t) in
-          let end : end_of e.sa d ≡ end_of e.sa c = ap (end_of e.sa) (is_counter-true d c t) in
-          omega arith
-      by_test false t =
-          let is : five_at (entry_raised d upto e).highs c ≡ five_at e.highs c = five_at-with_five d c (max (five_at e.highs d) (min upto (end_of e.sa d))) e.highs ∙ rw t in
-          omega arith
+          let here : HoldsFor (holding_at p acts w) n = subst (λ x. HoldsFor (holding_at x acts w) n) (is_place-true q p t) may in
+          (here.holding, here.holds, here.may.below_high)
+      by_test false t = tt
 
-  entry-within : (spir : ℕ) (asked : KeeperAsk) (old : Option Entry) → IsWithin old → IsWithin (entry_after spir asked old)
-  entry-within spir (ask.Enter sa) (Some f) within e is = within e is
-  entry-within spir (ask.Enter sa) None within e is = by_test (sa.spir == spir) is
-    where
-      by_test : (b : Bool) → (if b then Some (fresh sa) else None) ≡ Some e → five_at e.highs c ≤ end_of e.sa c
-      by_test true is = subst (λ (x : Entry). five_at x.highs c ≤ end_of x.sa c) (same_Some (fresh sa) e is) (within_end sa c)
-      by_test false is = absurd (cc)
-  entry-within spir (ask.TakeOver asked member) old within e is = by_test (asked == spir) old within is
-    where
-      by_test : (b : Bool) (old : Option Entry) → IsWithin old → (if b then option_map (taken_over member) old else old) ≡ Some e → five_at e.highs c ≤ end_of e.sa c
-      by_test false old within is = within e is
-      by_test true None within is = absurd (cc)
-      by_test true (Some f) within is = subst (λ (x : Entry). five_at x.highs c ≤ end_of x.sa c) (same_Some (taken_over member f) e is) (within f refl)
-  entry-within spir (ask.Cover asked kind child epoch upto) old within e is = by_test (asked == spir) old within is
-    where
-      by_test : (b : Bool) (old : Option Entry) → IsWithin old → (if b then option_map (raised_at (counter_named kind child) upto) old else old) ≡ Some e → five_at e.highs c ≤ end_of e.sa c
-      by_test false old within is = within e is
-      by_test true None within is = absurd (cc)
-      by_test true (Some f) within is = subst (λ (x : Entry). five_at x.highs c ≤ end_of x.sa c) (same_Some (raised_at (counter_named kind child) upto f) e is) (subst (λ sa. five_at (raised_at (counter_named kind child) upto f).highs c ≤ end_of sa c) (sym (sa-raised (counter_named kind child) upto f)) (raised-within (counter_named kind child) upto f (within f refl)))
+  ends-seal : (p : Place) (place : Option Place) (n : ℕ) → MatchOption place ⊥ (λ q. HoldsFor (holding_at q acts w) n) → KeepsEnds (effect_of_use p place w n) (holding_at p acts)
+  ends-seal p None n may = tt
+  ends-seal p (Some q) n may = ends-use p q n may
 
-  call-within : (spir : ℕ) (old new : Book) (call : Call) → Enters old call new → IsWithin (entry_of spir old.entries) → IsWithin (entry_of spir new.entries)
-  call-within spir old new call enters within = ⊎_elim
-      (λ same. subst (λ (b : Book). IsWithin (entry_of spir b.entries)) (sym same) within)
-      (λ has. subst (λ (b : Book). IsWithin (entry_of spir b.entries)) (sym has.is) (subst (λ x. IsWithin x) (sym (entry-entered spir old call.asked)) (entry-within spir call.asked (entry_of spir old.entries) within)))
-      (answers-entry old new call.asked call.answer enters)
+  ends-move : (p : Place) (move : Move) → MayDo acts w move → IsAnswered move → KeepsEnds (effect_of p w move) (holding_at p acts)
+  ends-move p (Calls call) may is = ends-call p call may is
+  ends-move p (Uses q n) may is = ends-use p q n may
+  ends-move p (Seals key) may is = ends-seal p (place_of key.name) key.iv may
+  ends-move p Ends may is = tt
 
-  calls-within : (spir : ℕ) (calls : List Call) (old new : Book) → EntersAll old calls new → IsWithin (entry_of spir old.entries) → IsWithin (entry_of spir new.entries)
-  calls-within spir [] old new enters within = subst (λ (b : Book). IsWithin (entry_of spir b.entries)) (sym enters) within
-  calls-within spir (call ∷ calls) old new enters within = calls-within spir calls enters.0 new enters.2 (call-within spir old enters.0 call enters.1 within)
+-- so it is after these acts
+record WithinEnds (p : Place) (acts : List Act) : Type 0 where
+  pub highs : HighsWithin (holding_at p acts)
+  pub uses : AllByRecursion IsBelowEnd (uses_at p acts)
 
--- the high of a column, by the book of a trace, is at most the counter's end
-high-within : (past : List Turn) (book : Book) → Stands past book → (p : Place) → (column p book).high ≤ end_at p book
-high-within past book stands (Ours spir c) = go (entry_of spir book.entries) (calls-within c spir (calls_of past) empty book stands (λ e is. absurd (cc)))
+moves-within : (p : Place) (w : Actor) (moves : List Move) (acts : List Act) → MayDoAll acts w moves → AllByRecursion IsAnswered moves → WithinEnds p acts → WithinEnds p (acts_onto w moves acts)
+moves-within p w [] acts may answered within = within
+moves-within p w (move ∷ moves) acts may answered within =
+    let keeps : KeepsEnds (effect_of p w move) (holding_at p acts) = ends-move acts w p move may.0 answered.0 in
+    moves-within p w moves (record { by = w; move = move } ∷ acts) may.1 answered.1 (record {
+      highs = highs-after (holding_at p acts) (effect_of p w move) within.highs keeps;
+      uses = below-after (holding_at p acts) (uses_at p acts) (effect_of p w move) within.highs keeps within.uses;
+    })
+
+-- the calls of a turn are answered so
+calls-answered : (calls : List Call) (rest : List Move) → AreAnswers calls → AllByRecursion IsAnswered rest → AllByRecursion IsAnswered (map Calls calls ++ rest)
+calls-answered [] rest answers all = all
+calls-answered (call ∷ calls) rest answers all = (answers.0, calls-answered calls rest answers.1 all)
+
+use-answered : (move : Move) → IsUseOrEnd move → IsAnswered move
+use-answered (Calls call) is = absurd is
+use-answered (Uses place n) is = tt
+use-answered (Seals key) is = tt
+use-answered Ends is = tt
+
+seals-answered : (seals : List Seal) → AllByRecursion IsAnswered (map (λ seal. Seals (key_iv seal)) seals)
+seals-answered [] = tt
+seals-answered (seal ∷ seals) = (tt, seals-answered seals)
+
+within-run : (boxes : ℕ) (past : List Turn) → Local boxes past → (p : Place) → WithinEnds p (acts_of past)
+within-run boxes [] local p = record { highs = λ w h is. absurd (none p w h is); uses = no_use p }
   where
-    go : (x : Option Entry) → IsWithin c x → (column_ours c x).high ≤ (column_ours c x).end
-    go None within = omega arith
-    go (Some e) within = within e refl
-high-within past book stands (Theirs spir c) = go (entry_of spir book.entries)
-  where
-    go : (x : Option Entry) → (column_theirs c x).high ≤ (column_theirs c x).end
-    go None = omega arith
-    go (Some e) = omega arith
+    none : (p : Place) (w : Actor) (h : Holding) → holding_at p [] w ≡ Some h → ⊥
+    none p w h is = absurd (cc)
 
--- numbers of epochs that began lie below the high
-numbers-below : (column : Column) (end : ℕ) → ((i j : ℕ) → i ≤ j → column_mark column i ≤ column_mark column j) → column.high ≤ end → (uses : List Use) → AllByRecursion (IsUseOf column) uses → AllByRecursion (λ n. n < end) (map (λ u. u.number) uses)
-numbers-below column end rising high [] within = tt
-numbers-below column end rising high (u ∷ us) within = (below, numbers-below column end rising high us within.1)
-  where
-    below : u.number < end
-    below =
-        let a : u.number < column_mark column u.epoch = within.0.below in
-        let b : column_mark column u.epoch ≤ column_mark column (length column.bases) = rising u.epoch (length column.bases) within.0.begun in
-        let d : column_mark column (length column.bases) ≡ column.high = mark-high column (length column.bases) (omega arith) in
-        omega arith
+    no_use : (p : Place) → AllByRecursion IsBelowEnd (uses_at p [])
+    no_use p = tt
+within-run boxes (turn ∷ past) local p = moves-within p (actor_of turn) (moves_of turn) (acts_of past)
+    (turn-well boxes past turn local.0 local.1)
+    (calls-answered turn.calls (uses_of turn.event turn.step.verdict ++ map (λ seal. Seals (key_iv seal)) turn.step.seals) local.0.answers
+    (all-append IsAnswered (uses_of turn.event turn.step.verdict) (map (λ seal. Seals (key_iv seal)) turn.step.seals)
+    (all-each (uses_of turn.event turn.step.verdict) use-answered (are-uses turn.event turn.step.verdict)) (seals-answered turn.step.seals)))
+    (within-run boxes past local.1 p)
+
+-- no number reaches its counter's end, as the record gives it under which the number was used
+pub uses-end : (boxes : ℕ) (past : List Turn) → Local boxes past → (p : Place) → AllByRecursion IsBelowEnd (uses_at p (acts_of past))
+uses-end boxes past local p = (within-run boxes past local p).uses
+
+-- and an honest book gives the same end
+numbers-below : (end : ℕ) (uses : List Use) → AllByRecursion (λ u. u.number < end) uses → AllByRecursion (λ n. n < end) (map (λ u. u.number) uses)
+numbers-below end [] all = tt
+numbers-below end (u ∷ us) all = (all.0, numbers-below end us all.1)
 
 pub numbers-end : (boxes : ℕ) (past : List Turn) (book : Book) → Local boxes past → Stands past book → (p : Place) → AllByRecursion (λ n. n < end_at p book) (numbers_at p (acts_of past))
-numbers-end boxes past book local stands p =
-    let owned : IsOwned _ (uses_at p (acts_of past)) (column p book) = (owned-run boxes past book local stands).numbers p in
-    numbers-below (column p book) (end_at p book) owned.rising (high-within past book stands p) (uses_at p (acts_of past)) owned.within
+numbers-end boxes past book local stands p = numbers-below (end_at p book) (uses_at p (acts_of past))
+    (all-both (uses_at p (acts_of past)) (λ u of below. let a : u.end ≡ (column p book).end = of.end in let b : u.number < u.end = below in let c : u.number < end_at p book = omega arith in c)
+    ((owned-run boxes past book local stands).numbers p).within (uses-end boxes past local p))
 
 pub counters-end : (boxes : ℕ) (past : List Turn) (book : Book) → Local boxes past → Stands past book → (spir : ℕ) (c : Counter) → AllByRecursion (λ n. n < end_at (Ours spir c) book) (filter_map (number_of spir c) past)
 counters-end boxes past book local stands spir c = counters-hold (λ ns. AllByRecursion (λ n. n < end_at (Ours spir c) book) ns) tt boxes past local spir c (numbers-end boxes past book local stands (Ours spir c))

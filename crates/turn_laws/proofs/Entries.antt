@@ -6,7 +6,7 @@ use Rattle.std.specs.Option.{option_map}
 use Rattle.keeper_book.proofs.EntryLemmas.{entry_of-edit_other, entry_of-edit_same}
 use Rattle.keeper_book.specs.Book.{Book, Entry, edit_at, book_entered, entry_of, fresh, entry_raised, raised_at, taken_over}
 use Rattle.keeper_book.specs.CounterEnds.{end_of}
-use Rattle.keeper_book.specs.Counters.{AreWithinEnds, counter_named, five_at, with_five}
+use Rattle.keeper_book.specs.Counters.{counter_named, five_at, with_five}
 use Rattle.keeper_book.specs.declared.calls.KeeperAsk.{KeeperAsk}
 use Rattle.keeper_book.specs.declared.calls.KeeperAsk.TheVariants as ask
 use Rattle.keeper_book.specs.declared.counters.Counter.{Counter}

@@ -63,7 +63,7 @@ module _ (boxes : ℕ) (past : List Turn) (own_spir : (member spir : ℕ) (held 
   performed (event.Join fresh) y = yields-deed past step (event.Join fresh) calls (out.Member _) tt refl y
   performed (event.Own member spir) quietly = takes_over-deed past step member spir calls quietly
   performed (event.Draw member spir) draws = drawn member spir (state.held member spir) refl draws
-  performed (event.Crash member) y = Ended member (let said : _ = y.says.said in rw said refl) y.no_calls y.says.said y.says.quiet
+  performed (event.Crash member) y = Ended member (let said : _ = y.says.said in rw said refl) y.no_calls y.says.said refl y.says.quiet
   performed (event.Send parties.Peer spir payload) sends = peer_sends-deed past step spir payload calls sends.0 sends.1
   performed (event.Send (parties.Member member) spir payload) sends = sent member spir payload (state.held member spir) refl sends
   performed (event.Deliver which to) r = received (event.Deliver which to) to (record { performs = λ verdict. refl; receives = λ spir verdict. refl; uses_none = λ spir verdict. refl; sends_none = λ spir verdict. refl; no_entry = λ verdict. refl }) (arrives state.datagrams (event.Deliver which to)) r

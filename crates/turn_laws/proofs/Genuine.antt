@@ -1,5 +1,5 @@
 -- A covered genuine packet that comes to an end is accepted at first delivery.
-use Rattle.std.proofs.Common.{◌≡◌, ℕ, ◌-◌, ◌^◌, ◌<◌, Bool, true, false, not, Option, Some, None, MatchOption, Result, Ok, List, [], ◌∷◌, length, ⊎_elim, refl, ap, sym, ◌∙◌, subst, if◌then◌else◌}
+use Rattle.std.proofs.Common.{◌≡◌, ℕ, ◌^◌, ◌<◌, Bool, true, false, Option, Some, None, MatchOption, Result, Ok, List, [], ◌∷◌, length, ⊎_elim, refl, ap, sym, ◌∙◌, subst, if◌then◌else◌}
 use Rattle.std.proofs.lemmas.Bool.{cases_lt}
 use Rattle.esp_packets.specs.Laws.{Accepts, SealedPacketsOpen}
 use Rattle.esp_packets.specs.Packet.{spi_of}

@@ -5,13 +5,10 @@ use Rattle.std.proofs.lemmas.Option.{same_Some}
 use Rattle.std.specs.List.{AllByRecursion}
 use Rattle.std.specs.Option.{option_map}
 use Rattle.turn_laws.proofs.Columns.{mark-goes_on}
+use Rattle.turn_laws.proofs.Lists.{all-each}
 use Rattle.turn_laws.specs.Columns.{Column, ColumnGoesOn, column_mark}
-use Rattle.turn_laws.specs.Holdings.{Actor, Begins, Draws, Effect, End, Holding, IsHoldingOf, IsNew, IsNotIn, IsOwned, IsUseOf, MayUse, Nothing, Rises, Run, Use, drawn, epoch_of, holding_after, is_actor, raised_to, uses_after}
+use Rattle.turn_laws.specs.Holdings.{Actor, Begins, Draws, Effect, End, Holding, IsHoldingOf, IsNew, IsNotIn, IsOwned, IsUseOf, MayUse, Nothing, Rises, Run, Use, drawn, epoch_of, use_end, holding_after, is_actor, raised_to, uses_after}
 use Rattle.turn_rules.specs.Ends.{Member, Peer, Performer, is_performer}
-
-pub all-map : {X : Type 0} {P Q : X → Type 0} (xs : List X) → ((x : X) → P x → Q x) → AllByRecursion P xs → AllByRecursion Q xs
-all-map [] f all = tt
-all-map (x ∷ xs) f all = (f x all.0, all-map xs f all.1)
 
 pub is_performer-same : (a : Performer) → is_performer a a ≡ true
 is_performer-same Peer = refl
@@ -52,6 +49,7 @@ use-goes_on old new u goes of = record {
       let f : column_mark old (u.epoch - 1) ≤ u.number = of.from_base in
       omega arith;
   below = let a : u.number < column_mark old u.epoch = of.below in let b : column_mark old u.epoch ≤ column_mark new u.epoch = mark-goes_on old new goes u.epoch of.begun in omega arith;
+  end = of.end ∙ sym (goes.same_end (let a : u.epoch ≤ length old.bases = of.begun in let b : 1 ≤ u.epoch = of.some in omega arith));
 }
 
 -- A call of the keeper, answered, refused or failed: the column goes on.
@@ -60,7 +58,7 @@ owned-goes_on held uses old new owned goes = record {
   rising = goes.rising;
   holdings = λ w h e. holding-goes_on old new h goes (owned.holdings w h e);
   alone = owned.alone;
-  within = all-map uses (λ u. use-goes_on old new u goes) owned.within;
+  within = all-each uses (λ u. use-goes_on old new u goes) owned.within;
   known = owned.known;
   once = owned.once;
 }
@@ -79,7 +77,7 @@ owned-agrees held now uses column owned same = record {
 module _ (held : Actor → Option Holding) (uses : List Use) (column : Column) (owned : IsOwned held uses column) where
   -- no number of an epoch to come was used
   none_used : (epoch : ℕ) → length column.bases < epoch → (n : ℕ) → AllByRecursion (λ u. u.epoch ≡ epoch → u.number ≢ n) uses
-  none_used epoch later n = all-map uses (λ u of same. absurd (let a : u.epoch ≤ length column.bases = of.begun in omega arith)) owned.within
+  none_used epoch later n = all-each uses (λ u of same. absurd (let a : u.epoch ≤ length column.bases = of.begun in omega arith)) owned.within
 
   module _ (w : Actor) (to : Option Holding) where
     -- the holding of one end changes
@@ -107,7 +105,7 @@ owned-begins held uses old new w h owned goes fresh = record {
       (λ wasg. changed_cases held uses old owned w (Some h) u k ek
       (λ wu isk. absurd (later v g wasg (same ∙ sym (ap (λ (x : Holding). x.epoch) (same_Some h k isk)))))
       (λ wask. owned.alone v u g k wasg wask same));
-  within = all-map uses (λ u. use-goes_on old new u goes) owned.within;
+  within = all-each uses (λ u. use-goes_on old new u goes) owned.within;
   known = λ v g e n none. changed_cases held uses old owned w (Some h) v g e
       (λ same is. subst (λ (x : Holding). AllByRecursion (λ u. u.epoch ≡ x.epoch → u.number ≢ n) uses) (same_Some h g is) (none_used held uses old owned h.epoch is_later n))
       (λ was. owned.known v g was n none);
@@ -168,7 +166,7 @@ module _ (held : Actor → Option Holding) (uses : List Use) (column : Column) (
       }
 
   -- The use of a number from a holding's base on and below its high.
-  pub owned-drawn : (n : ℕ) → MayUse h n → IsOwned (changed held uses column owned w (Some (drawn n h))) (record { epoch = h.epoch; number = n } ∷ uses) column
+  pub owned-drawn : (n : ℕ) → MayUse h n → IsOwned (changed held uses column owned w (Some (drawn n h))) (record { epoch = h.epoch; number = n; end = h.end } ∷ uses) column
   owned-drawn n may = record {
     rising = owned.rising;
     holdings = holdings-changed (drawn n h) (record { some = was.some; begun = was.begun; base = was.base; high = was.high; end = was.end });
@@ -178,7 +176,7 @@ module _ (held : Actor → Option Holding) (uses : List Use) (column : Column) (
         (λ same is.
         let q : drawn n h ≡ g = same_Some (drawn n h) g is in
         let others : IsNotIn k (n ∷ h.numbers) = subst (λ (x : Holding). IsNotIn k x.numbers) (sym q) none in
-        subst (λ (x : Holding). AllByRecursion (λ u. u.epoch ≡ x.epoch → u.number ≢ k) (record { epoch = h.epoch; number = n } ∷ uses)) q
+        subst (λ (x : Holding). AllByRecursion (λ u. u.epoch ≡ x.epoch → u.number ≢ k) (record { epoch = h.epoch; number = n; end = h.end } ∷ uses)) q
         (((λ eq. others.0), owned.known w h holds k others.1)))
         (λ wasg. ((λ eq. other_epoch v g k e wasg none eq), owned.known v g wasg k none));
     once = (not_used uses owned.within (owned.known w h holds n may.unused), owned.once);
@@ -187,12 +185,13 @@ module _ (held : Actor → Option Holding) (uses : List Use) (column : Column) (
       was : IsHoldingOf column h
       was = owned.holdings w h holds
 
-      of : IsUseOf column (record { epoch = h.epoch; number = n })
+      of : IsUseOf column (record { epoch = h.epoch; number = n; end = h.end })
       of = record {
         some = was.some;
         begun = was.begun;
         from_base = let a : column_mark column (h.epoch - 1) ≡ h.base = was.base in let b : h.base ≤ n = may.from_base in omega arith;
         below = let a : n < h.high = may.below_high in let b : h.high ≤ column_mark column h.epoch = was.high in omega arith;
+        end = was.end;
       }
 
       -- the end that holds the epoch is this one, and it holds what it holds now
@@ -262,8 +261,8 @@ owned-after held uses old new (Rises w upto) owned keeps = by_held (held w) refl
 owned-after held uses old new (Draws w n) owned keeps =
     let h : Holding = keeps.1 in
     let e : held w ≡ Some h = keeps.2 in
-    subst (λ us. IsOwned (holding_after (Draws w n) held) us new) (ap (λ x. record { epoch = epoch_of x; number = n } ∷ uses) (sym e))
-    (owned-agrees (changed held uses new later w (Some (drawn n h))) (holding_after (Draws w n) held) (record { epoch = h.epoch; number = n } ∷ uses) new
+    subst (λ us. IsOwned (holding_after (Draws w n) held) us new) (ap (λ x. record { epoch = epoch_of x; number = n; end = use_end x } ∷ uses) (sym e))
+    (owned-agrees (changed held uses new later w (Some (drawn n h))) (holding_after (Draws w n) held) (record { epoch = h.epoch; number = n; end = h.end } ∷ uses) new
     (owned-drawn held uses new later w h e n keeps.3) (λ v. same h e v (is_actor w v) refl))
   where
     later : IsOwned held uses new

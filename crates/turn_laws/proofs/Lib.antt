@@ -8,7 +8,6 @@ mod Runs
 mod Names
 mod Uses
 mod Covers
-mod Arrivals
 mod Deeds
 mod Members
 mod Asking
@@ -32,3 +31,7 @@ mod Accepted
 mod Genuine
 mod Safe
 mod Ends
+mod Listed
+mod Called
+mod Replaced
+mod Receivers

@@ -7,7 +7,8 @@ use Rattle.events.specs.declared.verdict.Verdict.{Verdict}
 use Rattle.events.specs.declared.verdict.Verdict.TheVariants as out
 use Rattle.turn_laws.specs.Acts.{Calls, Ends, Move, Seals, Uses}
 use Rattle.turn_laws.specs.Places.{Place, place_of}
-use Rattle.turn_laws.specs.Turns.{drawn_by, received_at, uses_of}
+use Rattle.turn_laws.specs.Turns.{drawn_by, end_moves, received_at, uses_of}
+use Rattle.turn_rules.specs.States.{ended_by}
 
 abbrev pub IsUseOrEnd : Move → Type 0
 IsUseOrEnd (Calls call) = ⊥
@@ -23,8 +24,11 @@ received-uses : (place : Option Place) (n : ℕ) → AllByRecursion IsUseOrEnd (
 received-uses None n = tt
 received-uses (Some place) n = (tt, tt)
 
+end-is : (x : Option ℕ) → AllByRecursion IsUseOrEnd (end_moves x)
+end-is None = tt
+end-is (Some member) = (tt, tt)
+
 pub are-uses : (event : Event) (verdict : Verdict) → AllByRecursion IsUseOrEnd (uses_of event verdict)
 are-uses event (out.Number n) = drawn-uses event n
 are-uses event (out.Accepted name n next_header payload) = received-uses (place_of name) n
-are-uses event out.Down = (tt, tt)
-are-uses event verdict = tt
+are-uses event verdict = end-is (ended_by event verdict)

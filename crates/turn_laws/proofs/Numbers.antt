@@ -1,5 +1,5 @@
 -- The numbers of a counter that the turns of a run used.
-use Rattle.std.proofs.Common.{◌≡◌, ℕ, Bool, true, false, Option, Some, None, List, [], ◌∷◌, map, refl, ap, sym, ◌∙◌, subst, if◌then◌else◌}
+use Rattle.std.proofs.Common.{◌≡◌, ◌≢◌, ℕ, Bool, true, false, Option, Some, None, List, [], ◌∷◌, map, refl, ap, sym, ◌∙◌, subst, if◌then◌else◌}
 use Rattle.std.specs.List.{cons_option, filter_map}
 use Rattle.events.specs.declared.event.Event.{Event}
 use Rattle.events.specs.declared.turn.Step.{Step}
@@ -34,7 +34,7 @@ module _ (w : Actor) (held : Actor → Option Holding) (us : List Use) where
   theirs-uses c None = refl
   theirs-uses c (Some sa) = refl
 
-  call-uses : (p : Place) (call : Call) → uses_after (effect_of p w (Calls call)) held us ≡ us
+  pub call-uses : (p : Place) (call : Call) → uses_after (effect_of p w (Calls call)) held us ≡ us
   call-uses (Ours spir c) call = ours-uses c (granted spir call.asked (seen call)) (covered spir c call.asked (seen call))
   call-uses (Theirs spir c) call = theirs-uses c (entered_at spir call.asked (seen call))
 
@@ -45,7 +45,7 @@ calls-use p w (call ∷ calls) acts = calls-use p w calls (record { by = w; move
 -- the number of a place that a turn used
 abbrev pub spent : {past : List Turn} {event : Event} {calls : List Call} {step : Step} → Place → Outcome past event calls step → Option ℕ
 spent p (Idle rests) = None
-spent p (Over said quiet) = None
+spent p (Over member said ends quiet) = None
 spent p (Ours_used u it) = number_at p (Ours u.held.sa.spir u.c) u.number
 spent p (Theirs_used u) = number_at p (Theirs u.slot.sa.spir u.c) u.number
 
@@ -59,7 +59,7 @@ module _ (p : Place) (w : Actor) (acts : List Act) (event : Event) (step : Step)
 
   rest-numbers : {past : List Turn} {calls : List Call} (o : Outcome past event calls step) → numbers_at p (acts_onto w (rest_of event step) acts) ≡ cons_option (spent p o) (numbers_at p acts)
   rest-numbers (Idle rests) = ap (λ moves. numbers_at p (acts_onto w moves acts)) (rests-rest event step rests)
-  rest-numbers (Over said quiet) = ap (λ moves. numbers_at p (acts_onto w moves acts)) (over-rest event step said quiet)
+  rest-numbers (Over member said ends quiet) = ap (λ moves. numbers_at p (acts_onto w moves acts)) (over-rest event step member said ends quiet)
   rest-numbers (Ours_used u it) = spends-numbers (Ours u.held.sa.spir u.c) u.number it.spends
   rest-numbers (Theirs_used u) = spends-numbers (Theirs u.slot.sa.spir u.c) u.number u.spends
 
@@ -77,7 +77,7 @@ IsToldUsed spir c = (event : Event) (verdict : Verdict) → number_taken spir c 
 module _ (spir : ℕ) (c : Counter) (told_used : IsToldUsed spir c) where
   spent-used : (past : List Turn) (event : Event) (calls : List Call) (step : Step) (o : Outcome past event calls step) → spent (Ours spir c) o ≡ used spir c event step.verdict
   spent-used past event calls step (Idle rests) = sym (idle-used spir c event step.verdict rests.idle)
-  spent-used past event calls step (Over said quiet) = sym (ap (used spir c event) said ∙ over-used spir c event)
+  spent-used past event calls step (Over member said ends quiet) = sym (ap (used spir c event) said ∙ over-used spir c event)
   spent-used past event calls step (Ours_used u it) = sym (it.told spir c) ∙ told_used event step.verdict
   spent-used past event calls step (Theirs_used u) = sym (u.not_ours spir c)
 
@@ -88,6 +88,14 @@ module _ (spir : ℕ) (c : Counter) (told_used : IsToldUsed spir c) where
       turn-numbers (Ours spir c) past turn o
       ∙ (ap (cons_option (spent (Ours spir c) o)) (run-numbers boxes past local.1)
       ∙ ap (λ number. cons_option number (filter_map (number_of spir c) past)) (spent-used past turn.event turn.calls turn.step o))
+
+-- the numbers by which members send
+pub sent-numbers : (boxes : ℕ) (past : List Turn) → Local boxes past → (spir : ℕ) (c : Counter) → c ≢ counter.EspIn → numbers_at (Ours spir c) (acts_of past) ≡ filter_map (number_of spir c) past
+sent-numbers boxes past local spir counter.EspOut sent = run-numbers spir counter.EspOut (λ event verdict. refl) boxes past local
+sent-numbers boxes past local spir counter.EspIn sent = absurd (sent refl)
+sent-numbers boxes past local spir counter.Iv sent = run-numbers spir counter.Iv (λ event verdict. refl) boxes past local
+sent-numbers boxes past local spir counter.Ask sent = run-numbers spir counter.Ask (λ event verdict. refl) boxes past local
+sent-numbers boxes past local spir counter.Answer sent = run-numbers spir counter.Answer (λ event verdict. refl) boxes past local
 
 none-received : (spir : ℕ) (past : List Turn) → filter_map (number_of spir counter.EspIn) past ≡ []
 none-received spir [] = refl

@@ -1,5 +1,5 @@
 -- The peer may use the numbers that are open to it: the next one that it sends, and those that its window takes.
-use Rattle.std.proofs.Common.{◌≡◌, ℕ, ◌+◌, ◌^◌, ◌<◌, Bool, true, false, Option, Some, None, List, [], ◌∷◌, ◌++◌, map, option_to_list, append-nil, refl, ap, sym, ◌∙◌, subst, if◌then◌else◌}
+use Rattle.std.proofs.Common.{◌≡◌, ℕ, ◌+◌, ◌<◌, Bool, true, false, Option, Some, None, List, [], ◌∷◌, ◌++◌, map, option_to_list, append-nil, refl, ap, sym, ◌∙◌, subst, if◌then◌else◌}
 use Rattle.std.proofs.lemmas.Bool.{eq-eqb, ne_eqb}
 use Rattle.std.proofs.lemmas.Option.{same_Some}
 use Rattle.std.specs.List.{AllByRecursion, filter_map}
@@ -11,7 +11,7 @@ use Rattle.keeper_book.specs.declared.counters.Counter.TheVariants as counter
 use Rattle.keeper_book.specs.declared.records.Record.{Record}
 use Rattle.replay_set.specs.Window.{judged, window_of}
 use Rattle.replay_set.specs.declared.judgement.Judgement.TheVariants as judgement
-use Rattle.turn_laws.proofs.Arrivals.{came, came_in, number_theirs_of}
+use Rattle.turn_laws.specs.PeerTurns.{came, came_in, number_theirs_of}
 use Rattle.turn_laws.proofs.Lists.{all-append, all-both, all-each}
 use Rattle.turn_laws.proofs.Theirs.{told_theirs-held}
 use Rattle.turn_laws.proofs.Unused.{fresh-unused, next-unused}

@@ -1,5 +1,5 @@
 -- What a turn does beside its calls: nothing, or a member ends, or one number is used.
-use Rattle.std.proofs.Common.{◌≡◌, ℕ, ◌⊎◌, inl, inr, Option, None, Some, List, [], ◌∷◌, ⊎_elim, refl}
+use Rattle.std.proofs.Common.{◌≡◌, ℕ, ◌⊎◌, inl, inr, Option, None, Some, List, [], ◌∷◌, ⊎_elim, refl, ap}
 use Rattle.events.specs.declared.event.Event.{Event}
 use Rattle.events.specs.declared.event.Event.TheVariants as event
 use Rattle.events.specs.declared.event.Party.TheVariants as parties
@@ -13,17 +13,18 @@ use Rattle.keeper_book.specs.declared.counters.Counter.TheVariants as counter
 use Rattle.turn_laws.proofs.Covers.{ready-calls}
 use Rattle.turn_laws.proofs.Deeds.{Asked, Deed, Ended, IsIdle, MemberUses, PeerUses, Rested, Rests, Used, Used_theirs, UsesIt, rest_of}
 use Rattle.turn_laws.specs.Acts.{Ends}
-use Rattle.turn_laws.specs.Turns.{number_taken, uses_of}
+use Rattle.turn_laws.specs.Turns.{end_moves, number_taken, uses_of}
 use Rattle.turn_rules.specs.Draws.{reach_of}
 use Rattle.turn_rules.specs.Datagrams.{Delivery, delivery_of}
 use Rattle.turn_rules.specs.Held.{accepted, received, used, received_in}
 use Rattle.turn_rules.specs.Slots.{sent}
 use Rattle.turn_rules.specs.Tasks.{receipt}
+use Rattle.turn_rules.specs.States.{ended_by}
 use Rattle.turn_rules.specs.Steps.{IsQuiet}
 
 pub data Outcome (past : List Turn) (event : Event) (calls : List Call) (step : Step) : Type 0 where
   Idle : Rests step → Outcome past event calls step
-  Over : step.verdict ≡ out.Down → IsQuiet step → Outcome past event calls step
+  Over : (member : ℕ) → step.verdict ≡ out.Down → ended_by event out.Down ≡ Some member → IsQuiet step → Outcome past event calls step
   Ours_used : (u : MemberUses past event calls step) → UsesIt u.held.sa.spir u.c u.number event step → Outcome past event calls step
   Theirs_used : PeerUses past event calls step → Outcome past event calls step
 
@@ -40,23 +41,27 @@ module _ (past : List Turn) (event : Event) (calls : List Call) (step : Step) wh
   pub outcome-of : Deed past event calls step → Outcome past event calls step
   outcome-of (Rested none rests no_entry) = Idle rests
   outcome-of (Asked asks) = Idle asks.rests
-  outcome-of (Ended member by none said quiet) = Over said quiet
+  outcome-of (Ended member by none said ends quiet) = Over member said ends quiet
   outcome-of (Used u) = ⊎_elim Idle (Ours_used u) (used-outcome u)
   outcome-of (Used_theirs u) = Theirs_used u
 
   -- nothing is executed
   pub outcome-served : Outcome past event calls step → step.served ≡ None
   outcome-served (Idle rests) = rests.quiet.served
-  outcome-served (Over said quiet) = quiet.served
+  outcome-served (Over member said ends quiet) = quiet.served
   outcome-served (Ours_used u it) = it.spends.served
   outcome-served (Theirs_used u) = u.spends.served
 
--- a verdict that uses nothing
+-- a verdict that uses nothing, and ends no member
+idle-ended : (event : Event) (verdict : Verdict) → IsIdle verdict → ended_by event verdict ≡ None
+idle-ended (event.Crash member) out.Down idle = absurd idle
+idle-ended event verdict idle = refl
+
 idle-uses : (event : Event) (verdict : Verdict) → IsIdle verdict → uses_of event verdict ≡ []
 idle-uses event (out.Number n) idle = absurd idle
 idle-uses event (out.Accepted name n next_header payload) idle = absurd idle
 idle-uses event out.Down idle = absurd idle
-idle-uses event verdict idle = refl
+idle-uses event verdict idle = ap end_moves (idle-ended event verdict idle)
 
 idle-accepted : (spir : ℕ) (verdict : Verdict) → IsIdle verdict → accepted spir verdict ≡ None
 idle-accepted spir (out.Accepted name n next_header payload) idle = absurd idle
@@ -95,8 +100,8 @@ idle-taken spir c event verdict idle = refl
 pub rests-rest : (event : Event) (step : Step) → Rests step → rest_of event step ≡ []
 rests-rest event step rests = let idle : _ = idle-uses event step.verdict rests.idle in let none : _ = rests.quiet.seals in rw (idle, none)
 
-pub over-rest : (event : Event) (step : Step) → step.verdict ≡ out.Down → IsQuiet step → rest_of event step ≡ Ends ∷ []
-over-rest event step said quiet = let none : _ = quiet.seals in rw (said, none)
+pub over-rest : (event : Event) (step : Step) (member : ℕ) → step.verdict ≡ out.Down → ended_by event out.Down ≡ Some member → IsQuiet step → rest_of event step ≡ Ends ∷ []
+over-rest event step member said ends quiet = let none : _ = quiet.seals in rw (said, ends, none)
 
 -- the end of a member uses nothing
 pub over-used : (spir : ℕ) (c : Counter) (event : Event) → used spir c event out.Down ≡ None

@@ -23,7 +23,7 @@ use Rattle.keeper_book.specs.declared.calls.Call.{Call}
 use Rattle.keeper_book.specs.declared.counters.Counter.{Counter}
 use Rattle.keeper_book.specs.declared.counters.Counter.TheVariants as counter
 use Rattle.keeper_book.specs.declared.records.Record.{Record}
-use Rattle.turn_laws.proofs.Arrivals.{number_theirs}
+use Rattle.turn_laws.specs.PeerTurns.{number_theirs}
 use Rattle.turn_laws.proofs.Covers.{ready-as, ready-calls}
 use Rattle.turn_laws.proofs.Deeds.{Deed, IsIdle, Rested, Rests, Spends, Used, Used_theirs, UsesIt}
 use Rattle.turn_laws.proofs.Members.{member-performs, own-held, stop-of_member}

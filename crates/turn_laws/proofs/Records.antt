@@ -23,7 +23,7 @@ abbrev pub HaveTheirRecords : List Turn → Type 0
 HaveTheirRecords past = AllByRecursion (λ turn. AllByRecursion HasItsRecord turn.calls) past
 
 -- what holds of all that is found holds of what is found first
-found-holds : {X Y : Type 0} (P : Y → Type 0) (f : X → Option Y) (xs : List X) (y : Y) → AllByRecursion (λ x. (z : Y) → f x ≡ Some z → P z) xs → found f xs ≡ Some y → P y
+pub found-holds : {X Y : Type 0} (P : Y → Type 0) (f : X → Option Y) (xs : List X) (y : Y) → AllByRecursion (λ x. (z : Y) → f x ≡ Some z → P z) xs → found f xs ≡ Some y → P y
 found-holds P f [] y all is = absurd (cc)
 found-holds {X} {Y} P f (x ∷ xs) y all is = go (found-holds P f xs y all.1) (f x) refl is
   where
@@ -58,7 +58,7 @@ module _ (past : List Turn) (event : Event) (step : Step) where
   deed-records : (calls : List Call) → Deed past event calls step → AllByRecursion HasItsRecord calls
   deed-records calls (Rested none rests no_entry) = subst (λ calls. AllByRecursion HasItsRecord calls) (sym none) tt
   deed-records calls (Asked asks) = subst (λ calls. AllByRecursion HasItsRecord calls) (sym asks.one) (asks.own_record, tt)
-  deed-records calls (Ended member by none said quiet) = subst (λ calls. AllByRecursion HasItsRecord calls) (sym none) tt
+  deed-records calls (Ended member by none said ends quiet) = subst (λ calls. AllByRecursion HasItsRecord calls) (sym none) tt
   deed-records calls (Used u) = covers-records calls u
   deed-records calls (Used_theirs u) = subst (λ calls. AllByRecursion HasItsRecord calls) (sym u.no_calls) tt
 

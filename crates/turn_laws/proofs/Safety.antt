@@ -35,9 +35,18 @@ is_place-true (Theirs a c) (Theirs b d) e =
 is_place-true p q e = absurd (cc)
 
 -- the counter that was covered
-named-counter : (c : Counter) (named : Option Counter) → is_named c named ≡ true → named ≡ Some c
+pub named-counter : (c : Counter) (named : Option Counter) → is_named c named ≡ true → named ≡ Some c
 named-counter c None e = absurd (cc)
 named-counter c (Some d) e = ap Some (sym (is_counter-true c d e))
+
+-- what a call does at a place that was seen to fail
+pub failed_effect : (w : Actor) (p : Place) (asked : KeeperAsk) (why : KeeperFault) → Nothing ≡ effect_of_call p w asked (answer.Refused why)
+failed_effect w (Ours spir c) (ask.Enter sa) why = refl
+failed_effect w (Ours spir c) (ask.TakeOver asked member) why = refl
+failed_effect w (Ours spir c) (ask.Cover asked kind child epoch upto) why = refl
+failed_effect w (Theirs spir c) (ask.Enter sa) why = refl
+failed_effect w (Theirs spir c) (ask.TakeOver asked member) why = refl
+failed_effect w (Theirs spir c) (ask.Cover asked kind child epoch upto) why = refl
 
 module _ (acts : List Act) (old new : Book) (w : Actor) where
   module _ (rising : (p : Place) → IsRising (column p old)) (ends : (p : Place) (h : Holding) → holding_at p acts w ≡ Some h → h.end ≡ (column p old).end) where
@@ -84,20 +93,11 @@ module _ (acts : List Act) (old new : Book) (w : Actor) where
         by_test false t = rw t goes
     keeps-answered p asked answered may a = column-goes_on old new asked answered a p (rising p)
 
-    -- what a call does at a place that was seen to fail
-    failed_effect : (p : Place) (asked : KeeperAsk) (why : KeeperFault) → Nothing ≡ effect_of_call p w asked (answer.Refused why)
-    failed_effect (Ours spir c) (ask.Enter sa) why = refl
-    failed_effect (Ours spir c) (ask.TakeOver asked member) why = refl
-    failed_effect (Ours spir c) (ask.Cover asked kind child epoch upto) why = refl
-    failed_effect (Theirs spir c) (ask.Enter sa) why = refl
-    failed_effect (Theirs spir c) (ask.TakeOver asked member) why = refl
-    failed_effect (Theirs spir c) (ask.Cover asked kind child epoch upto) why = refl
-
     keeps-call : (p : Place) (call : Call) → MayAsk acts w call.asked → Enters old call new → Keeps (effect_of p w (Calls call)) (holding_at p acts) (column p old) (column p new)
     keeps-call p call may enters = by_test call.hidden refl
       where
         by_test : (b : Bool) → call.hidden ≡ b → Keeps (effect_of_call p w call.asked (seen call)) (holding_at p acts) (column p old) (column p new)
-        by_test true t = rw t (subst (λ e. Keeps e (holding_at p acts) (column p old) (column p new)) (failed_effect p call.asked fault.Failed) (column-goes_on old new call.asked call.answer enters p (rising p)))
+        by_test true t = rw t (subst (λ e. Keeps e (holding_at p acts) (column p old) (column p new)) (failed_effect w p call.asked fault.Failed) (column-goes_on old new call.asked call.answer enters p (rising p)))
         by_test false t = rw t (keeps-answered p call.asked call.answer may enters)
 
   -- a number is used at a place, and at no other

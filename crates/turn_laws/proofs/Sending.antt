@@ -16,7 +16,7 @@ use Rattle.keeper_book.specs.Counters.{five_at}
 use Rattle.keeper_book.specs.declared.calls.Call.{Call}
 use Rattle.keeper_book.specs.declared.counters.Counter.{Counter}
 use Rattle.keeper_book.specs.declared.counters.Counter.TheVariants as counter
-use Rattle.turn_laws.proofs.Arrivals.{number_theirs}
+use Rattle.turn_laws.specs.PeerTurns.{number_theirs}
 use Rattle.turn_laws.proofs.Covers.{ready-as, ready-calls}
 use Rattle.turn_laws.proofs.Deeds.{Deed, Rested, Rests, Spends, Used, Used_theirs, UsesIt, says-rests}
 use Rattle.turn_laws.proofs.Members.{member-performs, stop-of_member}
@@ -32,13 +32,19 @@ use Rattle.turn_rules.specs.MemberPackets.{SendsData, outbound_of}
 use Rattle.turn_rules.specs.Packets.{Outbound, SendsEsp}
 use Rattle.turn_rules.specs.Safe.{Packet, accepted_as}
 use Rattle.turn_rules.specs.Slots.{PeerSends, Slot, SlotSends, first_slot, has_spir, slot_outbound, slots_by}
+use Rattle.turn_rules.specs.States.{ended_by}
 use Rattle.turn_rules.specs.Steps.{Says}
+
+-- what is sent ends no member
+sent-ends : (event : Event) (n : ℕ) → ended_by event (out.Sent n) ≡ None
+sent-ends (event.Crash member) n = refl
+sent-ends event n = refl
 
 -- the seal of a packet uses its number
 sends-spends : (event : Event) (outbound : Outbound) (place : Place) (n : ℕ) (payload : List ℕ) (step : Step) → place_of outbound.key.name ≡ Some place → SendsEsp outbound n payload step → Spends place n event step
 sends-spends event outbound place n payload step named sends = record {
   served = sends.served;
-  uses_it = Seals_it (key_iv sends.seal) (ap place_of sends.named ∙ named) sends.iv (let said : _ = sends.said in let seals : _ = sends.seals in rw (said, seals));
+  uses_it = Seals_it (key_iv sends.seal) (ap place_of sends.named ∙ named) sends.iv (let said : _ = sends.said in let seals : _ = sends.seals in let none : _ = sent-ends event n in rw (said, seals, none));
   of_packet = λ packet is. absurd (no_packet packet (ap accepted_as (sym sends.said) ∙ is));
 }
   where

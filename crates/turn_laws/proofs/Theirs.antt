@@ -12,7 +12,7 @@ use Rattle.keeper_book.specs.declared.calls.Call.{Call}
 use Rattle.keeper_book.specs.declared.counters.Counter.{Counter}
 use Rattle.keeper_book.specs.declared.counters.Counter.TheVariants as counter
 use Rattle.keeper_book.specs.declared.records.Record.{Record}
-use Rattle.turn_laws.proofs.Arrivals.{came, came_in, number_theirs, number_theirs_of}
+use Rattle.turn_laws.specs.PeerTurns.{came, came_in, number_theirs, number_theirs_of, told_theirs}
 use Rattle.turn_laws.proofs.Deeds.{Asked, Asks, Deed, Ended, IsIdle, PeerUses, Rested, Rests, Used, Used_theirs, rest_of}
 use Rattle.turn_laws.proofs.Holdings.{is_actor-same}
 use Rattle.turn_laws.proofs.Outcomes.{idle-received, idle-sent, rests-rest}
@@ -28,16 +28,6 @@ use Rattle.turn_rules.specs.Held.{first_some, found}
 use Rattle.turn_rules.specs.Local.{Local}
 use Rattle.turn_rules.specs.Peers.{record_entered, entered_in}
 use Rattle.turn_rules.specs.Slots.{is_entered, since_entered}
-
--- what the peer's own turns say that it holds of a counter
-abbrev pub told_theirs : ℕ → Counter → List Turn → Option Holding
-told_theirs spir c past = option_map (λ sa. record {
-  epoch = 1;
-  base = start_of sa c;
-  high = end_of sa c;
-  end = end_of sa c;
-  numbers = filter_map (number_theirs_of spir c) (since_entered spir past);
-}) (found (came_in spir) past)
 
 -- a holding with one number more, or none
 abbrev with_number : Option ℕ → Holding → Holding
@@ -127,7 +117,7 @@ module _ (spir : ℕ) (c : Counter) (w : Actor) where
     theirs-turn : (calls : List Call) → Deed past event calls step → performer_at event step.verdict ≡ Some Peer → TellsTheirs (map Calls calls ++ rest_of event step)
     theirs-turn calls (Rested none rests no_entry) by = rw none (rested-theirs rests no_entry)
     theirs-turn calls (Asked asks) by = let one : _ = asks.one in rw one (asked-theirs asks)
-    theirs-turn calls (Ended member by_it none said quiet) by = not-both member (performer_at event step.verdict) by_it by
+    theirs-turn calls (Ended member by_it none said ends quiet) by = not-both member (performer_at event step.verdict) by_it by
     theirs-turn calls (Used u) by = not-both u.member (performer_at event step.verdict) u.by_it by
     theirs-turn calls (Used_theirs u) by = let none : _ = u.no_calls in rw none (used-theirs u)
 

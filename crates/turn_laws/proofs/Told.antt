@@ -30,6 +30,7 @@ use Rattle.turn_rules.specs.Draws.{reach_of}
 use Rattle.turn_rules.specs.Ends.{Member, Peer, Performer, is_by, is_end, own, performer, performer_at}
 use Rattle.turn_rules.specs.Held.{covers_in, covers_of, first_some, found, grant_in, grant_of, granted, greatest, since}
 use Rattle.turn_rules.specs.Local.{Local}
+use Rattle.turn_rules.specs.States.{ended_by}
 use Rattle.turn_rules.specs.Steps.{IsQuiet}
 
 -- what a turn makes of what is held, where it grants nothing
@@ -92,9 +93,9 @@ module _ (spir : ℕ) (c : Counter) (w : Actor) (event : Event) (step : Step) wh
       ∙ (noted_none (holding_at (Ours spir c) acts w)
       ∙ ap (λ number. option_map (noted number) (holding_at (Ours spir c) acts w)) (sym (idle-taken spir c event step.verdict rests.idle)))
 
-  over-notes : step.verdict ≡ out.Down → IsQuiet step → Notes spir c w event step
-  over-notes said quiet acts =
-      ap (λ moves. holding_at (Ours spir c) (acts_onto w moves acts) w) (over-rest event step said quiet)
+  over-notes : (member : ℕ) → step.verdict ≡ out.Down → ended_by event out.Down ≡ Some member → IsQuiet step → Notes spir c w event step
+  over-notes member said ends quiet acts =
+      ap (λ moves. holding_at (Ours spir c) (acts_onto w moves acts) w) (over-rest event step member said ends quiet)
       ∙ (noted_none (holding_at (Ours spir c) acts w)
       ∙ ap (λ number. option_map (noted number) (holding_at (Ours spir c) acts w)) (sym (ap (number_taken spir c event) said ∙ over-taken spir c event)))
 
@@ -111,7 +112,7 @@ module _ (spir : ℕ) (c : Counter) (w : Actor) (event : Event) (step : Step) wh
 -- so it is in each turn of a member
 member-notes : (spir : ℕ) (c : Counter) (w : Actor) (member : ℕ) (past : List Turn) (event : Event) (calls : List Call) (step : Step) → performer_at event step.verdict ≡ Some (Member member) → Outcome past event calls step → Notes spir c w event step
 member-notes spir c w member past event calls step by (Idle rests) = idle-notes spir c w event step rests
-member-notes spir c w member past event calls step by (Over said quiet) = over-notes spir c w event step said quiet
+member-notes spir c w member past event calls step by (Over ended said ends quiet) = over-notes spir c w event step ended said ends quiet
 member-notes spir c w member past event calls step by (Ours_used u it) = use-notes spir c w event step u.held.sa.spir u.c u.number it
 member-notes spir c w member past event calls step by (Theirs_used u) = absurd (apart (sym u.by_it ∙ by))
   where
@@ -136,7 +137,7 @@ none-made spir calls none = subst (λ cs. GrantNone spir cs) (sym none) tt
 deed-plain : (spir : ℕ) (c : Counter) (past : List Turn) (event : Event) (calls : List Call) (step : Step) → Deed past event calls step → IsPlain spir c event calls step.verdict
 deed-plain spir c past event calls step (Rested none rests no_entry) = inl (none-made spir calls none)
 deed-plain spir c past event calls step (Asked asks) = inr (asks.call, asks.one, idle-taken spir c event step.verdict asks.rests.idle)
-deed-plain spir c past event calls step (Ended member by none said quiet) = inl (none-made spir calls none)
+deed-plain spir c past event calls step (Ended member by none said ends quiet) = inl (none-made spir calls none)
 deed-plain spir c past event calls step (Used_theirs u) = inl (none-made spir calls u.no_calls)
 deed-plain spir c past event calls step (Used u) = inl (ready-calls (GrantNone spir) (reach_of u.held u.c) u.number
     (λ why rest. (rest ≡ []) × Rests step)

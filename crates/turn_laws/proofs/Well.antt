@@ -127,7 +127,7 @@ module _ (past : List Turn) (acts : List Act) (agrees : (member spir : ℕ) (c :
   pub deed-well : Deed past event calls step → MayDoAll acts (actor_as (performer_at event step.verdict)) (map Calls calls ++ rest_of event step)
   deed-well (Rested none rests no_entry) = let quiet : _ = rests-rest event step rests in rw (none, quiet) tt
   deed-well (Asked asks) = let quiet : _ = rests-rest event step asks.rests in let one : _ = asks.one in rw (one, quiet) (asks.may acts (actor_as (performer_at event step.verdict)), tt)
-  deed-well (Ended member by none said quiet) = let over : _ = over-rest event step said quiet in rw (none, over) (tt, tt)
+  deed-well (Ended member by none said ends quiet) = let over : _ = over-rest event step member said ends quiet in rw (none, over) (tt, tt)
   deed-well (Used u) =
       let so : (h : Holding) × Tells (own (Member u.member) past) u.held.sa.spir u.c u.held h = tells (window_by past) (own (Member u.member) past) u.held.sa.spir u.c u.held u.is_held in
       subst (λ v. MayDoAll acts v (map Calls calls ++ rest_of event step)) (sym (ap actor_as u.by_it))

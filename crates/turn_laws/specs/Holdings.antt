@@ -34,10 +34,11 @@ pub record MayUse (h : Holding) (n : ℕ) : Type 0 where
   pub below_high : n < h.high
   pub unused : IsNotIn n h.numbers
 
--- a number that was used, and in which epoch
+-- a number that was used, in which epoch, and the end of its counter, as the record of what was held gave it
 pub record Use : Type 0 where
   pub epoch : ℕ
   pub number : ℕ
+  pub end : ℕ
 
 -- what a move does to the numbers of one counter
 pub data Effect : Type 0 where
@@ -66,9 +67,14 @@ abbrev pub epoch_of : Option Holding → ℕ
 epoch_of None = 0
 epoch_of (Some h) = h.epoch
 
+-- and no number lies below 0
+abbrev pub use_end : Option Holding → ℕ
+use_end None = 0
+use_end (Some h) = h.end
+
 -- the numbers that were used, the newest first
 abbrev pub uses_after : Effect → (Actor → Option Holding) → List Use → List Use
-uses_after (Draws w n) held uses = record { epoch = epoch_of (held w); number = n } ∷ uses
+uses_after (Draws w n) held uses = record { epoch = epoch_of (held w); number = n; end = use_end (held w) } ∷ uses
 uses_after effect held uses = uses
 
 -- an epoch that began, its base, no number of the next one, and the end of the counter
@@ -85,6 +91,7 @@ pub record IsUseOf (column : Column) (u : Use) : Type 0 where
   pub begun : u.epoch ≤ length column.bases
   pub from_base : column_mark column (u.epoch - 1) ≤ u.number
   pub below : u.number < column_mark column u.epoch
+  pub end : u.end ≡ column.end
 
 -- a holding of the epoch that begins as the column goes on: nobody holds it yet, and no number of it was used
 pub record IsNew (old new : Column) (h : Holding) : Type 0 where

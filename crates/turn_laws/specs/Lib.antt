@@ -1,7 +1,10 @@
 pub mod Acts
 pub mod Columns
 pub mod Holdings
+pub mod Listed
 pub mod OwnTurns
 pub mod Owned
+pub mod PeerTurns
 pub mod Places
+pub mod Replaced
 pub mod Turns

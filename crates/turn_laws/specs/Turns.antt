@@ -20,6 +20,7 @@ use Rattle.turn_laws.specs.Places.{Ours, Place, place_of}
 use Rattle.turn_rules.specs.Ends.{Performer, performer}
 use Rattle.turn_rules.specs.Held.{found, grant_of, high_of, received, since, used}
 use Rattle.turn_rules.specs.Safe.{KeyIv}
+use Rattle.turn_rules.specs.States.{ended_by}
 
 -- a number that was drawn
 abbrev pub drawn_by : Event → ℕ → List Move
@@ -31,12 +32,16 @@ abbrev pub received_at : Option Place → ℕ → List Move
 received_at None n = []
 received_at (Some p) n = Uses p n ∷ []
 
+-- the end of a member
+abbrev pub end_moves : Option ℕ → List Move
+end_moves None = []
+end_moves (Some member) = Ends ∷ []
+
 -- the numbers that an event used without a seal, or the end of a member
 abbrev pub uses_of : Event → Verdict → List Move
 uses_of event (out.Number n) = drawn_by event n
 uses_of event (out.Accepted name n next_header payload) = received_at (place_of name) n
-uses_of event out.Down = Ends ∷ []
-uses_of event verdict = []
+uses_of event verdict = end_moves (ended_by event verdict)
 
 abbrev pub key_iv : Seal → KeyIv
 key_iv seal = record { name = seal.name; iv = seal.iv }

@@ -1,22 +1,28 @@
 //! The laws. Each is the contract of a function that does nothing.
 
 ghost use Rattle.std.specs.Prelude.{◌≡◌, ◌≢◌, ◌<◌, ◌≤◌, ◌⊎◌, ℕ, Option, Some, None, List, [], ◌∷◌};
-ghost use Rattle.std.specs.List.{AllByRecursion, filter_map};
+ghost use Rattle.std.specs.List.{AllByRecursion, filter_map, flat_map};
 ghost use Rattle.events.specs.declared.turn.Turn.{Turn};
-ghost use Rattle.keeper_book.specs.Book.{Book, Enters, book_after};
-ghost use Rattle.keeper_book.specs.Counters.{five_at};
+ghost use Rattle.keeper_book.specs.Book.{Answers, Book, Enters, book_after};
+ghost use Rattle.keeper_book.specs.Counters.{counter_named, five_at};
 ghost use Rattle.keeper_book.specs.declared.calls.Call.{Call};
+ghost use Rattle.ha_base.specs.declared.counter_names.Kind.{Kind};
 ghost use Rattle.keeper_book.specs.declared.calls.KeeperAnswer.TheVariants as answer;
+ghost use Rattle.keeper_book.specs.declared.calls.KeeperAsk.TheVariants as ask;
 ghost use Rattle.keeper_book.specs.declared.counters.Counter.{Counter};
+ghost use Rattle.keeper_book.specs.declared.counters.Counter.TheVariants as counter;
 ghost use Rattle.keeper_book.specs.declared.faults.KeeperFault.TheVariants as fault;
-ghost use Rattle.turn_laws.specs.Acts.{Act, Calls, Ends, MayAsk, MayDo, MayDoAll, Move, holding_at, numbers_at, acts_onto};
+ghost use Rattle.turn_laws.specs.Acts.{Act, Calls, Ends, MayAsk, MayDo, MayDoAll, Move, holding_at, numbers_at, acts_onto, uses_at};
 ghost use Rattle.turn_laws.specs.Columns.{Column, ColumnGoesOn, column_mark};
 ghost use Rattle.turn_laws.specs.Holdings.{Actor, Begins, Draws, End, Holding, IsNew, IsOwned, MayUse, Rises, Use, holding_after, uses_after};
+ghost use Rattle.turn_laws.specs.Listed.{listed_at};
 ghost use Rattle.turn_laws.specs.OwnTurns.{OwnTurnsTell};
 ghost use Rattle.turn_laws.specs.Owned.{Owned, Writes};
-ghost use Rattle.turn_laws.specs.Places.{Ours, Place, end_at};
+ghost use Rattle.turn_laws.specs.PeerTurns.{told_theirs};
+ghost use Rattle.turn_laws.specs.Places.{Ours, Place, Theirs, end_at};
+ghost use Rattle.turn_laws.specs.Replaced.{AreReplacedLater};
 ghost use Rattle.turn_laws.specs.Turns.{AreOwned, actor_of, acts_of, moves_of, told};
-ghost use Rattle.turn_rules.specs.Ends.{Member, own};
+ghost use Rattle.turn_rules.specs.Ends.{Member, Peer, own};
 ghost use Rattle.turn_rules.specs.Genuine.{AreAccepted};
 ghost use Rattle.turn_rules.specs.Held.{Held, held_by, number_of, window_by};
 ghost use Rattle.turn_rules.specs.Local.{Local, Stands};
@@ -70,10 +76,12 @@ pub fn others_change_nothing()
     ensures { (p : Place) (w v : Actor) → w ≢ v → (moves : List Move) (acts : List Act) → holding_at p (acts_onto w moves acts) v ≡ holding_at p acts v }
 {}
 
-/// What a member's own turns say that it holds of a counter is what the moves of all turns make of it.
+/// What an end's own turns say that it holds of a counter is what the moves of all turns make of it.
 pub fn own_turns_tell_holdings()
-    ensures { (boxes : ℕ) (past : List Turn) → Local boxes past → (member spir : ℕ) (c : Counter)
+    ensures members { (boxes : ℕ) (past : List Turn) → Local boxes past → (member spir : ℕ) (c : Counter)
         → told spir c (own (Member member) past) ≡ holding_at (Ours spir c) (acts_of past) (End (Member member)) }
+    ensures peer { (boxes : ℕ) (past : List Turn) → Local boxes past → (spir : ℕ) (c : Counter)
+        → told_theirs spir c (own Peer past) ≡ holding_at (Theirs spir c) (acts_of past) (End Peer) }
 {}
 
 /// What the turns of a run make of what its ends hold, each end's own turns tell.
@@ -83,7 +91,7 @@ pub fn own_turns_tell_states()
 
 /// What each event does is a list of moves that may be made one after another.
 pub fn turns_are_moves()
-    ensures { (boxes : ℕ) (past : List Turn) (book : Book) (turn : Turn) → Local boxes (turn ∷ past) → Stands past book
+    ensures { (boxes : ℕ) (past : List Turn) (turn : Turn) → Local boxes (turn ∷ past)
         → MayDoAll (acts_of past) (actor_of turn) (moves_of turn) }
 {}
 
@@ -91,6 +99,15 @@ pub fn turns_are_moves()
 /// book's epochs belong to one end each.
 pub fn all_is_owned()
     ensures { (boxes : ℕ) (past : List Turn) (book : Book) → Local boxes past → Stands past book → AreOwned past book }
+{}
+
+/// The numbers of a counter that the laws speak of are exactly those that the lists of the trace have: the numbers that were
+/// drawn, those of accepted packets, and the IVs of seals. Of a counter that members send by they are those from which the
+/// next number is told.
+pub fn uses_are_told()
+    ensures listed { (past : List Turn) (p : Place) → numbers_at p (acts_of past) ≡ flat_map (listed_at p) past }
+    ensures sent { (boxes : ℕ) (past : List Turn) → Local boxes past → (spir : ℕ) (c : Counter) → c ≢ counter.EspIn
+        → numbers_at (Ours spir c) (acts_of past) ≡ filter_map (number_of spir c) past }
 {}
 
 /// No number of a counter is used twice, by whatever ends: of no counter of the cluster or the peer, and in particular of no
@@ -102,8 +119,10 @@ pub fn no_number_twice()
         → (spir : ℕ) (c : Counter) → IsEachOnce (filter_map (number_of spir c) past) }
 {}
 
-/// No number reaches its counter's end.
+/// No number reaches its counter's end, as the record of what was held gives it, whatever the keeper's book is. An honest
+/// book gives the same end.
 pub fn no_number_past_its_end()
+    ensures uses { (boxes : ℕ) (past : List Turn) → Local boxes past → (p : Place) → AllByRecursion (λ u. u.number < u.end) (uses_at p (acts_of past)) }
     ensures places { (boxes : ℕ) (past : List Turn) (book : Book) → Local boxes past → Stands past book
         → (p : Place) → AllByRecursion (λ n. n < end_at p book) (numbers_at p (acts_of past)) }
     ensures counters { (boxes : ℕ) (past : List Turn) (book : Book) → Local boxes past → Stands past book
@@ -119,6 +138,23 @@ pub fn holdings_are_apart()
     ensures highs { (boxes : ℕ) (past : List Turn) (book : Book) → Local boxes past → Stands past book
         → (m k spir : ℕ) (h g : Held) → held_by (window_by past) (own (Member m) past) spir ≡ Some h → held_by (window_by past) (own (Member k) past) spir ≡ Some g
         → h.epoch < g.epoch → (c : Counter) → five_at h.highs c ≤ five_at g.bases c }
+{}
+
+/// With an honest book a cover that is answered `Replaced` is one of an earlier epoch than the answer names: that of the
+/// holding of the end that asked.
+pub fn replaced_by_later_epochs()
+    ensures holdings { (acts : List Act) (w : Actor) (old new : Book) (spir : ℕ) (kind : Kind) (child epoch upto later : ℕ) → Owned acts old
+        → MayAsk acts w (ask.Cover spir kind child epoch upto)
+        → Answers old (ask.Cover spir kind child epoch upto) (answer.Refused (fault.Replaced later)) new
+        → (c : Counter) (h : Holding) → counter_named kind child ≡ Some c → holding_at (Ours spir c) acts w ≡ Some h → h.epoch < later }
+    ensures calls { (boxes : ℕ) (past : List Turn) (book : Book) → Local boxes past → Stands past book → AreReplacedLater past }
+{}
+
+/// With an honest book no two associations that members hold receive at one SPI.
+pub fn one_receives_at_an_spi()
+    ensures { (boxes : ℕ) (past : List Turn) (book : Book) → Local boxes past → Stands past book
+        → (m k a b : ℕ) (h g : Held) → held_by (window_by past) (own (Member m) past) a ≡ Some h → held_by (window_by past) (own (Member k) past) b ≡ Some g
+        → h.sa.spi_in ≡ g.sa.spi_in → a ≡ b }
 {}
 
 /// No key and IV seals two plaintexts, whatever ends seal: an IV is a number of its key's counter.

@@ -1,5 +1,5 @@
 -- What an end does with a covered genuine packet: it opens, and where its number is acknowledged it is taken.
-use Rattle.std.proofs.Common.{◌≡◌, ℕ, ◌^◌, ◌<◌, ◌⊎◌, List, [], ◌∷◌, length, Option, Some, Result, Err, ⊎_elim, refl, ap, sym, ◌∙◌, arith, subst}
+use Rattle.std.proofs.Common.{◌≡◌, ℕ, ◌<◌, ◌⊎◌, List, [], ◌∷◌, length, Option, Some, Result, Err, ⊎_elim, refl, ap, sym, ◌∙◌, arith, subst}
 use Rattle.std.proofs.lemmas.Bool.{cases_lt}
 use Rattle.std.specs.List.{AllByRecursion}
 use Rattle.esp_packets.specs.Laws.{Accepts, SealedPacketsOpen}

@@ -1,5 +1,8 @@
-use Rattle.turn_laws.proofs.Ends.{counters-end, numbers-end}
+use Rattle.turn_laws.proofs.Ends.{counters-end, numbers-end, uses-end}
 use Rattle.turn_laws.proofs.laws.no_number_past_its_end.Goals as goal
+
+pub returns-clause-uses : goal.returns-clause-uses
+returns-clause-uses c = uses-end
 
 pub returns-clause-places : goal.returns-clause-places
 returns-clause-places c = numbers-end

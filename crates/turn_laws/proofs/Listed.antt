@@ -1,0 +1,112 @@
+-- The numbers of a place that acts use are those that the lists of the trace have.
+use Rattle.std.proofs.Common.{◌≡◌, ℕ, Bool, true, false, Option, Some, None, option_to_list, List, [], ◌∷◌, ◌++◌, map, append_assoc, append-nil, refl, ap, sym, ◌∙◌, if◌then◌else◌}
+use Rattle.std.specs.Prelude.{reverse}
+use Rattle.std.proofs.lemmas.List.{reverse-append}
+use Rattle.std.specs.List.{cons_option, filter_map, flat_map}
+use Rattle.events.specs.declared.event.Event.{Event}
+use Rattle.events.specs.declared.event.Event.TheVariants as event
+use Rattle.events.specs.declared.seals.Seal.{Seal}
+use Rattle.events.specs.declared.turn.Turn.{Turn}
+use Rattle.events.specs.declared.verdict.Verdict.{Verdict}
+use Rattle.events.specs.declared.verdict.Verdict.TheVariants as out
+use Rattle.keeper_book.specs.declared.calls.Call.{Call}
+use Rattle.turn_laws.proofs.Numbers.{call-uses}
+use Rattle.turn_laws.specs.Acts.{Act, Calls, Ends, Move, Seals, Uses, acts_onto, effect_of_use, holding_at, numbers_at, uses_at}
+use Rattle.turn_laws.specs.Holdings.{Actor, Draws, Nothing, uses_after}
+use Rattle.turn_laws.specs.Listed.{drawn_at, drew, ivs_at, listed_at, number_where, packet_at}
+use Rattle.turn_laws.specs.Places.{Place, is_place, place_of}
+use Rattle.turn_laws.specs.Turns.{actor_of, acts_of, drawn_by, end_moves, key_iv, moves_of, received_at, uses_of}
+use Rattle.turn_rules.specs.Safe.{accepted_as, accepted_in}
+use Rattle.turn_rules.specs.States.{ended_by}
+
+module _ (p : Place) where
+  -- the number of the place that a move uses
+  abbrev number_moved : Move → Option ℕ
+  number_moved (Calls call) = None
+  number_moved (Uses q n) = number_where p (Some q) n
+  number_moved (Seals key) = number_where p (place_of key.name) key.iv
+  number_moved Ends = None
+
+  abbrev moved : List Move → List ℕ
+  moved moves = filter_map number_moved moves
+
+  use-number : (w : Actor) (acts : List Act) (q : Option Place) (n : ℕ) → map (λ u. u.number) (uses_after (effect_of_use p q w n) (holding_at p acts) (uses_at p acts)) ≡ cons_option (number_where p q n) (numbers_at p acts)
+  use-number w acts None n = refl
+  use-number w acts (Some q) n = by_test (is_place q p)
+    where
+      by_test : (b : Bool) → map (λ u. u.number) (uses_after (if b then Draws w n else Nothing) (holding_at p acts) (uses_at p acts)) ≡ cons_option (if b then Some n else None) (numbers_at p acts)
+      by_test true = refl
+      by_test false = refl
+
+  move-number : (w : Actor) (move : Move) (acts : List Act) → numbers_at p (record { by = w; move = move } ∷ acts) ≡ cons_option (number_moved move) (numbers_at p acts)
+  move-number w (Calls call) acts = ap (λ us. map (λ u. u.number) us) (call-uses w (holding_at p acts) (uses_at p acts) p call)
+  move-number w (Uses q n) acts = use-number w acts (Some q) n
+  move-number w (Seals key) acts = use-number w acts (place_of key.name) key.iv
+  move-number w Ends acts = refl
+
+  moves-numbers : (w : Actor) (moves : List Move) (acts : List Act) → numbers_at p (acts_onto w moves acts) ≡ reverse (moved moves) ++ numbers_at p acts
+  moves-numbers w [] acts = refl
+  moves-numbers w (move ∷ moves) acts =
+      moves-numbers w moves (record { by = w; move = move } ∷ acts)
+      ∙ (ap (λ ns. reverse (moved moves) ++ ns) (move-number w move acts)
+      ∙ by_number (number_moved move))
+    where
+      by_number : (x : Option ℕ) → reverse (moved moves) ++ cons_option x (numbers_at p acts) ≡ reverse (cons_option x (moved moves)) ++ numbers_at p acts
+      by_number None = refl
+      by_number (Some n) = sym (ap (λ ns. ns ++ numbers_at p acts) (reverse-append (n ∷ []) (moved moves)) ∙ append_assoc (reverse (moved moves)) (n ∷ []) (numbers_at p acts))
+
+  moved-append : (xs ys : List Move) → moved (xs ++ ys) ≡ moved xs ++ moved ys
+  moved-append [] ys = refl
+  moved-append (x ∷ xs) ys = ap (cons_option (number_moved x)) (moved-append xs ys) ∙ by_number (number_moved x)
+    where
+      by_number : (o : Option ℕ) → cons_option o (moved xs ++ moved ys) ≡ cons_option o (moved xs) ++ moved ys
+      by_number None = refl
+      by_number (Some n) = refl
+
+  moved-calls : (calls : List Call) (rest : List Move) → moved (map Calls calls ++ rest) ≡ moved rest
+  moved-calls [] rest = refl
+  moved-calls (call ∷ calls) rest = moved-calls calls rest
+
+  moved-seals : (seals : List Seal) → moved (map (λ seal. Seals (key_iv seal)) seals) ≡ ivs_at p (map key_iv seals)
+  moved-seals [] = refl
+  moved-seals (seal ∷ seals) = ap (cons_option (number_where p (place_of seal.name) seal.iv)) (moved-seals seals)
+
+  one-moved : (x : Option ℕ) → cons_option x [] ≡ option_to_list x
+  one-moved None = refl
+  one-moved (Some n) = refl
+
+  moved-drawn : (event : Event) (n : ℕ) → moved (drawn_by event n) ≡ option_to_list (drew p event n) ++ []
+  moved-drawn (event.Draw member spir) n = one-moved (drew p (event.Draw member spir) n) ∙ sym (append-nil (option_to_list (drew p (event.Draw member spir) n)))
+  moved-drawn event n = refl
+
+  moved-received : (q : Option Place) (n : ℕ) → moved (received_at q n) ≡ option_to_list (number_where p q n)
+  moved-received None n = refl
+  moved-received (Some q) n = one-moved (number_where p (Some q) n)
+
+  moved-end : (x : Option ℕ) → moved (end_moves x) ≡ []
+  moved-end None = refl
+  moved-end (Some member) = refl
+
+  moved-uses : (event : Event) (verdict : Verdict) → moved (uses_of event verdict) ≡ option_to_list (drawn_at p event verdict) ++ option_to_list (packet_at p (accepted_as verdict))
+  moved-uses event (out.Number n) = moved-drawn event n
+  moved-uses event (out.Accepted name n next_header payload) = moved-received (place_of name) n
+  moved-uses event verdict = moved-end (ended_by event verdict)
+
+  turn-listed : (turn : Turn) → reverse (moved (moves_of turn)) ≡ listed_at p turn
+  turn-listed turn =
+      let used : List ℕ = option_to_list (drawn_at p turn.event turn.step.verdict) in
+      let taken : List ℕ = option_to_list (packet_at p (accepted_in turn)) in
+      let seals : List Move = map (λ seal. Seals (key_iv seal)) turn.step.seals in
+      ap reverse (moved-calls turn.calls (uses_of turn.event turn.step.verdict ++ seals)
+      ∙ (moved-append (uses_of turn.event turn.step.verdict) seals
+      ∙ (ap (λ ns. ns ++ moved seals) (moved-uses turn.event turn.step.verdict)
+      ∙ (append_assoc used taken (moved seals)
+      ∙ ap (λ ns. used ++ (taken ++ ns)) (moved-seals turn.step.seals)))))
+
+  -- the numbers of a place are those that the turns have
+  pub numbers-listed : (past : List Turn) → numbers_at p (acts_of past) ≡ flat_map (listed_at p) past
+  numbers-listed [] = refl
+  numbers-listed (turn ∷ past) =
+      moves-numbers (actor_of turn) (moves_of turn) (acts_of past)
+      ∙ (ap (λ ns. ns ++ numbers_at p (acts_of past)) (turn-listed turn)
+      ∙ ap (λ ns. listed_at p turn ++ ns) (numbers-listed past))
