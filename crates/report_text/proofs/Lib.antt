@@ -1,1 +1,2 @@
+pub mod LineReading
 pub mod WritingLaws

@@ -1,1 +1,5 @@
+pub mod Lines
+pub mod LineRanges
+pub mod Spelling
+pub mod TurnLines
 pub mod Report

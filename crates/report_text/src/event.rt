@@ -69,7 +69,8 @@ pub(crate) fn put_five(alloc: Global, out: &mut Octets, five: &Five) -> Result<(
 }
 
 fn put_association(alloc: Global, out: &mut Octets, sa: &Record) -> Result<(), Memory>
-    ensures { OnOk result (out.new.octets ≡ with_words out.old.octets (association_words (association sa.now))) }
+    ensures { OnOk result (out.new.octets
+        ≡ with_words out.old.octets (association_words (association sa.now))) }
 {
     put_spi(alloc, out, sa.spii)?;
     put_spi(alloc, out, sa.spir)?;
@@ -110,7 +111,8 @@ fn put_which(alloc: Global, out: &mut Octets, which: Which) -> Result<(), Memory
 }
 
 pub(crate) fn put_event(alloc: Global, out: &mut Octets, event: &Event) -> Result<(), Memory>
-    ensures { OnOk result (out.new.octets ≡ with_words out.old.octets (event_words (plain event.now))) }
+    ensures { OnOk result (out.new.octets
+        ≡ with_words out.old.octets (event_words (plain event.now))) }
 {
     match event {
         Event::Cluster {

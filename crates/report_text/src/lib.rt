@@ -1,11 +1,19 @@
-//! The text of reports: a turn's lines, and the line that says where an input is faulty.
+//! The text of reports: the lines of a turn as data, and the spelling of each.
 #![tactic(auto)]
 
-mod calls;
+mod call_words;
+mod esp_verdicts;
 mod event;
 mod laws;
-mod outcome;
+mod line;
+mod named;
+mod origins;
+mod refusals;
+mod spelling;
 mod turn;
+mod turn_lines;
+mod verdicts;
 
-pub use laws::turns_repeat_their_lines;
+pub use laws::{reports_are_lines, turns_repeat_their_lines, words_tell_their_line};
+pub use line::{KeyOrigin, Line, Part, PlainAnswer, PlainAsk};
 pub use turn::{write_head, write_turn};

@@ -18,7 +18,8 @@ fn end_of(alloc: Global, count: u64) -> Result<Octets, Memory>
     Ok(text)
 }
 
-/// Appends the last line of a text, which says how many turns or messages it has. An error is want of memory.
+/// Appends the last line of a text, which says how many turns or messages it has. An error is want
+/// of memory.
 pub fn write_end(alloc: Global, count: u64, out: &mut Octets) -> Result<(), Memory>
     ensures ok { OnOk result (out.new.octets ≡ out.old.octets ++ end_line count) }
     ensures err { OnErr result (out.new.octets ≡ out.old.octets) }

@@ -1,5 +1,5 @@
-//! Words of a line as text, appended to octets. Each stands behind a space, but for those that are called bare. An error is want
-//! of memory, and the octets may then end in a part of the word.
+//! Words of a line as text, appended to octets. Each stands after a space, but for those that are
+//! called bare. An error is want of memory, and the octets may then end in a part of the word.
 #![tactic(auto)]
 
 mod ends;

@@ -16,7 +16,8 @@ fn number_text(alloc: Global, number: u64) -> Result<String, Memory>
     }
 }
 
-/// Appends the number in decimal digits without leading zeros, and no space before it. An error is want of memory.
+/// Appends the number in decimal digits without leading zeros, and no space before it. An error is
+/// want of memory.
 pub fn put_bare_number(alloc: Global, out: &mut Octets, number: u64) -> Result<(), Memory>
     ensures { OnOk result (out.new.octets ≡ out.old.octets ++ decimal number) }
 {
@@ -24,7 +25,8 @@ pub fn put_bare_number(alloc: Global, out: &mut Octets, number: u64) -> Result<(
     out.extend(text.as_bytes())
 }
 
-/// Appends a space and the number in decimal digits without leading zeros. An error is want of memory.
+/// Appends a space and the number in decimal digits without leading zeros. An error is want of
+/// memory.
 pub fn put_number(alloc: Global, out: &mut Octets, number: u64) -> Result<(), Memory>
     ensures { OnOk result (out.new.octets ≡ out.old.octets ++ (32 ∷ decimal number)) }
 {

@@ -17,7 +17,8 @@ fn hex_text(alloc: Global, octets: &[u8]) -> Result<String, Memory>
     }
 }
 
-/// Appends two digits for each octet, or `-` where there are none, and no space before them. An error is want of memory.
+/// Appends two digits for each octet, or `-` where there are none, and no space before them. An
+/// error is want of memory.
 pub fn put_bare_octets(alloc: Global, out: &mut Octets, octets: &[u8]) -> Result<(), Memory>
     ensures { OnOk result (out.new.octets ≡ out.old.octets ++ octets_text octets.now) }
 {
@@ -28,7 +29,8 @@ pub fn put_bare_octets(alloc: Global, out: &mut Octets, octets: &[u8]) -> Result
     out.extend(text.as_bytes())
 }
 
-/// Appends a space, and two digits for each octet, or `-` where there are none. An error is want of memory.
+/// Appends a space, and two digits for each octet, or `-` where there are none. An error is want of
+/// memory.
 pub fn put_octets(alloc: Global, out: &mut Octets, octets: &[u8]) -> Result<(), Memory>
     ensures { OnOk result (out.new.octets ≡ out.old.octets ++ (32 ∷ octets_text octets.now)) }
 {
@@ -44,7 +46,8 @@ pub fn put_digits(alloc: Global, out: &mut Octets, octet: u8) -> Result<(), Memo
     put_word(out, text.as_bytes())
 }
 
-/// Appends an SPI of the IKE header (RFC 7296, section 3.1) in 16 digits, and no space before it. An error is want of memory.
+/// Appends an SPI of the IKE header (RFC 7296, section 3.1) in 16 digits, and no space before it.
+/// An error is want of memory.
 pub fn put_bare_spi(alloc: Global, out: &mut Octets, spi: u64) -> Result<(), Memory>
     ensures { OnOk result (out.new.octets ≡ out.old.octets ++ spi_text spi) }
 {
@@ -52,7 +55,8 @@ pub fn put_bare_spi(alloc: Global, out: &mut Octets, spi: u64) -> Result<(), Mem
     out.extend(text.as_bytes())
 }
 
-/// Appends a space, and an SPI of the IKE header (RFC 7296, section 3.1) in 16 digits. An error is want of memory.
+/// Appends a space, and an SPI of the IKE header (RFC 7296, section 3.1) in 16 digits. An error is
+/// want of memory.
 pub fn put_spi(alloc: Global, out: &mut Octets, spi: u64) -> Result<(), Memory>
     ensures { OnOk result (out.new.octets ≡ out.old.octets ++ (32 ∷ spi_text spi)) }
 {
@@ -60,7 +64,8 @@ pub fn put_spi(alloc: Global, out: &mut Octets, spi: u64) -> Result<(), Memory>
     put_bare_spi(alloc, out, spi)
 }
 
-/// Appends a space, and an SPI of ESP (RFC 4303, section 2.1) in 8 digits. An error is want of memory.
+/// Appends a space, and an SPI of ESP (RFC 4303, section 2.1) in 8 digits. An error is want of
+/// memory.
 pub fn put_esp_spi(alloc: Global, out: &mut Octets, spi: u32) -> Result<(), Memory>
     ensures { OnOk result (out.new.octets ≡ out.old.octets ++ (32 ∷ esp_spi_text spi)) }
 {

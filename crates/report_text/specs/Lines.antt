@@ -1,0 +1,69 @@
+-- The lines of a report as data: what each says, by its fields alone.
+use Rattle.std.specs.Prelude.{ℕ, Bool, List}
+use Rattle.ha_base.specs.declared.esp_outcomes.EspDrop.{EspDrop}
+use Rattle.ha_base.specs.declared.outside.Moment.{Moment}
+use Rattle.keeper_book.specs.declared.counters.Five.{Five}
+use Rattle.events.specs.Events.{PlainEvent, plain}
+use Rattle.events.specs.declared.turn.Medium.{Medium}
+use Rattle.events.specs.declared.verdict.Refusal.{Refusal}
+use Rattle.events.specs.declared.verdict.Verdict.{Verdict}
+use Rattle.events.specs.declared.verdict.Verdict.TheVariants as verdicts
+use Rattle.report_text.specs.declared.line.KeyOrigin.{KeyOrigin}
+use Rattle.report_text.specs.declared.line.Part.{Part}
+use Rattle.report_text.specs.declared.line.PlainAnswer.{PlainAnswer}
+use Rattle.report_text.specs.declared.line.PlainAsk.{PlainAsk}
+use Rattle.report_text.specs.declared.line.Line.{Line}
+use Rattle.report_text.specs.declared.line.Line.TheVariants as lines
+
+-- how an event came out, by the fields of its line alone
+pub data PlainVerdict : Type 0 where
+  Configured : PlainVerdict
+  Entered : PlainVerdict
+  Down : PlainVerdict
+  Member : ℕ → PlainVerdict  -- its number
+  Owned : ℕ → Five → PlainVerdict  -- the epoch, and its bases
+  Number : ℕ → PlainVerdict  -- the number that was drawn
+  Sent : ℕ → PlainVerdict  -- the ESP number
+  Accepted : ℕ → ℕ → List ℕ → PlainVerdict  -- the ESP number, the next header, and the payload
+  DroppedEsp : EspDrop → PlainVerdict
+  Refused : Refusal → PlainVerdict
+
+abbrev pub plain_verdict : Verdict → PlainVerdict
+plain_verdict verdicts.Configured = Configured
+plain_verdict verdicts.Entered = Entered
+plain_verdict verdicts.Down = Down
+plain_verdict (verdicts.Member number) = Member number
+plain_verdict (verdicts.Owned epoch bases) = Owned epoch bases
+plain_verdict (verdicts.Number number) = Number number
+plain_verdict (verdicts.Sent number) = Sent number
+plain_verdict (verdicts.Accepted counter number next_header payload) =
+    Accepted number next_header payload.octets
+plain_verdict (verdicts.DroppedEsp why) = DroppedEsp why
+plain_verdict (verdicts.Refused refusal) = Refused refusal
+
+-- a line of a report
+pub data ReportLine : Type 0 where
+  -- a turn's number, and the line of its event
+  TurnLine : ℕ → Moment → PlainEvent → ReportLine
+  -- what the keeper was asked, whether its answer was hidden, and the answer
+  KeepLine : PlainAsk → Bool → PlainAnswer → ReportLine
+  -- the request that a service executed, and its reply
+  ServeLine : List ℕ → List ℕ → ReportLine
+  -- the key's origin, the part, the child, the IV, the plaintext, and the sealed octets
+  SealLine : KeyOrigin → Part → ℕ → ℕ → List ℕ → List ℕ → ReportLine
+  -- the datagram's number, and the datagram
+  GivesLine : ℕ → Medium → List ℕ → ReportLine
+  OutLine : PlainVerdict → ReportLine
+  -- how many turns there are
+  EndLine : ℕ → ReportLine
+
+-- the code's line, which borrows its parts, by its fields alone
+abbrev pub plain_line : Line → ReportLine
+plain_line (lines.Turn number moment event) = TurnLine number moment (plain event.now)
+plain_line (lines.Keep ask lost answer) = KeepLine ask lost answer
+plain_line (lines.Serve request reply) = ServeLine request.now reply.now
+plain_line (lines.Seal origin part child iv text sealed) =
+    SealLine origin part child iv text.now sealed.now
+plain_line (lines.Gives number medium octets) = GivesLine number medium octets.now
+plain_line (lines.Out verdict) = OutLine (plain_verdict verdict.now)
+plain_line (lines.End turns) = EndLine turns

@@ -1,0 +1,45 @@
+//! How an event came out, in words. The verdicts of a kind have a module: those of the run stand
+//! here, those of ESP in `esp_verdicts`, those that refuse in `refusals`. Requests,
+//! synchronisations, resumptions and redirects get one each beside them.
+
+ghost use Rattle.std.specs.Prelude.{◌≡◌, [], ◌∷◌, ◌++◌, OnOk};
+ghost use Rattle.std.specs.Fmt.{decimal};
+ghost use Rattle.event_text.specs.Grammar.{five_words};
+ghost use Rattle.line_fields.specs.Writing.{with_words};
+ghost use Rattle.report_text.specs.Lines.{plain_verdict};
+ghost use Rattle.report_text.specs.Spelling.{verdict_words};
+
+use crate::esp_verdicts::{put_accepted, put_dropped};
+use crate::event::put_five;
+use crate::named::put_named_number;
+use crate::refusals::put_refused;
+use events::Verdict;
+use ha_base::{Memory, Octets};
+use std::alloc::Global;
+use word_text::put_word;
+
+pub(crate) fn put_verdict(alloc: Global, out: &mut Octets, verdict: &Verdict) -> Result<(), Memory>
+    ensures { OnOk result (out.new.octets
+        ≡ with_words out.old.octets (verdict_words (plain_verdict verdict.now))) }
+{
+    match verdict {
+        Verdict::Configured => put_word(out, b"configured"),
+        Verdict::Entered => put_word(out, b"entered"),
+        Verdict::Down => put_word(out, b"down"),
+        Verdict::Member(number) => put_named_number(alloc, out, b"member", u64::from(*number)),
+        Verdict::Owned { epoch, bases } => {
+            put_named_number(alloc, out, b"owned", *epoch)?;
+            put_five(alloc, out, bases)
+        }
+        Verdict::Number(number) => put_named_number(alloc, out, b"number", *number),
+        Verdict::Sent(number) => put_named_number(alloc, out, b"sent", *number),
+        Verdict::Accepted {
+            counter: _,
+            number,
+            next_header,
+            payload,
+        } => put_accepted(alloc, out, *number, *next_header, payload.as_slice()),
+        Verdict::DroppedEsp(why) => put_dropped(out, *why),
+        Verdict::Refused(refusal) => put_refused(alloc, out, *refusal),
+    }
+}
