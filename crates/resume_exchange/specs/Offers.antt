@@ -1,11 +1,14 @@
 -- Which proposal of a Child SA a member takes (RFC 7296, section 3.3).
-use Rattle.std.specs.Prelude.{ℕ, ◌&&◌, ◌||◌, ◌==◌, Bool, false, not, nat_le, List, length, filter, slice_get, Option, None, Some, if◌then◌else◌}
+use Rattle.std.specs.Prelude.{ℕ, ◌&&◌, ◌||◌, ◌==◌, Bool, false, not, nat_le, if◌then◌else◌}
+use Rattle.std.specs.Prelude.{List, length, filter, slice_get, Option, None, Some}
 use Rattle.std.specs.Int.{w32, from_be_bytes}
 use Rattle.std.specs.List.{filter_map, list_any}
 use Rattle.ha_base.specs.declared.key_material.KeySize.{KeySize}
 use Rattle.ha_base.specs.declared.key_material.KeySize.TheVariants.{Bits128, Bits256}
 use Rattle.ike_values.specs.Values.{AttributeValue, fixed, free, TransformValue, ProposalValue}
-use Rattle.resume_exchange.specs.declared.offers.TheConstants.{ESP, ENCR, INTEG, DH, ESN, AES_GCM_16, EXTENDED, NONE, KEY_LENGTH, LEAST_CHILD_SPI}
+use Rattle.resume_exchange.specs.declared.offers.TheConstants.{ESP, ENCR, INTEG, DH, ESN}
+use Rattle.resume_exchange.specs.declared.offers.TheConstants.{AES_GCM_16, EXTENDED, NONE}
+use Rattle.resume_exchange.specs.declared.offers.TheConstants.{KEY_LENGTH, LEAST_CHILD_SPI}
 
 -- the bits that an attribute says that a key has: only its short form does (section 3.3.5)
 abbrev pub key_length_of : AttributeValue → Option ℕ
@@ -35,11 +38,14 @@ is_transform kind id transform = transform.kind == kind && transform.id == id
 
 -- AES-GCM with a key of this size (RFC 4106, section 8.4)
 abbrev pub is_cipher : KeySize → TransformValue → Bool
-is_cipher size transform = is_transform ENCR AES_GCM_16 transform && holds (key_length transform.attributes) (key_bits size)
+is_cipher size transform =
+    is_transform ENCR AES_GCM_16 transform
+    && holds (key_length transform.attributes) (key_bits size)
 
 -- no transform of this type is named, or it is offered to do without
 abbrev pub leaves_out : ℕ → List TransformValue → Bool
-leaves_out kind transforms = not (list_any (has_type kind) transforms) || list_any (is_transform kind NONE) transforms
+leaves_out kind transforms =
+    not (list_any (has_type kind) transforms) || list_any (is_transform kind NONE) transforms
 
 -- four octets, and not reserved (RFC 4303, section 2.1)
 abbrev pub is_child_spi : List ℕ → Bool
@@ -49,7 +55,8 @@ is_child_spi spi = length spi == 4 && nat_le LEAST_CHILD_SPI (from_be_bytes w32 
 abbrev pub fits : KeySize → ProposalValue → Bool
 fits size proposal =
     proposal.protocol == ESP && is_child_spi proposal.spi
-    && list_any (is_cipher size) proposal.transforms && list_any (is_transform ESN EXTENDED) proposal.transforms
+    && list_any (is_cipher size) proposal.transforms
+    && list_any (is_transform ESN EXTENDED) proposal.transforms
     && leaves_out INTEG proposal.transforms && leaves_out DH proposal.transforms
 
 -- of several that fit the first is taken

@@ -1,7 +1,9 @@
--- The payloads that an IKE_AUTH of a resumption needs (RFC 7296, section 1.2). Of several of one type the first counts.
+-- The payloads that an IKE_AUTH of a resumption needs (RFC 7296, section 1.2). Of several of one
+-- type the first counts.
 use Rattle.std.specs.Prelude.{◌≡◌, ℕ, true, List, slice_get, Option, None, Some, is_some}
 use Rattle.std.specs.List.{filter_map}
-use Rattle.ike_values.specs.Values.{AuthValue, IdValue, PayloadValue, ProposalValue, SelectorValue, idi, auth, sa, tsi, tsr}
+use Rattle.ike_values.specs.Values.{AuthValue, IdValue, PayloadValue, ProposalValue, SelectorValue}
+use Rattle.ike_values.specs.Values.{idi, auth, sa, tsi, tsr}
 use Rattle.resume_exchange.specs.declared.parts.TheConstants.{SHARED_KEY}
 
 -- the first payload that this finds
@@ -30,7 +32,9 @@ tsr_data (tsr x) = Some x
 tsr_data _ = None
 
 -- an identity, an AUTH code by the shared key, proposals, and the selectors of both ends
-pub record HasParts (payloads : List PayloadValue) (identity : IdValue) (code : List ℕ) (proposals : List ProposalValue) : Type 0 where
+pub record HasParts
+    (payloads : List PayloadValue) (identity : IdValue)
+    (code : List ℕ) (proposals : List ProposalValue) : Type 0 where
   pub identity_is : first_of idi_data payloads ≡ Some identity
   pub code_is : first_of auth_data payloads ≡ Some (record { method = SHARED_KEY; content = code })
   pub proposals_are : first_of sa_data payloads ≡ Some proposals

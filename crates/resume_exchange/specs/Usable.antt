@@ -16,7 +16,9 @@ IsBad key ticket = (why : BadTicket) × (why ≢ Memory) × IsTicketAnswer key t
 
 -- it opens, but has expired: at its expiry it is not taken any more
 abbrev pub HasExpired : List ℕ → List ℕ → ℕ → Type 0
-HasExpired key ticket now = (number : ℕ) × (content : Content) × IsTicketAnswer key ticket (Ok (number, content)) × (content.expiry ≤ now)
+HasExpired key ticket now =
+    (number : ℕ) × (content : Content)
+    × IsTicketAnswer key ticket (Ok (number, content)) × (content.expiry ≤ now)
 
 abbrev pub IsUseless : List ℕ → List ℕ → ℕ → Type 0
 IsUseless key ticket now = IsBad key ticket ⊎ HasExpired key ticket now

@@ -9,10 +9,12 @@ use ha_base::{Identity, Moment, OctetList};
 use ike_values::Payloads;
 use key_schedule::{auth_code, equal_codes, resumed_keys};
 
-/// How many octets the body of an ID payload has at most: its type, three reserved octets and the longest identity.
+/// How many octets the body of an ID payload has at most: its type, three reserved octets and the
+/// longest identity.
 pub const ID_BODY_OCTETS: usize = 4 + 64;
 
-/// What a member makes of the payloads of an IKE_AUTH for a half-open association, before it asks the keeper.
+/// What a member makes of the payloads of an IKE_AUTH for a half-open association, before it asks
+/// the keeper.
 #[derive(Clone, Copy, Debug, PartialEq)]
 pub enum AuthJudged {
     /// A payload is missing: IDi, AUTH by the shared key, SA, TSi or TSr.
@@ -29,7 +31,8 @@ pub enum AuthJudged {
     Correct(u8),
 }
 
-/// What a member makes of the payloads of an IKE_AUTH: the first of [`AuthJudged`] that applies (RFC 5723, section 4.3.3).
+/// What a member makes of the payloads of an IKE_AUTH: the first of [`AuthJudged`] that applies
+/// (RFC 5723, section 4.3.3).
 ///
 /// Of several payloads of one type the first counts. It takes no memory.
 pub fn judge_auth(half_open: &HalfOpen, now: Moment, payloads: &Payloads) -> AuthJudged
@@ -54,7 +57,8 @@ pub fn judge_auth(half_open: &HalfOpen, now: Moment, payloads: &Payloads) -> Aut
     AuthJudged::Correct(proposal.number)
 }
 
-/// The AUTH code of the peer that the ticket names (RFC 5723, section 5.1; RFC 7296, section 2.15).
+/// The AUTH code of the peer that the ticket names (RFC 5723, section 5.1; RFC 7296, section
+/// 2.15).
 fn right_code(half_open: &HalfOpen) -> [u8; 32]
     ensures { result ≡ right_code half_open.now }
 {
@@ -76,7 +80,8 @@ fn right_code(half_open: &HalfOpen) -> [u8; 32]
     )
 }
 
-/// The body of the ID payload of an identity: its type, three reserved octets and its data (RFC 7296, section 3.5).
+/// The body of the ID payload of an identity: its type, three reserved octets and its data (RFC
+/// 7296, section 3.5).
 fn id_body(identity: &Identity) -> OctetList<ID_BODY_OCTETS>
     ensures { result ≡ numbered_written identity.now.kind identity.now.octets }
 {

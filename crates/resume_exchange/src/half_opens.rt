@@ -12,7 +12,8 @@ pub const MAX_HALF_OPENS: usize = 64;
 /// How long one is kept, in seconds.
 pub const HALF_OPEN_AGE: u64 = 60;
 
-/// An association that a peer asked to resume, and that waits for its IKE_AUTH (RFC 5723, section 4.3.3).
+/// An association that a peer asked to resume, and that waits for its IKE_AUTH (RFC 5723, section
+/// 4.3.3).
 #[derive(Drop)]
 pub struct HalfOpen {
     /// When it was begun.
@@ -54,7 +55,9 @@ impl Model for HalfOpens {
 
     ghost view = { λ half_opens. half_opens.kept.items };
 
-    ghost invariant = { λ half_opens. (length half_opens.kept.items ≤ MAX_HALF_OPENS) × (MAX_HALF_OPENS ≤ vec_capacity half_opens.kept) };
+    ghost invariant = { λ half_opens.
+        (length half_opens.kept.items ≤ MAX_HALF_OPENS)
+        × (MAX_HALF_OPENS ≤ vec_capacity half_opens.kept) };
 }
 
 impl HalfOpens {

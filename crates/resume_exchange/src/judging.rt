@@ -1,6 +1,6 @@
-ghost use Rattle.std.specs.Prelude.{◌≡◌, ◌≤◌, ◌||◌, ℕ, List, Some, length, is_some, IfOk, IfErr, IfSome, IfNone, OnErr};
-ghost use Rattle.ike_values.specs.Notifications.{first_notify};
-ghost use Rattle.resume_exchange.specs.Judgements.{IsJudged, IsTaken, IsNotTaken, follows_redirects};
+ghost use Rattle.std.specs.Prelude.{◌≡◌, IfOk, IfSome, IfNone, OnErr};
+ghost use Rattle.resume_exchange.specs.Judgements.{IsJudged, IsNotTaken, IsTaken};
+ghost use Rattle.resume_exchange.specs.Judgements.{follows_redirects};
 
 use crate::half_opens::{HalfOpens, MAX_HALF_OPENS};
 use crate::request::presented;
@@ -28,10 +28,12 @@ pub enum Judged {
 }
 
 impl HalfOpens {
-    /// What a member makes of a request to resume by itself: the first of [`Judged`] that applies (RFC 5723, section 4.3.2).
+    /// What a member makes of a request to resume by itself: the first of [`Judged`] that applies
+    /// (RFC 5723, section 4.3.2).
     ///
-    /// Half-open associations past their age are removed once the request has its form. A ticket of more than 65,536 octets,
-    /// as no message has, is not taken. An error is want of memory; it leaves the half-open associations as they were.
+    /// Half-open associations past their age are removed once the request has its form. A ticket
+    /// of more than 65,536 octets, as no message has, is not taken. An error is want of memory; it
+    /// leaves the half-open associations as they were.
     pub fn judge(
         &mut self,
         alloc: Global,
@@ -40,7 +42,8 @@ impl HalfOpens {
         now: Moment,
         message: &Message,
     ) -> Result<Judged, Memory>
-        ensures judged { IfOk result (λ judged. IsJudged ticket_key.now is_steered now.0 message.now self.old judged self.new) }
+        ensures judged { IfOk result (λ judged.
+            IsJudged ticket_key.now is_steered now.0 message.now self.old judged self.new) }
         ensures memory { OnErr result (self.new ≡ self.old) }
     {
         let Some((_, ticket)) = presented(&message.header, &message.payloads) else {
@@ -61,15 +64,18 @@ impl HalfOpens {
     }
 }
 
-/// The number and the content of a ticket, where there is a key that it opens under, and it has not expired.
+/// The number and the content of a ticket, where there is a key that it opens under, and it has
+/// not expired.
 fn taken_ticket(
     alloc: Global,
     ticket_key: &Option<Key>,
     ticket: &[u8],
     now: Moment,
 ) -> Result<Option<(u64, Content)>, Memory>
-    ensures taken { IfOk result (λ found. IfSome found (λ opened. IsTaken ticket_key.now ticket.now now.0 opened.0 opened.1)) }
-    ensures not_taken { IfOk result (λ found. IfNone found (IsNotTaken ticket_key.now ticket.now now.0)) }
+    ensures taken { IfOk result (λ found. IfSome found (λ opened.
+        IsTaken ticket_key.now ticket.now now.0 opened.0 opened.1)) }
+    ensures not_taken { IfOk result (λ found.
+        IfNone found (IsNotTaken ticket_key.now ticket.now now.0)) }
 {
     match ticket_key {
         Some(key) if ticket.len() <= MAX_LEN => usable_ticket(alloc, key, ticket, now),

@@ -1,8 +1,9 @@
 //! How a peer resumes an IKE SA with a ticket, at a member that may never have seen it (RFC 5723).
 //!
-//! Here stands what a member makes of what the peer sends, before it asks the keeper. [`HalfOpens::judge`] looks at a
-//! request to resume: [`presented`] reads its nonce and its ticket, and [`usable_ticket`] opens a ticket that has not expired.
-//! [`judge_auth`] looks at the payloads of the IKE_AUTH that follows, of whose proposals [`first_fit`] is taken. The keeper
+//! Here stands what a member makes of what the peer sends, before it asks the keeper.
+//! [`HalfOpens::judge`] looks at a request to resume: [`presented`] reads its nonce and its
+//! ticket, and [`usable_ticket`] opens a ticket that has not expired. [`judge_auth`] looks at the
+//! payloads of the IKE_AUTH that follows, of whose proposals [`first_fit`] is taken. The keeper
 //! then says whether the ticket was spent, and records the association.
 #![tactic(auto)]
 

@@ -1,9 +1,10 @@
-ghost use Rattle.std.specs.Prelude.{◌≡◌, ◌&&◌, ◌||◌, ◌==◌, not, None, Some, MatchOption, map};
+ghost use Rattle.std.specs.Prelude.{◌≡◌, None, Some, MatchOption, map};
 ghost use Rattle.std.specs.List.{list_any};
 ghost use Rattle.ike_values.specs.AttributeView.{attribute_value};
 ghost use Rattle.ike_values.specs.ProposalView.{proposal_value};
 ghost use Rattle.ike_values.specs.TransformView.{transform_value};
-ghost use Rattle.resume_exchange.specs.Offers.{first_fit, fits, has_type, is_child_spi, is_cipher, is_transform, key_length, key_length_of, leaves_out};
+ghost use Rattle.resume_exchange.specs.Offers.{first_fit, fits, has_type, is_child_spi, is_cipher};
+ghost use Rattle.resume_exchange.specs.Offers.{is_transform, key_length, leaves_out};
 
 use ha_base::{KeySize, read_u32};
 use ike_values::{Attribute, Proposal, Proposals, Transform};
@@ -20,7 +21,8 @@ pub const INTEG: u8 = 3;
 /// The type of a transform that exchanges keys (RFC 7296, section 3.3.2).
 pub const DH: u8 = 4;
 
-/// The type of a transform that says whether sequence numbers are extended (RFC 7296, section 3.3.2).
+/// The type of a transform that says whether sequence numbers are extended (RFC 7296, section
+/// 3.3.2).
 pub const ESN: u8 = 5;
 
 /// AES-GCM with a check value of sixteen octets (RFC 4106, section 8.4).
@@ -38,10 +40,12 @@ pub const KEY_LENGTH: u16 = 14;
 /// The least SPI of a Child SA: those below are reserved (RFC 4303, section 2.1).
 pub const LEAST_CHILD_SPI: u32 = 256;
 
-/// The first proposal that a member takes for the Child SA of a resumed association whose keys have this size.
+/// The first proposal that a member takes for the Child SA of a resumed association whose keys
+/// have this size.
 ///
-/// It is for ESP with an SPI of four octets from 256 on, it offers AES-GCM with a key of this size and extended sequence
-/// numbers, and it offers to do without an integrity algorithm and without a key exchange where it names any.
+/// It is for ESP with an SPI of four octets from 256 on, it offers AES-GCM with a key of this size
+/// and extended sequence numbers, and it offers to do without an integrity algorithm and without a
+/// key exchange where it names any.
 pub fn first_fit(proposals: &Proposals, size: KeySize) -> Option<&Proposal>
     ensures { MatchOption result
         (first_fit size proposals.now ≡ None)

@@ -1,17 +1,20 @@
 ghost use Rattle.std.specs.Prelude.{◌≡◌, ℕ, List, None, Some, MatchOption, map};
 ghost use Rattle.ike_values.specs.Values.{IdValue, ProposalValue};
 ghost use Rattle.ike_values.specs.PayloadView.{auth_value, id_value, payload_value};
-ghost use Rattle.resume_exchange.specs.Parts.{HasParts, auth_data, first_of, idi_data, sa_data, tsi_data, tsr_data};
+ghost use Rattle.resume_exchange.specs.Parts.{HasParts, auth_data, first_of, idi_data, sa_data};
+ghost use Rattle.resume_exchange.specs.Parts.{tsi_data, tsr_data};
 
 use ike_values::{AuthBody, IdBody, Payload, Payloads, Proposals, Selectors};
 
 /// The method of an AUTH code that is made with a shared key (RFC 7296, section 3.8).
 pub const SHARED_KEY: u8 = 2;
 
-/// The identity, the AUTH code and the proposals of an IKE_AUTH, where it has them and the selectors of both ends.
+/// The identity, the AUTH code and the proposals of an IKE_AUTH, where it has them and the
+/// selectors of both ends.
 pub fn parts_of(payloads: &Payloads) -> Option<(&IdBody, &[u8], &Proposals)>
     ensures { MatchOption result
-        ((identity : IdValue) (code : List ℕ) (proposals : List ProposalValue) → ¬ HasParts payloads.now identity code proposals)
+        ((identity : IdValue) (code : List ℕ) (proposals : List ProposalValue) →
+        ¬ HasParts payloads.now identity code proposals)
         (λ parts. HasParts payloads.now (id_value parts.0.now) parts.1.now parts.2.now) }
 {
     let items = payloads.as_slice();
@@ -46,7 +49,8 @@ fn first_identity(payloads: &[Payload]) -> Option<&IdBody>
 fn first_auth(payloads: &[Payload]) -> Option<&AuthBody>
     ensures { MatchOption result
         (first_of auth_data (map payload_value payloads.now) ≡ None)
-        (λ found. first_of auth_data (map payload_value payloads.now) ≡ Some (auth_value found.now)) }
+        (λ found.
+        first_of auth_data (map payload_value payloads.now) ≡ Some (auth_value found.now)) }
 {
     let mut rest = payloads;
     while let [payload, others @ ..] = rest {

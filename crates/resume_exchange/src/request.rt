@@ -10,8 +10,9 @@ pub const NONCE_OCTETS: usize = 32;
 
 /// The nonce and the ticket that a request to resume presents (RFC 5723, section 4.3.2).
 ///
-/// None comes exactly where the Message ID or the responder's SPI is not 0, where the first nonce has not 32 octets or there
-/// is none, or where there is no TICKET_OPAQUE. Of several the first counts.
+/// None comes exactly where the Message ID or the responder's SPI is not 0, where the first nonce
+/// has not 32 octets or there is none, or where there is no TICKET_OPAQUE. Of several the first
+/// counts.
 pub fn presented<'a>(header: &Header, payloads: &'a Payloads) -> Option<(&'a [u8], &'a [u8])>
     ensures { MatchOption result
         ((nonce ticket : List ℕ) → ¬ IsPresented header.now payloads.now nonce ticket)

@@ -241,8 +241,8 @@ const CODE: [u8; 32] = [
     0xa1, 0xec, 0x93, 0x43, 0x47, 0x37, 0x6c, 0xc3, 0x21, 0x5a, 0xe8, 0x9c, 0xe4, 0x05, 0xa9, 0xef,
 ];
 
-/// What an IKE_AUTH may have otherwise: the type of the identity, the method and the first octet of the code, the row of the
-/// proposal, and whether the selectors of the responder are there.
+/// What an IKE_AUTH may have otherwise: the type of the identity, the method and the first octet
+/// of the code, the row of the proposal, and whether the selectors of the responder are there.
 type Auth = (u8, u8, u8, usize, bool);
 
 fn auth_payloads(alloc: Global, auth: Auth) -> Result<Payloads, Fail> {
