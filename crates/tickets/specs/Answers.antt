@@ -22,7 +22,8 @@ CarriesNothing plain = (content : Carried) → IsCarried content → plain ≢ c
 -- the number and the content of a ticket, or why there are none
 abbrev pub IsTicketAnswer : List ℕ → List ℕ → Result (ℕ × Carried) BadTicket → Type 0
 IsTicketAnswer key ticket (Ok (number, content)) =
-    HasVersion ticket × (number ≡ number_in ticket) × IsCarried content × IsSealedIn key ticket (content_octets content)
+    HasVersion ticket × (number ≡ number_in ticket) × IsCarried content
+    × IsSealedIn key ticket (content_octets content)
 IsTicketAnswer key ticket (Err bad.Short) = length ticket < SHORTEST_TICKET
 IsTicketAnswer key ticket (Err bad.Version) =
     (SHORTEST_TICKET ≤ length ticket) × (slice_index ticket 0 ≢ TICKET_VERSION)
@@ -33,7 +34,7 @@ IsTicketAnswer key ticket (Err bad.Content) =
 IsTicketAnswer key ticket (Err bad.Memory) = HasVersion ticket
 
 -- why the plaintext of a ticket could not be had
-abbrev pub IsTextFault : List ℕ → List ℕ → BadTicket → Type 0
-IsTextFault key ticket bad.NotOpened = (plain : List ℕ) → ¬ IsSealedIn key ticket plain
-IsTextFault key ticket bad.Memory = Unit {0}
-IsTextFault key ticket _ = ⊥
+abbrev pub IsPlaintextFault : List ℕ → List ℕ → BadTicket → Type 0
+IsPlaintextFault key ticket bad.NotOpened = (plain : List ℕ) → ¬ IsSealedIn key ticket plain
+IsPlaintextFault key ticket bad.Memory = Unit {0}
+IsPlaintextFault key ticket _ = ⊥

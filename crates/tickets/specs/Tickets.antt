@@ -1,5 +1,5 @@
--- The octets of a ticket that carries the state of an association itself (RFC 5723, section 6.1). Their form is this
--- project's own.
+-- The octets of a ticket that carries the state of an association itself (RFC 5723, section 6.1).
+-- Their form is this project's own.
 use Rattle.std.specs.Prelude.{◌≡◌, ℕ, ◌^◌, ◌<◌, ◌≤◌, ◌⊎◌, List, ◌∷◌, ◌++◌, length, take, drop}
 use Rattle.std.specs.Int.{w64, to_be_bytes, from_be_bytes}
 use Rattle.ha_base.specs.declared.key_material.KeySize.{KeySize}
@@ -13,18 +13,22 @@ abbrev pub size_octet : KeySize → ℕ
 size_octet Bits128 = 16
 size_octet Bits256 = 32
 
--- for whom a ticket is, and for how long: the size of the keys, the two moments, and the type and data of the identity
+-- for whom a ticket is, and for how long: the size of the keys, the two moments, and the type and
+-- data of the identity
 abbrev pub terms_octets : Content → List ℕ
 terms_octets content =
     size_octet content.size
-    ∷ to_be_bytes w64 content.issued ++ to_be_bytes w64 content.expiry ++ content.identity.kind ∷ content.identity.octets
+    ∷ to_be_bytes w64 content.issued ++ to_be_bytes w64 content.expiry
+    ++ content.identity.kind ∷ content.identity.octets
 
 -- what is sealed: the SPIs, SK_d, and for whom it is
 abbrev pub content_octets : Content → List ℕ
 content_octets content =
-    to_be_bytes w64 content.spii ++ to_be_bytes w64 content.spir ++ content.sk_d ++ terms_octets content
+    to_be_bytes w64 content.spii ++ to_be_bytes w64 content.spir ++ content.sk_d
+    ++ terms_octets content
 
--- the types of identities that there are (RFC 7296, section 3.5): IPv4 is 1, FQDN 2, RFC822 3, IPv6 5 and KEY_ID 11
+-- the types of identities that there are (RFC 7296, section 3.5): IPv4 is 1, FQDN 2, RFC822 3,
+-- IPv6 5 and KEY_ID 11
 abbrev pub IsIdentityKind : ℕ → Type 0
 IsIdentityKind kind = (kind ≡ 1) ⊎ (kind ≡ 2) ⊎ (kind ≡ 3) ⊎ (kind ≡ 5) ⊎ (kind ≡ 11)
 

@@ -7,8 +7,8 @@ pub enum BadTicket {
     Version,
     /// Its integrity check value is not that of its ciphertext under the key.
     NotOpened,
-    /// What was sealed is no content: the size of the keys or the type of the identity is none that there is, or the
-    /// identity has more than 64 octets.
+    /// What was sealed is no content: the size of the keys or the type of the identity is none
+    /// that there is, or the identity has more than 64 octets.
     Content,
     /// Memory was wanting.
     Memory,

@@ -1,7 +1,8 @@
 /// The first octet of a ticket.
 pub const TICKET_VERSION: u8 = 1;
 
-/// How many octets stand before the ciphertext: the version and the number. They are authenticated with it.
+/// How many octets stand before the ciphertext: the version and the number. They are authenticated
+/// with it.
 pub const FRONT: usize = 9;
 
 /// How many octets the integrity check value has.

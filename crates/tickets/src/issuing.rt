@@ -7,7 +7,8 @@ use aes_gcm::{Key, seal_in_place};
 use ha_base::{KeySize, Octets};
 use spend_once::Number;
 
-/// Appends the plaintext that is sealed in a ticket of this content. There is room for a ticket, and no memory is taken.
+/// Appends the plaintext that is sealed in a ticket of this content. There is room for a ticket,
+/// and no memory is taken.
 pub fn spell_content(content: &Content, out: &mut Octets)
     requires room { LONGEST_TICKET ≤ out.old.spare }
     ensures { out.new.octets ≡ out.old.octets ++ content_octets content.now }
@@ -17,12 +18,13 @@ pub fn spell_content(content: &Content, out: &mut Octets)
     append(out, &buffer[..end]);
 }
 
-/// Appends the ticket of this content (RFC 5723, section 6.1). Its number, which is also its IV, is spent. There is room for
-/// it, and no memory is taken.
+/// Appends the ticket of this content (RFC 5723, section 6.1). Its number, which is also its IV,
+/// is spent. There is room for it, and no memory is taken.
 pub fn issue(key: &Key, n: Number, content: &Content, out: &mut Octets)
     requires named { n.name ≡ key.now.name }
     requires room { LONGEST_TICKET ≤ out.old.spare }
-    ensures ticket { out.new.octets ≡ out.old.octets ++ ticket_octets key.now.octets n.value (content_octets content.now) }
+    ensures ticket { out.new.octets
+        ≡ out.old.octets ++ ticket_octets key.now.octets n.value (content_octets content.now) }
     ensures long { length out.new.octets ≤ length out.old.octets + LONGEST_TICKET }
 {
     let front = ticket_front(n.value());

@@ -1,6 +1,6 @@
 ghost use Rattle.std.specs.Prelude.{◌≡◌, ◌+◌, ◌≤◌, length, take, drop, slice_index, IfOk, IfErr};
 ghost use Rattle.std.specs.Int.{w64, to_be_bytes};
-ghost use Rattle.tickets.specs.Answers.{IsSealedIn, IsTextFault, IsTicketAnswer};
+ghost use Rattle.tickets.specs.Answers.{IsSealedIn, IsPlaintextFault, IsTicketAnswer};
 ghost use Rattle.tickets.specs.Tickets.{number_in};
 
 use crate::bad_ticket::BadTicket;
@@ -13,9 +13,10 @@ use std::alloc::Global;
 
 /// The number and the content of a ticket of at most 65,536 octets (RFC 5723, section 6.1).
 ///
-/// The error is the first check that fails: `Short` for fewer than 91 octets, `Version` for another first octet than 1,
-/// `NotOpened` where the integrity check value does not hold, and `Content` where what was sealed is no content. `Memory` is
-/// want of memory. Whether the ticket has expired or was spent is not looked at here.
+/// The error is the first check that fails: `Short` for fewer than 91 octets, `Version` for
+/// another first octet than 1, `NotOpened` where the integrity check value does not hold, and
+/// `Content` where what was sealed is no content. `Memory` is want of memory. Whether the ticket
+/// has expired or was spent is not looked at here.
 pub fn open_ticket(alloc: Global, key: &Key, ticket: &[u8]) -> Result<(u64, Content), BadTicket>
     requires { length ticket.now ≤ MAX_LEN }
     ensures { IsTicketAnswer key.now.octets ticket.now result }
@@ -41,7 +42,7 @@ fn open_text(alloc: Global, key: &Key, number: u64, ticket: &[u8]) -> Result<Vec
     requires named { number ≡ number_in ticket.now }
     ensures opened { IfOk result (λ plain. IsSealedIn key.now.octets ticket.now plain.items) }
     ensures length { IfOk result (λ plain. FIXED_CONTENT ≤ length plain.items) }
-    ensures refused { IfErr result (IsTextFault key.now.octets ticket.now) }
+    ensures refused { IfErr result (IsPlaintextFault key.now.octets ticket.now) }
 {
     // Sealing keeps lengths, so a ticket has its parts in one way only.
     sealing_laws();
