@@ -1,0 +1,5 @@
+pub mod Closing
+pub mod Endings
+pub mod Jobs
+pub mod Outside
+pub mod Statuses

@@ -1,0 +1,54 @@
+//! How a call ends: what is written last, and what is said of it on the error output.
+
+ghost use Rattle.std.specs.Prelude.{◌≡◌, codes};
+ghost use Rattle.call_ends.specs.Closing.{Closes, Names};
+ghost use Rattle.call_ends.specs.Outside.{WritesFront, sink_told};
+
+use crate::status::Status;
+use ha_base::{Failed, Octets, Sink, write_all};
+use input_lines::{InputFault, write_fault};
+use std::alloc::Global;
+
+/// Says why a call ends; where that can't be written, it ends so all the same.
+pub fn complain<D: Sink>(diag: &mut D, line: &[u8], status: Status) -> Status
+    ensures status { result ≡ status }
+    ensures says { WritesFront line.now (sink_told D.Sink diag.old) (sink_told D.Sink diag.new) }
+{
+    let _ = write_all(diag, line);
+    status
+}
+
+/// Says where the input is faulty, and why.
+pub fn name_line<D: Sink>(alloc: Global, diag: &mut D, fault: InputFault) -> Status
+    ensures names { Names fault (sink_told D.Sink diag.old) (sink_told D.Sink diag.new) result }
+{
+    let mut text = Octets::new(alloc);
+    if write_fault(alloc, fault, &mut text).is_err() {
+        return complain(diag, b"ha: want of memory\n", Status::Memory);
+    }
+    match write_all(diag, text.as_slice()) {
+        Ok(()) => Status::FaultyLine,
+        Err(Failed) => Status::WriteFault,
+    }
+}
+
+/// Writes an output, and says where the input is faulty.
+pub fn put_output<O: Sink, D: Sink>(
+    alloc: Global,
+    out: &mut O,
+    diag: &mut D,
+    text: &Octets,
+    fault: Option<InputFault>,
+) -> Status
+    ensures closes { Closes text.now.octets fault (sink_told O.Sink out.old) (sink_told O.Sink out.new)
+        (sink_told D.Sink diag.old) (sink_told D.Sink diag.new) result }
+    ensures quiet { result ≡ Status.Done → diag.new ≡ diag.old }
+{
+    if write_all(out, text.as_slice()).is_err() {
+        return complain(diag, b"ha: write fault\n", Status::WriteFault);
+    }
+    match fault {
+        None => Status::Done,
+        Some(fault) => name_line(alloc, diag, fault),
+    }
+}

@@ -1,0 +1,11 @@
+//! How a call of the program ends: its statuses, what each of them says of the input, the output
+//! and the error output, and what is written last.
+#![tactic(auto)]
+
+mod closing;
+mod input;
+mod status;
+
+pub use closing::{complain, name_line, put_output};
+pub use input::input_of;
+pub use status::Status;
