@@ -16,7 +16,12 @@ use Rattle.turn_rules.specs.Tasks.{Task}
 use Rattle.cluster_member.specs.declared.config.Config.{Config}
 
 abbrev pub configuration_of : Config → Configuration
-configuration_of config = record { identity = config.identity; lifetime = config.lifetime; window = config.window; ticket_key = config.ticket_key }
+configuration_of config = record {
+  identity = config.identity;
+  lifetime = config.lifetime;
+  window = config.window;
+  ticket_key = config.ticket_key;
+}
 
 -- a member: its number, how it is configured, its fresh octets, and what it holds, by association
 pub record Holder : Type 0 where

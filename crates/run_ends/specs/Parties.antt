@@ -20,8 +20,9 @@ use Rattle.turn_rules.specs.Slots.{Slot}
 use Rattle.turn_rules.specs.States.{RunState, has_turns, state_after, state_by}
 use Rattle.cluster_member.specs.Members.{Holder}
 
--- boxes: how many services were handed in for members; config: how members are configured that join; gateway and slots:
--- where the peer sends, and its associations; members: what each member holds that joined, and nothing where it ended
+-- boxes: how many services were handed in for members; config: how members are configured that
+-- join; gateway and slots: where the peer sends, and its associations; members: what each member
+-- holds that joined, and nothing where it ended
 pub record EndsHeld : Type 0 where
   pub boxes : ℕ
   pub config : Configuration
@@ -33,7 +34,8 @@ pub record EndsHeld : Type 0 where
 abbrev pub nobody : Holder
 nobody = record { number = 0; config = default_configuration; fresh = []; held = [] }
 
--- who has this number, or else the other one: members are counted from 1, in the order in which they joined
+-- who has this number, or else the other one: members are counted from 1, in the order in which
+-- they joined
 abbrev pub seat_or : Option Holder → List (Option Holder) → ℕ → Option Holder
 seat_or other members zero = other
 seat_or other members (suc place) = slice_index_or members place other

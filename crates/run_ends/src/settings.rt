@@ -2,7 +2,8 @@
 
 ghost use Rattle.std.specs.Prelude.{◌≡◌, ◌≤◌, length};
 ghost use Rattle.cluster_member.specs.Members.{configuration_of};
-ghost use Rattle.turn_rules.specs.Configurations.{default_configuration, first_ticket_counter, first_ticket_key, gateway_kind, gateway_of};
+ghost use Rattle.turn_rules.specs.Configurations.{default_configuration, first_ticket_counter};
+ghost use Rattle.turn_rules.specs.Configurations.{first_ticket_key, gateway_kind, gateway_of};
 
 use aes_gcm::Key;
 use cluster_member::Config;
@@ -24,11 +25,16 @@ pub(crate) struct Settings {
 
 impl Model for Settings {
     ghost use Rattle.cluster_member.specs.Members.{configuration_of};
-ghost use Rattle.turn_rules.specs.Configurations.{Configuration, first_ticket_key};
+    ghost use Rattle.turn_rules.specs.Configurations.{Configuration, first_ticket_key};
 
     ghost Value = { Configuration };
 
-    ghost view = { λ s. record { identity = s.identity; lifetime = s.lifetime; window = s.window; ticket_key = first_ticket_key s.ticket_key } };
+    ghost view = { λ s. record {
+      identity = s.identity;
+      lifetime = s.lifetime;
+      window = s.window;
+      ticket_key = first_ticket_key s.ticket_key;
+    } };
 }
 
 // the counter of the IVs under the first ticket key
@@ -84,7 +90,12 @@ impl Settings {
         window: u32,
         key: &OctetList<36>,
     ) -> Settings
-        ensures { result ≡ record { identity = identity; lifetime = lifetime; window = window; ticket_key = first_ticket_key key.now } }
+        ensures { result ≡ record {
+          identity = identity;
+          lifetime = lifetime;
+          window = window;
+          ticket_key = first_ticket_key key.now;
+        } }
     {
         Settings {
             identity,
@@ -106,7 +117,8 @@ impl Settings {
         }
     }
 
-    /// The gateway that the peer talks to: the address of the cluster, or its name (RFC 5685, section 4).
+    /// The gateway that the peer talks to: the address of the cluster, or its name (RFC 5685,
+    /// section 4).
     pub(crate) fn gateway(&self) -> GatewayId
         ensures { result ≡ gateway_of self.now }
     {

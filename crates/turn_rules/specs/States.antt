@@ -17,9 +17,9 @@ use Rattle.turn_rules.specs.Held.{Held, config_by, first_some, found, held_after
 use Rattle.turn_rules.specs.Slots.{Slot, slots_after, slots_by}
 use Rattle.turn_rules.specs.Tasks.{member_task, peer_task}
 
--- boxes: how many services were handed in for members; config: how members are configured that join; joined: how many
--- members joined; gateway and slots: where the peer sends, and its associations. `ended`, `members` and `held` are by the
--- number of a member: they are counted from 1.
+-- boxes: how many services were handed in for members; config: how members are configured that
+-- join; joined: how many members joined; gateway and slots: where the peer sends, and its
+-- associations. `ended`, `members` and `held` are by the number of a member, counted from 1.
 pub record RunState : Type 0 where
   pub boxes : ℕ
   pub started : Bool
@@ -88,7 +88,9 @@ state_after event calls step state = record {
   ended = λ member. ends member event step.verdict || state.ended member;
   datagrams = state.datagrams ++ option_to_list (option_map plain_datagram step.gives);
   gateway = gateway_after (configured_in event step.verdict) state.gateway;
-  slots = if is_end Peer (performer_at event step.verdict) then slots_after state.config.window (peer_task event) step state.slots else state.slots;
+  slots = if is_end Peer (performer_at event step.verdict)
+      then slots_after state.config.window (peer_task event) step state.slots
+      else state.slots;
   members = λ member. held_unless (ends member event step.verdict || state.ended member)
       (if is_end (Member member) (performer_at event step.verdict)
       then first_some (option_map (membership state.config) (fresh_in event step.verdict)) (state.members member)
@@ -132,6 +134,8 @@ told_state boxes past = record {
   datagrams = datagrams_of past;
   gateway = gateway_of (config_by past);
   slots = slots_by (window_by past) (own Peer past);
-  members = λ member. held_unless (has_ended member past) (option_map (membership (config_by past)) (found fresh_at (own (Member member) past)));
-  held = λ member spir. held_unless (has_ended member past) (held_by (window_by past) (own (Member member) past) spir);
+  members = λ member. held_unless (has_ended member past)
+      (option_map (membership (config_by past)) (found fresh_at (own (Member member) past)));
+  held = λ member spir. held_unless (has_ended member past)
+      (held_by (window_by past) (own (Member member) past) spir);
 }
