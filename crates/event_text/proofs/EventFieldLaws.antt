@@ -9,7 +9,7 @@ use Rattle.std.specs.List.{list_all}
 use Rattle.std.specs.Str.{bytes_eq}
 use Rattle.line_fields.specs.declared.fault.LineReason.{LineReason}
 use Rattle.line_fields.specs.declared.fault.LineReason.TheVariants as reasons
-use Rattle.line_fields.specs.Numbers.{is_digit, number_field}
+use Rattle.line_fields.specs.Numbers.{is_digit, number_in_word}
 use Rattle.line_fields.specs.Octets.{IsOctetField, octets_text, sized}
 use Rattle.line_fields.proofs.NumberLaws.{own}
 use Rattle.line_fields.proofs.FieldLaws.{IsField, number_field, ok_is, pick, range_field, sized_field}
@@ -19,22 +19,22 @@ use Rattle.events.specs.declared.event.Which.{Which}
 use Rattle.events.specs.declared.event.Which.TheVariants as whiches
 use Rattle.events.specs.declared.turn.Medium.{Medium}
 use Rattle.events.specs.declared.turn.Medium.TheVariants as mediums
-use Rattle.event_text.specs.EventFields.{is_ticket_key_size, is_window_size, medium_of, member_in, member_field, numbered_in, party_of, ticket_key_in, ticket_key_of, which_of, window_field_in, window_field}
+use Rattle.event_text.specs.EventFields.{is_ticket_key_size, is_window_size, medium_of, member_in, member_in_word, numbered_in, party_of, ticket_key_in, ticket_key_of, which_of, window_field_in, window_in_word}
 use Rattle.replay_set.specs.Window.{IsWindowSize}
 use Rattle.event_text.specs.Grammar.{medium_word, party_text, which_text}
 use Rattle.events.specs.Ranges.{IsParty, IsTicketKey, IsWhich}
 
 -- ---- numbers
 
-pub member_field : IsField member_field decimal (λ n. n < 2 ^ 63)
+pub member_field : IsField member_in_word decimal (λ n. n < 2 ^ 63)
 member_field = number_field (2 ^ 63) (lit≤ tt)
 
 -- a place in a datagram, or how many octets of it are kept
-pub place_field : IsField (number_field 0 (2 ^ 32)) decimal (λ n. n < 2 ^ 32)
+pub place_field : IsField (number_in_word 0 (2 ^ 32)) decimal (λ n. n < 2 ^ 32)
 place_field = number_field (2 ^ 32) (lit≤ tt)
 
 -- seconds of a lifetime, or the number of a datagram
-pub count_field : IsField (number_field 1 (2 ^ 32)) decimal (λ n. (1 ≤ n) × (n < 2 ^ 32))
+pub count_field : IsField (number_in_word 1 (2 ^ 32)) decimal (λ n. (1 ≤ n) × (n < 2 ^ 32))
 count_field = range_field 1 (2 ^ 32) (lit≤ tt)
 
 -- digits are no word of letters
@@ -47,16 +47,16 @@ no_letters w v digits letters =
 
 -- ---- ends and datagrams
 
-member_takes : (w : List ℕ) (r : Result ℕ LineReason) (x : Party) → member_field w ≡ r → member_in r ≡ Ok x → (w ≡ party_text x) × IsParty x
+member_takes : (w : List ℕ) (r : Result ℕ LineReason) (x : Party) → member_in_word w ≡ r → member_in r ≡ Ok x → (w ≡ party_text x) × IsParty x
 member_takes w (Ok n) x read e =
     let took = member_field.takes w n read in subst (λ (p : Party). (w ≡ party_text p) × IsParty p) (ok_is (parties.Member n) x e) (took.0, took.1)
 member_takes w (Err reason) x read e = absurd cc
 
 party_takes : (w : List ℕ) (x : Party) → party_of w ≡ Ok x → (w ≡ party_text x) × IsParty x
 party_takes w x e =
-    pick (bytes_eq w (codes "peer")) (Ok parties.Peer) (member_in (member_field w)) (Ok x) e
+    pick (bytes_eq w (codes "peer")) (Ok parties.Peer) (member_in (member_in_word w)) (Ok x) e
     (λ hit same. subst (λ (p : Party). (w ≡ party_text p) × IsParty p) (ok_is parties.Peer x same) ((bytes_eq-Decides w (codes "peer")).0 hit, tt))
-    (λ miss same. member_takes w (member_field w) x refl same)
+    (λ miss same. member_takes w (member_in_word w) x refl same)
 
 party_again : (x : Party) → IsParty x → party_of (party_text x) ≡ Ok x
 party_again parties.Peer h = refl
@@ -67,16 +67,16 @@ party_again (parties.Member n) h =
 pub party_field : IsField party_of party_text IsParty
 party_field = record { takes = party_takes; again = party_again }
 
-numbered_takes : (w : List ℕ) (r : Result ℕ LineReason) (x : Which) → number_field 1 (2 ^ 32) w ≡ r → numbered_in r ≡ Ok x → (w ≡ which_text x) × IsWhich x
+numbered_takes : (w : List ℕ) (r : Result ℕ LineReason) (x : Which) → number_in_word 1 (2 ^ 32) w ≡ r → numbered_in r ≡ Ok x → (w ≡ which_text x) × IsWhich x
 numbered_takes w (Ok n) x read e =
     let took = count_field.takes w n read in subst (λ (p : Which). (w ≡ which_text p) × IsWhich p) (ok_is (whiches.Number n) x e) (took.0, took.1)
 numbered_takes w (Err reason) x read e = absurd cc
 
 which_takes : (w : List ℕ) (x : Which) → which_of w ≡ Ok x → (w ≡ which_text x) × IsWhich x
 which_takes w x e =
-    pick (bytes_eq w (codes "last")) (Ok whiches.Last) (numbered_in (number_field 1 (2 ^ 32) w)) (Ok x) e
+    pick (bytes_eq w (codes "last")) (Ok whiches.Last) (numbered_in (number_in_word 1 (2 ^ 32) w)) (Ok x) e
     (λ hit same. subst (λ (p : Which). (w ≡ which_text p) × IsWhich p) (ok_is whiches.Last x same) ((bytes_eq-Decides w (codes "last")).0 hit, tt))
-    (λ miss same. numbered_takes w (number_field 1 (2 ^ 32) w) x refl same)
+    (λ miss same. numbered_takes w (number_in_word 1 (2 ^ 32) w) x refl same)
 
 which_again : (x : Which) → IsWhich x → which_of (which_text x) ≡ Ok x
 which_again whiches.Last h = refl
@@ -142,7 +142,7 @@ window_small n (inr (inr (inl e))) = omega (arith, e)
 window_small n (inr (inr (inr (inl e)))) = omega (arith, e)
 window_small n (inr (inr (inr (inr e)))) = omega (arith, e)
 
-size_takes : (w : List ℕ) (r : Result ℕ LineReason) (n : ℕ) → number_field 0 (2 ^ 32) w ≡ r → window_field_in r ≡ Ok n → (w ≡ decimal n) × IsWindowSize n
+size_takes : (w : List ℕ) (r : Result ℕ LineReason) (n : ℕ) → number_in_word 0 (2 ^ 32) w ≡ r → window_field_in r ≡ Ok n → (w ≡ decimal n) × IsWindowSize n
 size_takes w (Ok m) n read e =
     pick (is_window_size m) (Ok m) (Err reasons.Number) (Ok n) e
     (λ hit same.
@@ -151,11 +151,11 @@ size_takes w (Ok m) n read e =
     (λ miss same. absurd cc)
 size_takes w (Err reason) n read e = absurd cc
 
-window_again : (n : ℕ) → IsWindowSize n → window_field (decimal n) ≡ Ok n
+window_again : (n : ℕ) → IsWindowSize n → window_in_word (decimal n) ≡ Ok n
 window_again n h = rw (place_field.again n (window_small n h), is_size n h) refl
 
-pub window_field : IsField window_field decimal IsWindowSize
-window_field = record { takes = λ w n e. size_takes w (number_field 0 (2 ^ 32) w) n refl e; again = window_again }
+pub window_field : IsField window_in_word decimal IsWindowSize
+window_field = record { takes = λ w n e. size_takes w (number_in_word 0 (2 ^ 32) w) n refl e; again = window_again }
 
 -- ---- ticket keys
 

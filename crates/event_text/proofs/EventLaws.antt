@@ -14,7 +14,7 @@ use Rattle.keeper_book.specs.Records.{sealing_key_octets}
 use Rattle.line_fields.specs.declared.fault.LineFault.{LineFault}
 use Rattle.line_fields.specs.declared.fault.LineReason.TheVariants as reasons
 use Rattle.line_fields.specs.Words.{Cursor, line_of, words_of}
-use Rattle.line_fields.specs.Numbers.{number_field}
+use Rattle.line_fields.specs.Numbers.{number_in_word}
 use Rattle.events.specs.Events.{PlainEvent, Cluster, Import, Join, Own, Draw, Crash, Send, Deliver, Alter, Cut, Inject}
 use Rattle.line_fields.specs.Fields.{◌>>=◌, behind_field, ended_at, end_in, fault_at, word_at, word_in}
 use Rattle.event_text.specs.Reading.{alter_at, child_keys_at, cluster_at, crash_at, cut_at, deliver_at, draw_at, event_at, event_readers, import_at, inject_at, join_at, line_at, moment_at, reader_named, own_at, sa_keys_at, send_at, starts_at, told_at}
@@ -25,7 +25,7 @@ use Rattle.event_text.proofs.EventFieldLaws.{count_field, medium_field, member_f
 use Rattle.event_text.proofs.SpacelessLaws.{line_spaceless}
 use Rattle.line_fields.proofs.FieldLaws.{IsField, IsReader, column_behind, domain_name_field, esp_spi_field, field_again, identity_field, key_size_field, number_field, octet_field, ok_is, pick, reader, sized_field, spi_field, then_word, then_words, walk}
 
-message_id_field : IsField (number_field 0 (2 ^ 32 - 1)) decimal (λ n. n < 2 ^ 32 - 1)
+message_id_field : IsField (number_in_word 0 (2 ^ 32 - 1)) decimal (λ n. n < 2 ^ 32 - 1)
 message_id_field = number_field (2 ^ 32 - 1) (lit≤ tt)
 
 -- ---- the parts of an association

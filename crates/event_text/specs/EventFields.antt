@@ -3,7 +3,7 @@ use Rattle.std.specs.Prelude.{ℕ, ◌^◌, ◌==◌, ◌||◌, Bool, List, leng
 use Rattle.std.specs.Str.{bytes_eq}
 use Rattle.line_fields.specs.declared.fault.LineReason.{LineReason}
 use Rattle.line_fields.specs.declared.fault.LineReason.TheVariants as reasons
-use Rattle.line_fields.specs.Numbers.{number_field}
+use Rattle.line_fields.specs.Numbers.{number_in_word}
 use Rattle.line_fields.specs.Octets.{sized}
 use Rattle.events.specs.declared.event.Party.{Party}
 use Rattle.events.specs.declared.event.Party.TheVariants as parties
@@ -13,8 +13,8 @@ use Rattle.events.specs.declared.turn.Medium.{Medium}
 use Rattle.events.specs.declared.turn.Medium.TheVariants as mediums
 
 -- a member's number
-abbrev pub member_field : List ℕ → Result ℕ LineReason
-member_field = number_field 0 (2 ^ 63)
+abbrev pub member_in_word : List ℕ → Result ℕ LineReason
+member_in_word = number_in_word 0 (2 ^ 63)
 
 abbrev pub member_in : Result ℕ LineReason → Result Party LineReason
 member_in (Ok number) = Ok (parties.Member number)
@@ -22,7 +22,7 @@ member_in (Err reason) = Err reason
 
 -- an end
 abbrev pub party_of : List ℕ → Result Party LineReason
-party_of w = if bytes_eq w (codes "peer") then Ok parties.Peer else member_in (member_field w)
+party_of w = if bytes_eq w (codes "peer") then Ok parties.Peer else member_in (member_in_word w)
 
 abbrev pub numbered_in : Result ℕ LineReason → Result Which LineReason
 numbered_in (Ok number) = Ok (whiches.Number number)
@@ -30,7 +30,7 @@ numbered_in (Err reason) = Err reason
 
 -- a datagram
 abbrev pub which_of : List ℕ → Result Which LineReason
-which_of w = if bytes_eq w (codes "last") then Ok whiches.Last else numbered_in (number_field 1 (2 ^ 32) w)
+which_of w = if bytes_eq w (codes "last") then Ok whiches.Last else numbered_in (number_in_word 1 (2 ^ 32) w)
 
 -- what a datagram carries
 abbrev pub medium_of : List ℕ → Result Medium LineReason
@@ -44,8 +44,8 @@ window_field_in (Ok n) = if is_window_size n then Ok n else Err reasons.Number
 window_field_in (Err reason) = Err reason
 
 -- the size of a receive window
-abbrev pub window_field : List ℕ → Result ℕ LineReason
-window_field w = window_field_in (number_field 0 (2 ^ 32) w)
+abbrev pub window_in_word : List ℕ → Result ℕ LineReason
+window_in_word w = window_field_in (number_in_word 0 (2 ^ 32) w)
 
 abbrev pub is_ticket_key_size : ℕ → Bool
 is_ticket_key_size n = n == 0 || n == 20 || n == 36

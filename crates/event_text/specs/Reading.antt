@@ -12,12 +12,12 @@ use Rattle.line_fields.specs.declared.fault.LineReason.{LineReason}
 use Rattle.line_fields.specs.declared.fault.LineReason.TheVariants as reasons
 use Rattle.line_fields.specs.declared.fault.LineFault.{LineFault}
 use Rattle.line_fields.specs.Words.{Cursor, words_of}
-use Rattle.line_fields.specs.Numbers.{number_field}
-use Rattle.line_fields.specs.Octets.{esp_spi_of, octet_of, sized, spi_field}
+use Rattle.line_fields.specs.Numbers.{number_in_word}
+use Rattle.line_fields.specs.Octets.{esp_spi_of, octet_of, sized, spi_in_word}
 use Rattle.line_fields.specs.Identities.{domain_name_of, identity_of}
 use Rattle.line_fields.specs.Fields.{◌>>=◌, ended_at, fault_at, field, key_size_of, word_at}
 use Rattle.events.specs.Events.{PlainEvent, Cluster, Import, Join, Own, Draw, Crash, Send, Deliver, Alter, Cut, Inject}
-use Rattle.event_text.specs.EventFields.{medium_of, member_field, party_of, ticket_key_of, which_of, window_field}
+use Rattle.event_text.specs.EventFields.{medium_of, member_in_word, party_of, ticket_key_of, which_of, window_in_word}
 
 -- a sealing key: an AES key and four octets of salt (RFC 5282, section 7.1)
 abbrev pub sealing_key_of : KeySize → List ℕ → Result (List ℕ) LineReason
@@ -40,19 +40,19 @@ child_keys_at size s = do
 
 unfoldable pub starts_at : Cursor → Result (Five × Cursor) LineFault
 starts_at s = do
-  esp_out ← field (number_field 0 (2 ^ 63)) s
-  esp_in ← field (number_field 0 (2 ^ 63)) esp_out.1
-  iv ← field (number_field 0 (2 ^ 63)) esp_in.1
-  ask ← field (number_field 0 (2 ^ 32 - 1)) iv.1
-  answer ← field (number_field 0 (2 ^ 32 - 1)) ask.1
+  esp_out ← field (number_in_word 0 (2 ^ 63)) s
+  esp_in ← field (number_in_word 0 (2 ^ 63)) esp_out.1
+  iv ← field (number_in_word 0 (2 ^ 63)) esp_in.1
+  ask ← field (number_in_word 0 (2 ^ 32 - 1)) iv.1
+  answer ← field (number_in_word 0 (2 ^ 32 - 1)) ask.1
   Ok (record { esp_out = esp_out.0; esp_in = esp_in.0; iv = iv.0; ask = ask.0; answer = answer.0 }, answer.1)
 
 -- ---- the fields of each event
 
 unfoldable pub import_at : Cursor → Result (PlainEvent × Cursor) LineFault
 import_at s = do
-  spii ← field spi_field s
-  spir ← field spi_field spii.1
+  spii ← field spi_in_word s
+  spir ← field spi_in_word spii.1
   size ← field key_size_of spir.1
   identity ← field identity_of size.1
   keys ← sa_keys_at size.0 identity.1
@@ -83,33 +83,33 @@ join_at s = do
 
 unfoldable pub own_at : Cursor → Result (PlainEvent × Cursor) LineFault
 own_at s = do
-  member ← field member_field s
-  spir ← field spi_field member.1
+  member ← field member_in_word s
+  spir ← field spi_in_word member.1
   Ok (Own member.0 spir.0, spir.1)
 
 unfoldable pub draw_at : Cursor → Result (PlainEvent × Cursor) LineFault
 draw_at s = do
-  member ← field member_field s
-  spir ← field spi_field member.1
+  member ← field member_in_word s
+  spir ← field spi_in_word member.1
   Ok (Draw member.0 spir.0, spir.1)
 
 unfoldable pub crash_at : Cursor → Result (PlainEvent × Cursor) LineFault
 crash_at s = do
-  member ← field member_field s
+  member ← field member_in_word s
   Ok (Crash member.0, member.1)
 
 unfoldable pub cluster_at : Cursor → Result (PlainEvent × Cursor) LineFault
 cluster_at s = do
   identity ← field domain_name_of s
-  lifetime ← field (number_field 1 (2 ^ 32)) identity.1
-  window ← field window_field lifetime.1
+  lifetime ← field (number_in_word 1 (2 ^ 32)) identity.1
+  window ← field window_in_word lifetime.1
   ticket_key ← field ticket_key_of window.1
   Ok (Cluster identity.0 lifetime.0 window.0 ticket_key.0, ticket_key.1)
 
 unfoldable pub send_at : Cursor → Result (PlainEvent × Cursor) LineFault
 send_at s = do
   from ← field party_of s
-  spir ← field spi_field from.1
+  spir ← field spi_in_word from.1
   payload ← field (sized 0 1400) spir.1
   Ok (Send from.0 spir.0 payload.0, payload.1)
 
@@ -123,7 +123,7 @@ unfoldable pub alter_at : Cursor → Result (PlainEvent × Cursor) LineFault
 alter_at s = do
   which ← field which_of s
   to ← field party_of which.1
-  place ← field (number_field 0 (2 ^ 32)) to.1
+  place ← field (number_in_word 0 (2 ^ 32)) to.1
   octet ← field octet_of place.1
   Ok (Alter which.0 to.0 place.0 octet.0, octet.1)
 
@@ -131,7 +131,7 @@ unfoldable pub cut_at : Cursor → Result (PlainEvent × Cursor) LineFault
 cut_at s = do
   which ← field which_of s
   to ← field party_of which.1
-  keep ← field (number_field 0 (2 ^ 32)) to.1
+  keep ← field (number_in_word 0 (2 ^ 32)) to.1
   Ok (Cut which.0 to.0 keep.0, keep.1)
 
 unfoldable pub inject_at : Cursor → Result (PlainEvent × Cursor) LineFault
@@ -175,7 +175,7 @@ not_before c last n = if nat_lt n.0 last then Err (fault_at c reasons.ClockBack)
 -- a moment in seconds, which is not before the last one
 unfoldable pub moment_at : ℕ → Cursor → Result (ℕ × Cursor) LineFault
 moment_at last s = do
-  n ← field (number_field 0 (2 ^ 63)) s
+  n ← field (number_in_word 0 (2 ^ 63)) s
   not_before s.column last n
 
 unfoldable pub told_at : ℕ → Cursor → Result (Moment × PlainEvent) LineFault

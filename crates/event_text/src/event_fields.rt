@@ -4,7 +4,7 @@ ghost use Rattle.std.specs.Prelude.{◌≡◌, ◌≤◌};
 ghost use Rattle.line_fields.specs.Octets.{sized};
 ghost use Rattle.line_fields.specs.Fields.{Reads, field};
 ghost use Rattle.event_text.specs.InMemory.{GivesInLine};
-ghost use Rattle.event_text.specs.EventFields.{is_ticket_key_size, is_window_size, medium_of, party_of, ticket_key_of, which_of, window_field};
+ghost use Rattle.event_text.specs.EventFields.{is_ticket_key_size, is_window_size, medium_of, party_of, ticket_key_of, which_of, window_in_word};
 
 use crate::failure::Failure;
 use crate::reading::NUMBERS;
@@ -87,7 +87,7 @@ fn is_window_size(size: u32) -> bool
 }
 
 fn window_word(word: &[u8]) -> Result<u32, LineReason>
-    ensures { result ≡ window_field word.now }
+    ensures { result ≡ window_in_word word.now }
 {
     let size = short_word(word, 0)?;
     if !is_window_size(size) {
@@ -99,7 +99,7 @@ fn window_word(word: &[u8]) -> Result<u32, LineReason>
 /// The size of a receive window.
 #[tactic(auto, unfolding(line_fields::specs::Fields::field))]
 pub(crate) fn window(words: &mut Words<'_>) -> Result<u32, LineFault>
-    ensures { Reads (λ x. x) result words.new (field window_field words.old) }
+    ensures { Reads (λ x. x) result words.new (field window_in_word words.old) }
 {
     let column = words.column();
     let word = words.word()?;

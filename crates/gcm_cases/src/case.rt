@@ -2,6 +2,7 @@
 
 ghost use Rattle.std.specs.Prelude.{◌≤◌, length};
 
+use crate::plain;
 use aes_gcm::{Key, MAX_LEN, open_in_place, seal_in_place};
 use anyhow::{bail, ensure};
 use spend_once::{CounterName, End, Kind, Lot, Origin};
@@ -42,6 +43,16 @@ fn octets(alloc: Global, word: Option<&str>) -> anyhow::Result<Vec<u8>> {
     }
 }
 
+// the salt at the key's end, and the initialization vector (RFC 4106, section 4)
+fn nonce(key: &[u8], iv: u64) -> [u8; 12]
+    requires { 4 ≤ length key.now }
+{
+    let mut nonce = [0; 12];
+    nonce[..4].copy_from_slice(&key[key.len() - 4..]);
+    nonce[4..].copy_from_slice(&iv.to_be_bytes());
+    nonce
+}
+
 impl Case {
     /// Reads the four words of a line.
     pub fn parse(alloc: Global, line: &str) -> anyhow::Result<Case> {
@@ -75,6 +86,12 @@ impl Case {
         };
         seal_in_place(&key, number, &self.aad, &mut buf, &mut tag);
         let ciphertext = buf.clone()?;
+        let mut plainly = self.plain.clone()?;
+        let plain_tag = plain::seal(&key, &nonce(&self.key, self.iv), &self.aad, &mut plainly);
+        ensure!(
+            plainly.as_slice() == ciphertext.as_slice() && plain_tag == tag,
+            "plain bodies seal this otherwise"
+        );
         let refused = is_refused(&key, self.iv, &self.aad, &mut buf, &tag);
         let opened = open_in_place(&key, self.iv, &self.aad, &mut buf, &tag);
         Ok(Answer {

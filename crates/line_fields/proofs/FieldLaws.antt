@@ -18,8 +18,8 @@ use Rattle.line_fields.specs.declared.fault.LineFault.{LineFault}
 use Rattle.line_fields.specs.declared.fault.LineReason.{LineReason}
 use Rattle.line_fields.specs.declared.fault.LineReason.TheVariants as reasons
 use Rattle.line_fields.specs.Words.{Cursor}
-use Rattle.line_fields.specs.Numbers.{begins_well, is_numeral, numeral_of, in_range, number_field}
-use Rattle.line_fields.specs.Octets.{IsOctetField, dash, decoded, octet_in, octet_of, esp_spi_of, esp_spi_text, is_hex, octets_in, octets_text, size_of, sized, spells_octets, spi_field, spi_text}
+use Rattle.line_fields.specs.Numbers.{begins_well, is_numeral, numeral_of, in_range, number_in_word}
+use Rattle.line_fields.specs.Octets.{IsOctetField, dash, decoded, octet_in, octet_of, esp_spi_of, esp_spi_text, is_hex, octets_in, octets_text, size_of, sized, spells_octets, spi_in_word, spi_text}
 use Rattle.line_fields.specs.Identities.{Form, IsIdentity, IsOfForm, behind_prefix, domain_name_of, fqdn, identity_in, identity_of, identity_text, ipv4, ipv6, key, mail, of_form, prefix_of}
 use Rattle.line_fields.specs.Fields.{◌>>=◌, behind_field, field, key_size_of, located, word_at, word_in}
 use Rattle.line_fields.specs.Fields.{size_text}
@@ -58,7 +58,7 @@ in_range_takes least limit (Some m) n e =
     subst (λ (k : ℕ). (Some m ≡ Some k) × (least ≤ k) × (k < limit)) (ok_is m n same) (refl, leb-true least m tests.0, ltb-true m limit tests.1))
     (λ miss same. absurd cc)
 
-number_takes : (least limit : ℕ) (w : List ℕ) (n : ℕ) → number_field least limit w ≡ Ok n → (w ≡ decimal n) × (least ≤ n) × (n < limit)
+number_takes : (least limit : ℕ) (w : List ℕ) (n : ℕ) → number_in_word least limit w ≡ Ok n → (w ≡ decimal n) × (least ≤ n) × (n < limit)
 number_takes least limit w n e =
     let range = in_range_takes least limit (numeral_of w) n e in
     let some = some_is (is_numeral w && ltb (digits_value 10 w) (2 ^ 64)) (digits_value 10 w) n range.0 in
@@ -76,7 +76,7 @@ decimal_well : (n : ℕ) → n < 2 ^ 64 → get_or (decimal n) 0 0 ≡ 48 → le
 decimal_well zero lt e = ap length (decimal_digit 0 (omega arith))
 decimal_well (suc n) lt e = let first = first_decimal (suc n) (omega arith) lt in absurd (omega arith)
 
-number_again : (least limit n : ℕ) → limit ≤ 2 ^ 64 → least ≤ n → n < limit → number_field least limit (decimal n) ≡ Ok n
+number_again : (least limit n : ℕ) → limit ≤ 2 ^ 64 → least ≤ n → n < limit → number_in_word least limit (decimal n) ≡ Ok n
 number_again least limit n small le lt =
     let wide : n < 2 ^ 64 = omega arith in
     let digits = digits_decimal own n wide in
@@ -84,11 +84,11 @@ number_again least limit n small le lt =
     let value = digits_value-decimal own n wide in
     rw (digits, well, value, lt-ltb n (2 ^ 64) wide, le-leb least n le, lt-ltb n limit lt) refl
 
-pub number_field : (limit : ℕ) → limit ≤ 2 ^ 64 → IsField (number_field 0 limit) decimal (λ n. n < limit)
+pub number_field : (limit : ℕ) → limit ≤ 2 ^ 64 → IsField (number_in_word 0 limit) decimal (λ n. n < limit)
 number_field limit small =
     record { takes = λ w n e. let took = number_takes 0 limit w n e in (took.0, took.2); again = λ n lt. number_again 0 limit n small (omega arith) lt }
 
-pub range_field : (least limit : ℕ) → limit ≤ 2 ^ 64 → IsField (number_field least limit) decimal (λ n. (least ≤ n) × (n < limit))
+pub range_field : (least limit : ℕ) → limit ≤ 2 ^ 64 → IsField (number_in_word least limit) decimal (λ n. (least ≤ n) × (n < limit))
 range_field least limit small =
     record { takes = λ w n e. let took = number_takes least limit w n e in (took.0, (took.1, took.2)); again = λ n h. number_again least limit n small h.0 h.1 }
 
@@ -185,7 +185,7 @@ bytes_high zero n i = omega arith
 bytes_high (suc k) n zero = byte_below k n
 bytes_high (suc k) n (suc i) = bytes_high k n i
 
-spi_takes : (w : List ℕ) (n : ℕ) → spi_field w ≡ Ok n → (w ≡ spi_text n) × (n < 2 ^ 64)
+spi_takes : (w : List ℕ) (n : ℕ) → spi_in_word w ≡ Ok n → (w ≡ spi_text n) × (n < 2 ^ 64)
 spi_takes w n e =
     pick (is_hex w) (cond (eqb (length w / 2) 8) (Ok (from_be_bytes w64 (decoded w))) (Err reasons.Size)) (Err reasons.Hex) (Ok n) e
     (λ hit rest. pick (eqb (length w / 2) 8) (Ok (from_be_bytes w64 (decoded w))) (Err reasons.Size) (Ok n) rest
@@ -201,7 +201,7 @@ spi_takes w n e =
     (λ short same. absurd cc))
     (λ miss rest. absurd cc)
 
-spi_again : (n : ℕ) → n < 2 ^ 64 → spi_field (spi_text n) ≡ Ok n
+spi_again : (n : ℕ) → n < 2 ^ 64 → spi_in_word (spi_text n) ≡ Ok n
 spi_again n lt =
     let bytes = bytes_high 8 n in
     let hex = hex-encode (to_be_bytes w64 n) bytes (omega arith) in
@@ -209,7 +209,7 @@ spi_again n lt =
     let half : length (spi_text n) / 2 ≡ 8 = omega (arith, long) in
     rw (hex, half, decoded-encode (to_be_bytes w64 n) bytes, from_be_bytes-to_be_bytes_8 n lt) refl
 
-pub spi_field : IsField spi_field spi_text (λ n. n < 2 ^ 64)
+pub spi_field : IsField spi_in_word spi_text (λ n. n < 2 ^ 64)
 spi_field = record { takes = spi_takes; again = spi_again }
 
 esp_spi_takes : (w : List ℕ) (n : ℕ) → esp_spi_of w ≡ Ok n → (w ≡ esp_spi_text n) × (n < 2 ^ 32)

@@ -26,5 +26,5 @@ in_range least limit None = Err Number
 in_range least limit (Some n) = if nat_le least n && nat_lt n limit then Ok n else Err Number
 
 -- a number from least on and below limit
-abbrev pub number_field : ℕ → ℕ → List ℕ → Result ℕ LineReason
-number_field least limit w = in_range least limit (numeral_of w)
+abbrev pub number_in_word : ℕ → ℕ → List ℕ → Result ℕ LineReason
+number_in_word least limit w = in_range least limit (numeral_of w)

@@ -67,8 +67,8 @@ abbrev pub esp_spi_text : ℕ → List ℕ
 esp_spi_text n = encode_lower (to_be_bytes w32 n)
 
 -- an SPI of the IKE header (RFC 7296 section 3.1), in 16 digits
-abbrev pub spi_field : List ℕ → Result ℕ LineReason
-spi_field w = if is_hex w then (if length w / 2 == 8 then Ok (from_be_bytes w64 (decoded w)) else Err Size) else Err Hex
+abbrev pub spi_in_word : List ℕ → Result ℕ LineReason
+spi_in_word w = if is_hex w then (if length w / 2 == 8 then Ok (from_be_bytes w64 (decoded w)) else Err Size) else Err Hex
 
 -- an SPI of an ESP packet (RFC 4303 section 2.1), in 8 digits
 abbrev pub esp_spi_of : List ℕ → Result ℕ LineReason

@@ -2,8 +2,8 @@
 //! with the word, or that none is left.
 
 ghost use Rattle.std.specs.Prelude.{◌≡◌, ◌≤◌, ◌<◌, ◌^◌, length, IfOk};
-ghost use Rattle.line_fields.specs.Numbers.{number_field};
-ghost use Rattle.line_fields.specs.Octets.{esp_spi_of, octet_of, sized, spi_field};
+ghost use Rattle.line_fields.specs.Numbers.{number_in_word};
+ghost use Rattle.line_fields.specs.Octets.{esp_spi_of, octet_of, sized, spi_in_word};
 ghost use Rattle.line_fields.specs.Identities.{domain_name_of, identity_of};
 ghost use Rattle.line_fields.specs.Fields.{Reads, field, key_size_of};
 
@@ -17,7 +17,7 @@ use ha_base::{Identity, KeySize, OctetList};
 /// A decimal number below a limit.
 #[tactic(auto, unfolding(crate::specs::Fields::field))]
 pub fn number(words: &mut Words<'_>, limit: u64) -> Result<u64, LineFault>
-    ensures value { Reads (λ x. x) result words.new (field (number_field 0 limit) words.old) }
+    ensures value { Reads (λ x. x) result words.new (field (number_in_word 0 limit) words.old) }
     ensures below { IfOk result (λ number. number < limit) }
 {
     let column = words.column();
@@ -28,7 +28,7 @@ pub fn number(words: &mut Words<'_>, limit: u64) -> Result<u64, LineFault>
 /// A decimal number below 2^32, from `least` on.
 #[tactic(auto, unfolding(crate::specs::Fields::field))]
 pub fn short_number(words: &mut Words<'_>, least: u64) -> Result<u32, LineFault>
-    ensures { Reads (λ x. x) result words.new (field (number_field least (2 ^ 32)) words.old) }
+    ensures { Reads (λ x. x) result words.new (field (number_in_word least (2 ^ 32)) words.old) }
 {
     let column = words.column();
     let word = words.word()?;
@@ -38,7 +38,7 @@ pub fn short_number(words: &mut Words<'_>, least: u64) -> Result<u32, LineFault>
 /// An SPI of the IKE header (RFC 7296, section 3.1), in 16 digits.
 #[tactic(auto, unfolding(crate::specs::Fields::field))]
 pub fn spi(words: &mut Words<'_>) -> Result<u64, LineFault>
-    ensures { Reads (λ x. x) result words.new (field spi_field words.old) }
+    ensures { Reads (λ x. x) result words.new (field spi_in_word words.old) }
 {
     let column = words.column();
     let word = words.word()?;

@@ -2,7 +2,7 @@
 
 ghost use Rattle.std.specs.Prelude.{◌≡◌, ◌^◌, ◌≤◌, ◌<◌, IfOk, IsTrue};
 ghost use Rattle.std.specs.List.{list_all};
-ghost use Rattle.line_fields.specs.Numbers.{is_digit, is_numeral, numeral_of, number_field};
+ghost use Rattle.line_fields.specs.Numbers.{is_digit, is_numeral, numeral_of, number_in_word};
 
 use crate::fault::LineReason;
 use std::str;
@@ -48,7 +48,7 @@ fn numeral(word: &[u8]) -> Option<u64>
 
 /// A number from `least` on, and below a limit.
 pub fn number_word(word: &[u8], least: u64, limit: u64) -> Result<u64, LineReason>
-    ensures value { result ≡ number_field least limit word.now }
+    ensures value { result ≡ number_in_word least limit word.now }
     ensures within { IfOk result (λ number. (least ≤ number) × (number < limit)) }
 {
     match numeral(word) {
@@ -59,7 +59,7 @@ pub fn number_word(word: &[u8], least: u64, limit: u64) -> Result<u64, LineReaso
 
 /// A number below 2^32, from `least` on.
 pub fn short_word(word: &[u8], least: u64) -> Result<u32, LineReason>
-    ensures { result ≡ number_field least (2 ^ 32) word.now }
+    ensures { result ≡ number_in_word least (2 ^ 32) word.now }
 {
     let number = number_word(word, least, 1 << 32)?;
     Ok(number as u32)

@@ -2,7 +2,7 @@
 
 ghost use Rattle.std.specs.Prelude.{◌≡◌, ◌≤◌, ◌/◌, true, length, IfOk, OnOk};
 ghost use Rattle.std.specs.List.{list_all};
-ghost use Rattle.line_fields.specs.Octets.{decoded, esp_spi_of, is_hex, is_lower, octet_of, spells_octets, size_of, sized, spi_field};
+ghost use Rattle.line_fields.specs.Octets.{decoded, esp_spi_of, is_hex, is_lower, octet_of, spells_octets, size_of, sized, spi_in_word};
 
 use crate::fault::LineReason;
 use ha_base::{OctetArray, OctetList};
@@ -119,7 +119,7 @@ pub(crate) fn copied_word<const N: usize>(
 
 /// An SPI of the IKE header, in 16 digits.
 pub(crate) fn spi_word(word: &[u8]) -> Result<u64, LineReason>
-    ensures { result ≡ spi_field word.now }
+    ensures { result ≡ spi_in_word word.now }
 {
     if !is_hex(word) {
         return Err(LineReason::Hex);
