@@ -25,11 +25,11 @@ use Rattle.turn_laws.specs.Places.{Ours, Place, column}
 use Rattle.turn_laws.specs.Turns.{actor_of, acts_of, key_iv, moves_of, uses_of}
 use Rattle.turn_rules.specs.Ends.{Member, own}
 use Rattle.turn_rules.specs.Held.{Held, held_by, number_of, window_by}
-use Rattle.turn_rules.specs.Local.{IsExplained, Local, Stands, calls_of}
+use Rattle.turn_rules.specs.Local.{IsByRule, Explained, Stands, calls_of}
 use Rattle.turn_rules.specs.Safe.{IsEachOnce}
 
 -- the moves of a turn that is explained may be made
-pub turn-well : (boxes : ℕ) (past : List Turn) (turn : Turn) → IsExplained boxes past turn → Local boxes past → MayDoAll (acts_of past) (actor_of turn) (moves_of turn)
+pub turn-well : (boxes : ℕ) (past : List Turn) (turn : Turn) → IsByRule boxes past turn → Explained boxes past → MayDoAll (acts_of past) (actor_of turn) (moves_of turn)
 turn-well boxes past turn explained local = deed-well past (acts_of past) (told-held boxes past local) (peer-may boxes past local) turn.event turn.calls turn.step (deed-of boxes past turn explained local)
 
 use-leaves : (move : Move) → IsUseOrEnd move → LeavesBook move
@@ -43,7 +43,7 @@ seals-leave [] = tt
 seals-leave (seal ∷ seals) = ((λ book. refl), seals-leave seals)
 
 -- the acts of a run
-pub lawful-run : (boxes : ℕ) (past : List Turn) (book : Book) → Local boxes past → Stands past book → Lawful (acts_of past) book
+pub lawful-run : (boxes : ℕ) (past : List Turn) (book : Book) → Explained boxes past → Stands past book → Lawful (acts_of past) book
 lawful-run boxes [] book local stands = stands
 lawful-run boxes (turn ∷ past) book local stands =
     let parts : (mid : Book) × EntersAll empty (calls_of past) mid × EntersAll mid turn.calls book = enters_all-append (calls_of past) turn.calls empty book stands in
@@ -57,22 +57,22 @@ lawful-run boxes (turn ∷ past) book local stands =
     may.1)
 
 -- all is owned
-pub owned-run : (boxes : ℕ) (past : List Turn) (book : Book) → Local boxes past → Stands past book → Owned (acts_of past) book
+pub owned-run : (boxes : ℕ) (past : List Turn) (book : Book) → Explained boxes past → Stands past book → Owned (acts_of past) book
 owned-run boxes past book local stands = owned-lawful (acts_of past) book (lawful-run boxes past book local stands)
 
-pub numbers-once : (boxes : ℕ) (past : List Turn) (book : Book) → Local boxes past → Stands past book → (p : Place) → IsEachOnce (numbers_at p (acts_of past))
+pub numbers-once : (boxes : ℕ) (past : List Turn) (book : Book) → Explained boxes past → Stands past book → (p : Place) → IsEachOnce (numbers_at p (acts_of past))
 numbers-once boxes past book local stands p = ((owned-run boxes past book local stands).numbers p).once
 
-pub counters-once : (boxes : ℕ) (past : List Turn) (book : Book) → Local boxes past → Stands past book → (spir : ℕ) (c : Counter) → IsEachOnce (filter_map (number_of spir c) past)
+pub counters-once : (boxes : ℕ) (past : List Turn) (book : Book) → Explained boxes past → Stands past book → (spir : ℕ) (c : Counter) → IsEachOnce (filter_map (number_of spir c) past)
 counters-once boxes past book local stands spir c = counters-hold (λ ns. IsEachOnce ns) tt boxes past local spir c (numbers-once boxes past book local stands (Ours spir c))
 
 -- what a member's own turns say that it holds is its holding at each counter
-held-tells : (boxes : ℕ) (past : List Turn) → Local boxes past → (member spir : ℕ) (held : Held) → held_by (window_by past) (own (Member member) past) spir ≡ Some held → (c : Counter) → (h : Holding) × Tells (own (Member member) past) spir c held h × (holding_at (Ours spir c) (acts_of past) (End (Member member)) ≡ Some h)
+held-tells : (boxes : ℕ) (past : List Turn) → Explained boxes past → (member spir : ℕ) (held : Held) → held_by (window_by past) (own (Member member) past) spir ≡ Some held → (c : Counter) → (h : Holding) × Tells (own (Member member) past) spir c held h × (holding_at (Ours spir c) (acts_of past) (End (Member member)) ≡ Some h)
 held-tells boxes past local member spir held is c =
     let so : (h : Holding) × Tells (own (Member member) past) spir c held h = tells (window_by past) (own (Member member) past) spir c held is in
     (so.0, so.1, sym (told-held boxes past local member spir c) ∙ so.1.told_so)
 
-module _ (boxes : ℕ) (past : List Turn) (book : Book) (local : Local boxes past) (stands : Stands past book) (m k spir : ℕ) (h g : Held) (holds : held_by (window_by past) (own (Member m) past) spir ≡ Some h) (other : held_by (window_by past) (own (Member k) past) spir ≡ Some g) where
+module _ (boxes : ℕ) (past : List Turn) (book : Book) (local : Explained boxes past) (stands : Stands past book) (m k spir : ℕ) (h g : Held) (holds : held_by (window_by past) (own (Member m) past) spir ≡ Some h) (other : held_by (window_by past) (own (Member k) past) spir ≡ Some g) where
   of_m : (c : Counter) → (x : Holding) × Tells (own (Member m) past) spir c h x × (holding_at (Ours spir c) (acts_of past) (End (Member m)) ≡ Some x)
   of_m c = held-tells boxes past local m spir h holds c
 

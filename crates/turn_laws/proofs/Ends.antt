@@ -30,7 +30,7 @@ use Rattle.turn_laws.specs.Holdings.{Actor, Begins, Draws, Effect, Holding, Noth
 use Rattle.turn_laws.specs.Places.{Ours, Place, Theirs, column, end_at, is_place, place_of}
 use Rattle.turn_laws.specs.Turns.{actor_of, acts_of, key_iv, moves_of, uses_of}
 use Rattle.turn_rules.specs.Held.{is_named, number_of}
-use Rattle.turn_rules.specs.Local.{Local, Stands}
+use Rattle.turn_rules.specs.Local.{Explained, Stands}
 
 -- what ends hold does not pass the counter's end, and what was used lies below it
 abbrev HighsWithin : (Actor → Option Holding) → Type 0
@@ -177,7 +177,7 @@ seals-answered : (seals : List Seal) → AllByRecursion IsAnswered (map (λ seal
 seals-answered [] = tt
 seals-answered (seal ∷ seals) = (tt, seals-answered seals)
 
-within-run : (boxes : ℕ) (past : List Turn) → Local boxes past → (p : Place) → WithinEnds p (acts_of past)
+within-run : (boxes : ℕ) (past : List Turn) → Explained boxes past → (p : Place) → WithinEnds p (acts_of past)
 within-run boxes [] local p = record { highs = λ w h is. absurd (none p w h is); uses = no_use p }
   where
     none : (p : Place) (w : Actor) (h : Holding) → holding_at p [] w ≡ Some h → ⊥
@@ -193,7 +193,7 @@ within-run boxes (turn ∷ past) local p = moves-within p (actor_of turn) (moves
     (within-run boxes past local.1 p)
 
 -- no number reaches its counter's end, as the record gives it under which the number was used
-pub uses-end : (boxes : ℕ) (past : List Turn) → Local boxes past → (p : Place) → AllByRecursion IsBelowEnd (uses_at p (acts_of past))
+pub uses-end : (boxes : ℕ) (past : List Turn) → Explained boxes past → (p : Place) → AllByRecursion IsBelowEnd (uses_at p (acts_of past))
 uses-end boxes past local p = (within-run boxes past local p).uses
 
 -- and an honest book gives the same end
@@ -201,10 +201,10 @@ numbers-below : (end : ℕ) (uses : List Use) → AllByRecursion (λ u. u.number
 numbers-below end [] all = tt
 numbers-below end (u ∷ us) all = (all.0, numbers-below end us all.1)
 
-pub numbers-end : (boxes : ℕ) (past : List Turn) (book : Book) → Local boxes past → Stands past book → (p : Place) → AllByRecursion (λ n. n < end_at p book) (numbers_at p (acts_of past))
+pub numbers-end : (boxes : ℕ) (past : List Turn) (book : Book) → Explained boxes past → Stands past book → (p : Place) → AllByRecursion (λ n. n < end_at p book) (numbers_at p (acts_of past))
 numbers-end boxes past book local stands p = numbers-below (end_at p book) (uses_at p (acts_of past))
     (all-both (uses_at p (acts_of past)) (λ u of below. let a : u.end ≡ (column p book).end = of.end in let b : u.number < u.end = below in let c : u.number < end_at p book = omega arith in c)
     ((owned-run boxes past book local stands).numbers p).within (uses-end boxes past local p))
 
-pub counters-end : (boxes : ℕ) (past : List Turn) (book : Book) → Local boxes past → Stands past book → (spir : ℕ) (c : Counter) → AllByRecursion (λ n. n < end_at (Ours spir c) book) (filter_map (number_of spir c) past)
+pub counters-end : (boxes : ℕ) (past : List Turn) (book : Book) → Explained boxes past → Stands past book → (spir : ℕ) (c : Counter) → AllByRecursion (λ n. n < end_at (Ours spir c) book) (filter_map (number_of spir c) past)
 counters-end boxes past book local stands spir c = counters-hold (λ ns. AllByRecursion (λ n. n < end_at (Ours spir c) book) ns) tt boxes past local spir c (numbers-end boxes past book local stands (Ours spir c))

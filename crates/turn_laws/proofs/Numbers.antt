@@ -21,7 +21,7 @@ use Rattle.turn_laws.specs.Holdings.{Actor, Draws, Holding, Nothing, Use, uses_a
 use Rattle.turn_laws.specs.Places.{Ours, Place, Theirs, is_place}
 use Rattle.turn_laws.specs.Turns.{actor_of, acts_of, number_taken}
 use Rattle.turn_rules.specs.Held.{covered, granted, number_of, used}
-use Rattle.turn_rules.specs.Local.{Local}
+use Rattle.turn_rules.specs.Local.{Explained}
 
 -- a call uses no number
 module _ (w : Actor) (held : Actor → Option Holding) (us : List Use) where
@@ -81,7 +81,7 @@ module _ (spir : ℕ) (c : Counter) (told_used : IsToldUsed spir c) where
   spent-used past event calls step (Ours_used u it) = sym (it.told spir c) ∙ told_used event step.verdict
   spent-used past event calls step (Theirs_used u) = sym (u.not_ours spir c)
 
-  run-numbers : (boxes : ℕ) (past : List Turn) → Local boxes past → numbers_at (Ours spir c) (acts_of past) ≡ filter_map (number_of spir c) past
+  run-numbers : (boxes : ℕ) (past : List Turn) → Explained boxes past → numbers_at (Ours spir c) (acts_of past) ≡ filter_map (number_of spir c) past
   run-numbers boxes [] local = refl
   run-numbers boxes (turn ∷ past) local =
       let o : Outcome past turn.event turn.calls turn.step = outcome-of past turn.event turn.calls turn.step (deed-of boxes past turn local.0 local.1) in
@@ -90,7 +90,7 @@ module _ (spir : ℕ) (c : Counter) (told_used : IsToldUsed spir c) where
       ∙ ap (λ number. cons_option number (filter_map (number_of spir c) past)) (spent-used past turn.event turn.calls turn.step o))
 
 -- the numbers by which members send
-pub sent-numbers : (boxes : ℕ) (past : List Turn) → Local boxes past → (spir : ℕ) (c : Counter) → c ≢ counter.EspIn → numbers_at (Ours spir c) (acts_of past) ≡ filter_map (number_of spir c) past
+pub sent-numbers : (boxes : ℕ) (past : List Turn) → Explained boxes past → (spir : ℕ) (c : Counter) → c ≢ counter.EspIn → numbers_at (Ours spir c) (acts_of past) ≡ filter_map (number_of spir c) past
 sent-numbers boxes past local spir counter.EspOut sent = run-numbers spir counter.EspOut (λ event verdict. refl) boxes past local
 sent-numbers boxes past local spir counter.EspIn sent = absurd (sent refl)
 sent-numbers boxes past local spir counter.Iv sent = run-numbers spir counter.Iv (λ event verdict. refl) boxes past local
@@ -102,7 +102,7 @@ none-received spir [] = refl
 none-received spir (turn ∷ past) = none-received spir past
 
 -- what holds of the numbers of a counter holds of those that members used
-pub counters-hold : (P : List ℕ → Type 0) → P [] → (boxes : ℕ) (past : List Turn) → Local boxes past → (spir : ℕ) (c : Counter) → P (numbers_at (Ours spir c) (acts_of past)) → P (filter_map (number_of spir c) past)
+pub counters-hold : (P : List ℕ → Type 0) → P [] → (boxes : ℕ) (past : List Turn) → Explained boxes past → (spir : ℕ) (c : Counter) → P (numbers_at (Ours spir c) (acts_of past)) → P (filter_map (number_of spir c) past)
 counters-hold P none boxes past local spir counter.EspOut holds = subst P (run-numbers spir counter.EspOut (λ event verdict. refl) boxes past local) holds
 counters-hold P none boxes past local spir counter.EspIn holds = subst P (sym (none-received spir past)) none
 counters-hold P none boxes past local spir counter.Iv holds = subst P (run-numbers spir counter.Iv (λ event verdict. refl) boxes past local) holds

@@ -25,7 +25,7 @@ use Rattle.turn_laws.specs.Owned.{Lawful, Owned, Writes}
 use Rattle.turn_laws.specs.Places.{Ours, column, column_ours}
 use Rattle.turn_laws.specs.Replaced.{AreReplacedLater, IsReplacedLater}
 use Rattle.turn_laws.specs.Turns.{acts_of}
-use Rattle.turn_rules.specs.Local.{Local, Stands}
+use Rattle.turn_rules.specs.Local.{Explained, Stands}
 
 record ShowsLater (x : Option Entry) (epoch later : ℕ) : Type 0 where
   pub entry : Entry
@@ -94,5 +94,5 @@ lawful-later (act ∷ acts) book lawful = (by_move act.move lawful.2 lawful.3, l
     by_move (Seals key) may writes = tt
     by_move Ends may writes = tt
 
-pub calls-later : (boxes : ℕ) (past : List Turn) (book : Book) → Local boxes past → Stands past book → AreReplacedLater past
+pub calls-later : (boxes : ℕ) (past : List Turn) (book : Book) → Explained boxes past → Stands past book → AreReplacedLater past
 calls-later boxes past book local stands = calls-hold IsLater past (lawful-later (acts_of past) book (lawful-run boxes past book local stands))

@@ -14,11 +14,12 @@ use Rattle.keeper_book.specs.declared.calls.KeeperAsk.TheVariants as ask
 use Rattle.keeper_book.specs.declared.counters.Counter.{Counter}
 use Rattle.keeper_book.specs.declared.faults.KeeperFault.{KeeperFault}
 use Rattle.keeper_book.specs.declared.faults.KeeperFault.TheVariants as fault
+use Rattle.turn_laws.proofs.BookRecords.{AreImports, MayEnter, entry-record, imports-kept, record_in}
 use Rattle.turn_laws.proofs.Books.{ShowsCovered, answers-entry, column-goes_on, keeps-covered, keeps-entered, keeps-taken, shows-covered}
 use Rattle.turn_laws.proofs.Columns.{goes_on-refl, rising-none}
 use Rattle.turn_laws.proofs.Entries.{entry_after, entry-entered, is_counter-true}
 use Rattle.turn_laws.proofs.Holdings.{Keeps, owned-after}
-use Rattle.turn_laws.specs.Acts.{Act, Calls, Ends, HoldsFor, MayAsk, MayCover, MayDo, Move, Seals, Uses, begun_theirs, effect_of, effect_of_call, effect_of_use, holding_at, uses_at}
+use Rattle.turn_laws.specs.Acts.{IsImport, Act, Calls, Ends, HoldsFor, MayAsk, MayCover, MayDo, Move, Seals, Uses, begun_theirs, effect_of, effect_of_call, effect_of_use, holding_at, uses_at}
 use Rattle.turn_laws.specs.Columns.{ColumnGoesOn, IsRising, column_mark, nothing}
 use Rattle.turn_laws.specs.Holdings.{Actor, Draws, Holding, IsNew, IsOwned, Nothing}
 use Rattle.turn_laws.specs.Owned.{Lawful, Owned, Writes}
@@ -184,11 +185,30 @@ module _ (acts : List Act) (old new : Book) (w : Actor) where
     starts-move (Seals key) may writes spir e found none = owned.starts spir e (sym (ap (λ (b : Book). entry_of spir b.entries) writes) ∙ found) none
     starts-move Ends may writes spir e found none = owned.starts spir e (sym (ap (λ (b : Book). entry_of spir b.entries) writes) ∙ found) none
 
+    -- each association of the book is one that was imported
+    imported-call : (call : Call) → MayAsk acts w call.asked → Enters old call new → (spir : ℕ) (e : Entry) → entry_of spir new.entries ≡ Some e → IsImport e.sa
+    imported-call call may enters spir e found = imports-kept old new call.asked call.answer enters (may-enter call.asked may) had spir e.sa (ap record_in found)
+      where
+        may-enter : (asked : KeeperAsk) → MayAsk acts w asked → MayEnter old asked
+        may-enter (ask.Enter sa) may = may
+        may-enter (ask.TakeOver asked member) may = tt
+        may-enter (ask.Cover asked kind child epoch upto) may = tt
+
+        had : AreImports old old
+        had spir r is = let entry = entry-record (entry_of spir old.entries) r is in subst (λ x. IsImport x) entry.2 (owned.imported spir entry.0 entry.1)
+
+    imported-move : (move : Move) → MayDo acts w move → Writes old move new → (spir : ℕ) (e : Entry) → entry_of spir new.entries ≡ Some e → IsImport e.sa
+    imported-move (Calls call) may writes spir e found = imported-call call may writes spir e found
+    imported-move (Uses q n) may writes spir e found = owned.imported spir e (sym (ap (λ (b : Book). entry_of spir b.entries) writes) ∙ found)
+    imported-move (Seals key) may writes spir e found = owned.imported spir e (sym (ap (λ (b : Book). entry_of spir b.entries) writes) ∙ found)
+    imported-move Ends may writes spir e found = owned.imported spir e (sym (ap (λ (b : Book). entry_of spir b.entries) writes) ∙ found)
+
     -- one move more
     pub owned-move : (move : Move) → MayDo acts w move → Writes old move new → Owned (record { by = w; move = move } ∷ acts) new
     owned-move move may writes = record {
       numbers = λ p. owned-after (holding_at p acts) (uses_at p acts) (column p old) (column p new) (effect_of p w move) (owned.numbers p) (keeps-move p move may writes);
       starts = starts-move move may writes;
+      imported = imported-move move may writes;
     }
 
 owned-none : (held : Actor → Option Holding) → ((w : Actor) → held w ≡ None) → IsOwned held [] nothing
@@ -203,7 +223,7 @@ owned-none held none = record {
 
 -- nothing is held of the empty book
 pub owned-empty : Owned [] empty
-owned-empty = record { numbers = numbers; starts = λ spir e found none. absurd (cc) }
+owned-empty = record { numbers = numbers; starts = λ spir e found none. absurd (cc); imported = λ spir e found. absurd (cc) }
   where
     numbers : (p : Place) → IsOwned (holding_at p []) (uses_at p []) (column p empty)
     numbers (Ours spir c) = owned-none (λ w. None) (λ w. refl)

@@ -15,7 +15,7 @@ use Rattle.turn_laws.specs.Holdings.{Actor, Begins, Draws, Effect, Holding, IsNo
 use Rattle.turn_laws.specs.Owned.{Lawful, Owned}
 use Rattle.turn_laws.specs.Places.{Place, is_place, place_of}
 use Rattle.turn_laws.specs.Turns.{actor_of, acts_of, key_iv, uses_of}
-use Rattle.turn_rules.specs.Local.{Local, Stands}
+use Rattle.turn_rules.specs.Local.{Explained, Stands}
 use Rattle.turn_rules.specs.Safe.{IsEachOnce, KeyIv, key_ivs}
 
 -- the keys and IVs that a move, and that acts, sealed under
@@ -137,5 +137,5 @@ key_ivs-once (turn ∷ past) before once =
     (key_ivs-once past (before ++ map key_iv turn.step.seals) apart)
 
 -- no key and IV seals two plaintexts
-pub no-nonce-reuse : (boxes : ℕ) (past : List Turn) (book : Book) → Local boxes past → Stands past book → IsEachOnce (key_ivs past)
+pub no-nonce-reuse : (boxes : ℕ) (past : List Turn) (book : Book) → Explained boxes past → Stands past book → IsEachOnce (key_ivs past)
 no-nonce-reuse boxes past book local stands = key_ivs-once past [] (sealed-once (acts_of past) book (lawful-run boxes past book local stands))

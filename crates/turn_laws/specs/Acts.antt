@@ -1,5 +1,5 @@
 -- What ends do, as data, and what it does to the numbers of each counter. A list of acts has the newest first.
-use Rattle.std.specs.Prelude.{ℕ, ◌≡◌, ◌≤◌, ◌==◌, Option, Some, None, MatchOption, List, [], ◌∷◌, map, if◌then◌else◌}
+use Rattle.std.specs.Prelude.{ℕ, ◌^◌, ◌≡◌, ◌≤◌, ◌==◌, Option, Some, None, MatchOption, List, [], ◌∷◌, map, if◌then◌else◌}
 use Rattle.keeper_book.specs.CounterEnds.{end_of}
 use Rattle.keeper_book.specs.Counters.{counter_named, five_at}
 use Rattle.keeper_book.specs.Told.{seen}
@@ -15,6 +15,13 @@ use Rattle.turn_laws.specs.Holdings.{Actor, Begins, Draws, Effect, Holding, MayU
 use Rattle.turn_laws.specs.Places.{Place, Ours, Theirs, is_place, place_of, start_of}
 use Rattle.turn_rules.specs.Held.{covered, granted}
 use Rattle.turn_rules.specs.Safe.{KeyIv}
+
+-- the least SPIs that an import may have
+abbrev pub FIRST_IMPORTED_SPIR : ℕ
+FIRST_IMPORTED_SPIR = 2 ^ 48
+
+abbrev pub FIRST_IMPORTED_SPI : ℕ
+FIRST_IMPORTED_SPI = 65536
 
 pub data Move : Type 0 where
   -- a call of the keeper
@@ -95,9 +102,16 @@ pub record MayCover (held : Option Holding) (epoch upto : ℕ) : Type 0 where
   pub in_epoch : holding.epoch ≡ epoch
   pub within_end : upto ≤ holding.end
 
+-- Imports have these SPIs: lower ones are for what the cluster draws itself, the responder's of a resumed association and,
+-- above it, the one at which the cluster receives in it.
+pub record IsImport (sa : Record) : Type 0 where
+  pub spir : FIRST_IMPORTED_SPIR ≤ sa.spir
+  pub spi_in : FIRST_IMPORTED_SPI ≤ sa.spi_in
+
 -- what a call needs beside the book
 abbrev pub MayAsk : List Act → Actor → KeeperAsk → Type 0
 MayAsk acts w (ask.Cover spir kind child epoch upto) = MatchOption (counter_named kind child) ⊥ (λ c. MayCover (holding_at (Ours spir c) acts w) epoch upto)
+MayAsk acts w (ask.Enter sa) = IsImport sa
 MayAsk acts w asked = Unit {0}
 
 -- what a move needs beside the book

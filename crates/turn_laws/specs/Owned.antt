@@ -1,7 +1,7 @@
 -- The numbers of the book's epochs belong to one end each.
 use Rattle.std.specs.Prelude.{ℕ, ◌≡◌, Some, List, [], ◌∷◌}
 use Rattle.keeper_book.specs.Book.{Book, Entry, Enters, empty, entry_of}
-use Rattle.turn_laws.specs.Acts.{Act, Calls, Ends, MayDo, Move, Seals, Uses, holding_at, uses_at}
+use Rattle.turn_laws.specs.Acts.{Act, Calls, Ends, IsImport, MayDo, Move, Seals, Uses, holding_at, uses_at}
 use Rattle.turn_laws.specs.Holdings.{IsOwned}
 use Rattle.turn_laws.specs.Places.{Place, column}
 
@@ -10,6 +10,8 @@ pub record Owned (acts : List Act) (book : Book) : Type 0 where
   pub numbers : (p : Place) → IsOwned (holding_at p acts) (uses_at p acts) (column p book)
   -- before the first epoch the highs are the starts
   pub starts : (spir : ℕ) (e : Entry) → entry_of spir book.entries ≡ Some e → e.bases ≡ [] → e.highs ≡ e.sa.starts
+  -- no association of the book has an SPI that the cluster may draw itself
+  pub imported : (spir : ℕ) (e : Entry) → entry_of spir book.entries ≡ Some e → IsImport e.sa
 
 -- what a move does to the book
 abbrev pub Writes : Book → Move → Book → Type 0

@@ -14,6 +14,7 @@ ghost use Rattle.keeper_book.specs.declared.counters.Counter.TheVariants as coun
 ghost use Rattle.keeper_book.specs.declared.faults.KeeperFault.TheVariants as fault;
 ghost use Rattle.turn_laws.specs.Acts.{Act, Calls, Ends, MayAsk, MayDo, MayDoAll, Move, holding_at, numbers_at, acts_onto, uses_at};
 ghost use Rattle.turn_laws.specs.Columns.{Column, ColumnGoesOn, column_mark};
+ghost use Rattle.turn_laws.specs.FirstDelivery.{MemberAcceptsFirst, PeerAcceptsFirst};
 ghost use Rattle.turn_laws.specs.Holdings.{Actor, Begins, Draws, End, Holding, IsNew, IsOwned, MayUse, Rises, Use, holding_after, uses_after};
 ghost use Rattle.turn_laws.specs.Listed.{listed_at};
 ghost use Rattle.turn_laws.specs.OwnTurns.{OwnTurnsTell};
@@ -25,7 +26,7 @@ ghost use Rattle.turn_laws.specs.Turns.{AreOwned, actor_of, acts_of, moves_of, t
 ghost use Rattle.turn_rules.specs.Ends.{Member, Peer, own};
 ghost use Rattle.turn_rules.specs.Genuine.{AreAccepted};
 ghost use Rattle.turn_rules.specs.Held.{Held, held_by, number_of, window_by};
-ghost use Rattle.turn_rules.specs.Local.{Local, Stands};
+ghost use Rattle.turn_rules.specs.Local.{Explained, Stands};
 ghost use Rattle.turn_rules.specs.Safe.{IsEachOnce, Safe, accepted_in, key_ivs};
 
 use esp_packets::sealed_packets_open;
@@ -78,27 +79,27 @@ pub fn others_change_nothing()
 
 /// What an end's own turns say that it holds of a counter is what the moves of all turns make of it.
 pub fn own_turns_tell_holdings()
-    ensures members { (boxes : ℕ) (past : List Turn) → Local boxes past → (member spir : ℕ) (c : Counter)
+    ensures members { (boxes : ℕ) (past : List Turn) → Explained boxes past → (member spir : ℕ) (c : Counter)
         → told spir c (own (Member member) past) ≡ holding_at (Ours spir c) (acts_of past) (End (Member member)) }
-    ensures peer { (boxes : ℕ) (past : List Turn) → Local boxes past → (spir : ℕ) (c : Counter)
+    ensures peer { (boxes : ℕ) (past : List Turn) → Explained boxes past → (spir : ℕ) (c : Counter)
         → told_theirs spir c (own Peer past) ≡ holding_at (Theirs spir c) (acts_of past) (End Peer) }
 {}
 
 /// What the turns of a run make of what its ends hold, each end's own turns tell.
 pub fn own_turns_tell_states()
-    ensures { (boxes : ℕ) (past : List Turn) → Local boxes past → OwnTurnsTell boxes past }
+    ensures { (boxes : ℕ) (past : List Turn) → Explained boxes past → OwnTurnsTell boxes past }
 {}
 
 /// What each event does is a list of moves that may be made one after another.
 pub fn turns_are_moves()
-    ensures { (boxes : ℕ) (past : List Turn) (turn : Turn) → Local boxes (turn ∷ past)
+    ensures { (boxes : ℕ) (past : List Turn) (turn : Turn) → Explained boxes (turn ∷ past)
         → MayDoAll (acts_of past) (actor_of turn) (moves_of turn) }
 {}
 
 /// Where each turn is explained by its end's own turns, and the book is the one that the calls lead to, the numbers of the
 /// book's epochs belong to one end each.
 pub fn all_is_owned()
-    ensures { (boxes : ℕ) (past : List Turn) (book : Book) → Local boxes past → Stands past book → AreOwned past book }
+    ensures { (boxes : ℕ) (past : List Turn) (book : Book) → Explained boxes past → Stands past book → AreOwned past book }
 {}
 
 /// The numbers of a counter that the laws speak of are exactly those that the lists of the trace have: the numbers that were
@@ -106,36 +107,36 @@ pub fn all_is_owned()
 /// next number is told.
 pub fn uses_are_told()
     ensures listed { (past : List Turn) (p : Place) → numbers_at p (acts_of past) ≡ flat_map (listed_at p) past }
-    ensures sent { (boxes : ℕ) (past : List Turn) → Local boxes past → (spir : ℕ) (c : Counter) → c ≢ counter.EspIn
+    ensures sent { (boxes : ℕ) (past : List Turn) → Explained boxes past → (spir : ℕ) (c : Counter) → c ≢ counter.EspIn
         → numbers_at (Ours spir c) (acts_of past) ≡ filter_map (number_of spir c) past }
 {}
 
 /// No number of a counter is used twice, by whatever ends: of no counter of the cluster or the peer, and in particular of no
 /// counter that events of members used.
 pub fn no_number_twice()
-    ensures places { (boxes : ℕ) (past : List Turn) (book : Book) → Local boxes past → Stands past book
+    ensures places { (boxes : ℕ) (past : List Turn) (book : Book) → Explained boxes past → Stands past book
         → (p : Place) → IsEachOnce (numbers_at p (acts_of past)) }
-    ensures counters { (boxes : ℕ) (past : List Turn) (book : Book) → Local boxes past → Stands past book
+    ensures counters { (boxes : ℕ) (past : List Turn) (book : Book) → Explained boxes past → Stands past book
         → (spir : ℕ) (c : Counter) → IsEachOnce (filter_map (number_of spir c) past) }
 {}
 
 /// No number reaches its counter's end, as the record of what was held gives it, whatever the keeper's book is. An honest
 /// book gives the same end.
 pub fn no_number_past_its_end()
-    ensures uses { (boxes : ℕ) (past : List Turn) → Local boxes past → (p : Place) → AllByRecursion (λ u. u.number < u.end) (uses_at p (acts_of past)) }
-    ensures places { (boxes : ℕ) (past : List Turn) (book : Book) → Local boxes past → Stands past book
+    ensures uses { (boxes : ℕ) (past : List Turn) → Explained boxes past → (p : Place) → AllByRecursion (λ u. u.number < u.end) (uses_at p (acts_of past)) }
+    ensures places { (boxes : ℕ) (past : List Turn) (book : Book) → Explained boxes past → Stands past book
         → (p : Place) → AllByRecursion (λ n. n < end_at p book) (numbers_at p (acts_of past)) }
-    ensures counters { (boxes : ℕ) (past : List Turn) (book : Book) → Local boxes past → Stands past book
+    ensures counters { (boxes : ℕ) (past : List Turn) (book : Book) → Explained boxes past → Stands past book
         → (spir : ℕ) (c : Counter) → AllByRecursion (λ n. n < end_at (Ours spir c) book) (filter_map (number_of spir c) past) }
 {}
 
 /// Two members that hold an association, the replaced ones too, hold different epochs, and where an earlier epoch's highs
 /// end, the later one's bases have not begun.
 pub fn holdings_are_apart()
-    ensures epochs { (boxes : ℕ) (past : List Turn) (book : Book) → Local boxes past → Stands past book
+    ensures epochs { (boxes : ℕ) (past : List Turn) (book : Book) → Explained boxes past → Stands past book
         → (m k spir : ℕ) (h g : Held) → held_by (window_by past) (own (Member m) past) spir ≡ Some h → held_by (window_by past) (own (Member k) past) spir ≡ Some g
         → h.epoch ≡ g.epoch → m ≡ k }
-    ensures highs { (boxes : ℕ) (past : List Turn) (book : Book) → Local boxes past → Stands past book
+    ensures highs { (boxes : ℕ) (past : List Turn) (book : Book) → Explained boxes past → Stands past book
         → (m k spir : ℕ) (h g : Held) → held_by (window_by past) (own (Member m) past) spir ≡ Some h → held_by (window_by past) (own (Member k) past) spir ≡ Some g
         → h.epoch < g.epoch → (c : Counter) → five_at h.highs c ≤ five_at g.bases c }
 {}
@@ -147,34 +148,37 @@ pub fn replaced_by_later_epochs()
         → MayAsk acts w (ask.Cover spir kind child epoch upto)
         → Answers old (ask.Cover spir kind child epoch upto) (answer.Refused (fault.Replaced later)) new
         → (c : Counter) (h : Holding) → counter_named kind child ≡ Some c → holding_at (Ours spir c) acts w ≡ Some h → h.epoch < later }
-    ensures calls { (boxes : ℕ) (past : List Turn) (book : Book) → Local boxes past → Stands past book → AreReplacedLater past }
+    ensures calls { (boxes : ℕ) (past : List Turn) (book : Book) → Explained boxes past → Stands past book → AreReplacedLater past }
 {}
 
 /// With an honest book no two associations that members hold receive at one SPI.
 pub fn one_receives_at_an_spi()
-    ensures { (boxes : ℕ) (past : List Turn) (book : Book) → Local boxes past → Stands past book
+    ensures { (boxes : ℕ) (past : List Turn) (book : Book) → Explained boxes past → Stands past book
         → (m k a b : ℕ) (h g : Held) → held_by (window_by past) (own (Member m) past) a ≡ Some h → held_by (window_by past) (own (Member k) past) b ≡ Some g
         → h.sa.spi_in ≡ g.sa.spi_in → a ≡ b }
 {}
 
 /// No key and IV seals two plaintexts, whatever ends seal: an IV is a number of its key's counter.
 pub fn no_nonce_reuse()
-    ensures { (boxes : ℕ) (past : List Turn) (book : Book) → Local boxes past → Stands past book → IsEachOnce (key_ivs past) }
+    ensures { (boxes : ℕ) (past : List Turn) (book : Book) → Explained boxes past → Stands past book → IsEachOnce (key_ivs past) }
 {}
 
 /// No packet is accepted twice, by whatever ends: its number is one of the counter that receives it.
 pub fn packets_once()
-    ensures { (boxes : ℕ) (past : List Turn) (book : Book) → Local boxes past → Stands past book → IsEachOnce (filter_map accepted_in past) }
+    ensures { (boxes : ℕ) (past : List Turn) (book : Book) → Explained boxes past → Stands past book → IsEachOnce (filter_map accepted_in past) }
 {}
 
 /// No event is executed by a service.
 pub fn nothing_is_executed()
-    ensures { (boxes : ℕ) (past : List Turn) → Local boxes past → AllByRecursion (λ turn. turn.step.served ≡ None) past }
+    ensures { (boxes : ℕ) (past : List Turn) → Explained boxes past → AllByRecursion (λ turn. turn.step.served ≡ None) past }
 {}
 
-/// A covered genuine packet that comes to an end is accepted at first delivery, by a member where its number is acknowledged.
+/// A covered genuine packet that comes to an end that is up is accepted at first delivery, by a member where its number is
+/// acknowledged to it. Genuine are octets that open, whoever sealed them, and new is what no earlier turn accepted.
 pub fn genuine_are_accepted()
-    ensures { (boxes : ℕ) (past : List Turn) → Local boxes past → AreAccepted past }
+    ensures runs { (boxes : ℕ) (past : List Turn) → Explained boxes past → AreAccepted past }
+    ensures members { (boxes : ℕ) (past : List Turn) (turn : Turn) → Explained boxes (turn ∷ past) → MemberAcceptsFirst past turn }
+    ensures peer { (boxes : ℕ) (past : List Turn) (turn : Turn) → Explained boxes (turn ∷ past) → PeerAcceptsFirst past turn }
 {
     sealed_packets_open();
 }
@@ -182,7 +186,7 @@ pub fn genuine_are_accepted()
 /// What holds across the ends: no key and IV seals two plaintexts, no packet is accepted twice, and covered genuine packets
 /// are accepted at first delivery.
 pub fn runs_are_safe()
-    ensures { (boxes : ℕ) (past : List Turn) (book : Book) → Local boxes past → Stands past book → Safe past }
+    ensures { (boxes : ℕ) (past : List Turn) (book : Book) → Explained boxes past → Stands past book → Safe past }
 {
     genuine_are_accepted();
 }
