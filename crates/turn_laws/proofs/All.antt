@@ -17,7 +17,7 @@ use Rattle.turn_laws.proofs.Tells.{Tells, tells}
 use Rattle.turn_laws.proofs.Opened.{peer-may}
 use Rattle.turn_laws.proofs.Told.{told-held}
 use Rattle.turn_laws.proofs.Well.{deed-well}
-use Rattle.turn_laws.specs.Acts.{Calls, Ends, MayDoAll, Move, Seals, Uses, holding_at, numbers_at, acts_onto, uses_at}
+use Rattle.turn_laws.specs.Acts.{Leases, Calls, Ends, MayDoAll, Move, Seals, Uses, holding_at, numbers_at, acts_onto, uses_at}
 use Rattle.turn_laws.specs.Columns.{column_mark}
 use Rattle.turn_laws.specs.Holdings.{End, Holding, IsOwned}
 use Rattle.turn_laws.specs.Owned.{Lawful, Owned}
@@ -36,6 +36,7 @@ use-leaves : (move : Move) → IsUseOrEnd move → LeavesBook move
 use-leaves (Calls call) is book = absurd is
 use-leaves (Uses place n) is book = refl
 use-leaves (Seals key) is book = absurd is
+use-leaves (Leases pool first count seen) is book = absurd is
 use-leaves Ends is book = refl
 
 seals-leave : (seals : List Seal) → AllByRecursion LeavesBook (map (λ seal. Seals (key_iv seal)) seals)
@@ -79,7 +80,7 @@ module _ (boxes : ℕ) (past : List Turn) (book : Book) (local : Explained boxes
   of_k : (c : Counter) → (x : Holding) × Tells (own (Member k) past) spir c g x × (holding_at (Ours spir c) (acts_of past) (End (Member k)) ≡ Some x)
   of_k c = held-tells boxes past local k spir g other c
 
-  owned_at : (c : Counter) → IsOwned (holding_at (Ours spir c) (acts_of past)) (uses_at (Ours spir c) (acts_of past)) (column (Ours spir c) book)
+  owned_at : (c : Counter) → IsOwned (holding_at (Ours spir c) (acts_of past)) (uses_at (Ours spir c) (acts_of past)) (column (Ours spir c) [] book)
   owned_at c = (owned-run boxes past book local stands).numbers (Ours spir c)
 
   -- two members that hold an association hold different epochs
@@ -97,9 +98,9 @@ module _ (boxes : ℕ) (past : List Turn) (book : Book) (local : Explained boxes
   highs-below earlier c =
       let a = of_m c in
       let b = of_k c in
-      let below : a.0.high ≤ column_mark (column (Ours spir c) book) a.0.epoch = ((owned_at c).holdings (End (Member m)) a.0 a.2).high in
-      let rises : column_mark (column (Ours spir c) book) a.0.epoch ≤ column_mark (column (Ours spir c) book) (b.0.epoch - 1) = (owned_at c).rising a.0.epoch (b.0.epoch - 1) (let p : a.0.epoch ≡ h.epoch = a.1.epoch in let q : b.0.epoch ≡ g.epoch = b.1.epoch in omega arith) in
-      let base : column_mark (column (Ours spir c) book) (b.0.epoch - 1) ≡ b.0.base = ((owned_at c).holdings (End (Member k)) b.0 b.2).base in
+      let below : a.0.high ≤ column_mark (column (Ours spir c) [] book) a.0.epoch = ((owned_at c).holdings (End (Member m)) a.0 a.2).high in
+      let rises : column_mark (column (Ours spir c) [] book) a.0.epoch ≤ column_mark (column (Ours spir c) [] book) (b.0.epoch - 1) = (owned_at c).rising a.0.epoch (b.0.epoch - 1) (let p : a.0.epoch ≡ h.epoch = a.1.epoch in let q : b.0.epoch ≡ g.epoch = b.1.epoch in omega arith) in
+      let base : column_mark (column (Ours spir c) [] book) (b.0.epoch - 1) ≡ b.0.base = ((owned_at c).holdings (End (Member k)) b.0 b.2).base in
       let high : a.0.high ≡ five_at h.highs c = a.1.high in
       let low : b.0.base ≡ five_at g.bases c = b.1.base in
       omega arith

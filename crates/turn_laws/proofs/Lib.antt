@@ -3,6 +3,8 @@ mod Columns
 mod Entries
 mod Books
 mod BookRecords
+mod Pools
+mod Lots
 mod Holdings
 mod Safety
 mod Runs

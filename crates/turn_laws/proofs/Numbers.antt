@@ -16,9 +16,9 @@ use Rattle.turn_laws.proofs.Outcomes.{Idle, Ours_used, Outcome, Over, Theirs_use
 use Rattle.turn_laws.proofs.Records.{deed-of}
 use Rattle.turn_laws.proofs.Runs.{onto-append}
 use Rattle.turn_laws.proofs.Uses.{number_at, uses-use}
-use Rattle.turn_laws.specs.Acts.{Act, Calls, effect_of, effect_ours, effect_theirs, entered_at, holding_at, numbers_at, acts_onto, uses_at}
+use Rattle.turn_laws.specs.Acts.{effect_of_call, Act, Calls, effect_ours, effect_theirs, entered_at, holding_at, numbers_at, acts_onto, uses_at}
 use Rattle.turn_laws.specs.Holdings.{Actor, Draws, Holding, Nothing, Use, uses_after}
-use Rattle.turn_laws.specs.Places.{Ours, Place, Theirs, is_place}
+use Rattle.turn_laws.specs.Places.{Ours, Place, Pooled, Theirs, is_place}
 use Rattle.turn_laws.specs.Turns.{actor_of, acts_of, number_taken}
 use Rattle.turn_rules.specs.Held.{covered, granted, number_of, used}
 use Rattle.turn_rules.specs.Local.{Explained}
@@ -34,8 +34,9 @@ module _ (w : Actor) (held : Actor → Option Holding) (us : List Use) where
   theirs-uses c None = refl
   theirs-uses c (Some sa) = refl
 
-  pub call-uses : (p : Place) (call : Call) → uses_after (effect_of p w (Calls call)) held us ≡ us
+  pub call-uses : (p : Place) (call : Call) → uses_after (effect_of_call p w call.asked (seen call)) held us ≡ us
   call-uses (Ours spir c) call = ours-uses c (granted spir call.asked (seen call)) (covered spir c call.asked (seen call))
+  call-uses (Pooled q) call = refl
   call-uses (Theirs spir c) call = theirs-uses c (entered_at spir call.asked (seen call))
 
 calls-use : (p : Place) (w : Actor) (calls : List Call) (acts : List Act) → uses_at p (acts_onto w (map Calls calls) acts) ≡ uses_at p acts

@@ -1,5 +1,5 @@
 -- Where the book is honest, no two associations that members hold receive at one SPI.
-use Rattle.std.proofs.Common.{◌≡◌, ◌≢◌, ℕ, ◌==◌, Bool, true, false, Option, Some, None, List, [], ◌∷◌, length, ⊎_elim, refl, ap, sym, ◌∙◌, subst, if◌then◌else◌}
+use Rattle.std.proofs.Common.{◌≡◌, ◌≢◌, ℕ, ◌+◌, ◌==◌, Bool, true, false, Option, Some, None, List, [], ◌∷◌, length, ⊎_elim, refl, ap, sym, ◌∙◌, subst, if◌then◌else◌}
 use Rattle.std.proofs.lemmas.Bool.{eqb-false, eqb-true, or_parts}
 use Rattle.std.proofs.lemmas.Option.{same_Some}
 use Rattle.std.specs.List.{AllByRecursion, list_any}
@@ -24,7 +24,8 @@ use Rattle.turn_laws.proofs.Books.{ShowsTaken, answers-entry, shows-taken}
 use Rattle.turn_laws.proofs.Called.{HoldOfCalls, IfCall, calls-hold}
 use Rattle.turn_laws.proofs.Lists.{all-each, all-filter}
 use Rattle.turn_laws.proofs.Records.{found-holds}
-use Rattle.turn_laws.specs.Acts.{Act, Calls, Ends, Move, Seals, Uses}
+use Rattle.turn_laws.proofs.Pools.{lease-entries}
+use Rattle.turn_laws.specs.Acts.{Leases, Act, Calls, Ends, Move, Seals, Uses}
 use Rattle.turn_laws.specs.Owned.{Lawful, Writes}
 use Rattle.turn_laws.specs.Turns.{acts_of}
 use Rattle.turn_rules.specs.Ends.{Member, is_by, own}
@@ -128,12 +129,13 @@ lawful-recorded (act ∷ acts) book lawful = by_move act.move refl lawful.3 (law
         by_act (Calls call) has = λ spir taken is. keeps spir taken.sa (has spir taken is)
         by_act (Uses q n) has = tt
         by_act (Seals key) has = tt
+        by_act (Leases pool first count seen) has = tt
         by_act Ends has = tt
 
-    still : (move : Move) → act.move ≡ move → IfCall (IsInBook book) move → book ≡ lawful.0 → Recorded acts lawful.0 → Recorded (act ∷ acts) book
+    still : (move : Move) → act.move ≡ move → IfCall (IsInBook book) move → ((spir : ℕ) → record_of book spir ≡ record_of lawful.0 spir) → Recorded acts lawful.0 → Recorded (act ∷ acts) book
     still move is one same before = record {
-      apart = subst (λ (b : Book). AreApart (record_of b)) (sym same) before.apart;
-      grants = (subst (λ move. IfCall (IsInBook book) move) (sym is) one, kept (λ spir r has. ap (λ (b : Book). record_of b spir) same ∙ has) before.grants);
+      apart = λ a b r s ra sb e. before.apart a b r s (sym (same a) ∙ ra) (sym (same b) ∙ sb) e;
+      grants = (subst (λ move. IfCall (IsInBook book) move) (sym is) one, kept (λ spir r has. same spir ∙ has) before.grants);
     }
 
     by_move : (move : Move) → act.move ≡ move → Writes lawful.0 act.move book → Recorded acts lawful.0 → Recorded (act ∷ acts) book
@@ -146,9 +148,12 @@ lawful-recorded (act ∷ acts) book lawful = by_move act.move refl lawful.3 (law
             kept (records-kept lawful.0 book call.asked call.answer enters) before.grants,
           );
         }
-    by_move (Uses q n) is writes before = still (Uses q n) is tt (subst (λ move. Writes lawful.0 move book) is writes) before
-    by_move (Seals key) is writes before = still (Seals key) is tt (subst (λ move. Writes lawful.0 move book) is writes) before
-    by_move Ends is writes before = still Ends is tt (subst (λ move. Writes lawful.0 move book) is writes) before
+    by_move (Uses q n) is writes before = still (Uses q n) is tt (λ spir. ap (λ (b : Book). record_of b spir) (subst (λ move. Writes lawful.0 move book) is writes)) before
+    by_move (Seals key) is writes before = still (Seals key) is tt (λ spir. ap (λ (b : Book). record_of b spir) (subst (λ move. Writes lawful.0 move book) is writes)) before
+    by_move (Leases pool first count seen) is writes before =
+        let leases : Writes lawful.0 (Leases pool first count seen) book = subst (λ move. Writes lawful.0 move book) is writes in
+        still (Leases pool first count seen) is tt (λ spir. ap (λ es. record_in (entry_of spir es)) (ap (λ (b : Book). b.entries) leases.1 ∙ lease-entries pool (first + count) lawful.0)) before
+    by_move Ends is writes before = still Ends is tt (λ spir. ap (λ (b : Book). record_of b spir) (subst (λ move. Writes lawful.0 move book) is writes)) before
 
 module _ (boxes : ℕ) (past : List Turn) (book : Book) (local : Explained boxes past) (stands : Stands past book) where
   recorded : Recorded (acts_of past) book

@@ -10,7 +10,7 @@ use Rattle.turn_laws.proofs.Lists.{all-each}
 use Rattle.turn_laws.proofs.Moves.{IsUseOrEnd, are-uses}
 use Rattle.turn_laws.proofs.Names.{is_place-same}
 use Rattle.turn_laws.proofs.Safety.{owned-lawful}
-use Rattle.turn_laws.specs.Acts.{Act, Calls, Ends, HoldsFor, MayDo, Move, Seals, Uses, effect_of, effect_of_use, holding_at, numbers_at, acts_onto, uses_at}
+use Rattle.turn_laws.specs.Acts.{Leases, lots_at, Act, Calls, Ends, HoldsFor, MayDo, Move, Seals, Uses, effect_of, effect_of_use, holding_at, numbers_at, acts_onto, uses_at}
 use Rattle.turn_laws.specs.Holdings.{Actor, Begins, Draws, Effect, Holding, IsNotIn, Nothing, Rises, Use, uses_after}
 use Rattle.turn_laws.specs.Owned.{Lawful, Owned}
 use Rattle.turn_laws.specs.Places.{Place, is_place, place_of}
@@ -47,9 +47,9 @@ module _ (p : Place) (n : ℕ) where
 
   pub not-sealed : (acts : List Act) → IsNotIn n (numbers_at p acts) → AllByRecursion IsOther (sealed_in acts)
   not-sealed [] none = tt
-  not-sealed (act ∷ acts) none = by_move act.move none (not-sealed acts (fewer (effect_of p act.by act.move) (holding_at p acts) (uses_at p acts) none))
+  not-sealed (act ∷ acts) none = by_move act.move none (not-sealed acts (fewer (effect_of p (lots_at p acts) act.by act.move) (holding_at p acts) (uses_at p acts) none))
     where
-      by_move : (move : Move) → IsNotIn n (map (λ u. u.number) (uses_after (effect_of p act.by move) (holding_at p acts) (uses_at p acts))) → AllByRecursion IsOther (sealed_in acts) → AllByRecursion IsOther (sealed_by move (sealed_in acts))
+      by_move : (move : Move) → IsNotIn n (map (λ u. u.number) (uses_after (effect_of p (lots_at p acts) act.by move) (holding_at p acts) (uses_at p acts))) → AllByRecursion IsOther (sealed_in acts) → AllByRecursion IsOther (sealed_by move (sealed_in acts))
       by_move (Seals key) none rest = (seal-used act.by key (holding_at p acts) (uses_at p acts) none, rest)
       by_move move none rest = rest
 
@@ -64,6 +64,7 @@ sealed-once (act ∷ acts) book lawful = by_move act.move refl (sealed-once acts
     by_move : (move : Move) → act.move ≡ move → IsEachOnce (sealed_in acts) → IsEachOnce (sealed_by move (sealed_in acts))
     by_move (Calls call) is rest = rest
     by_move (Uses q n) is rest = rest
+    by_move (Leases pool first count seen) is rest = rest
     by_move Ends is rest = rest
     by_move (Seals key) is rest = (new-key key (place_of key.name) refl (subst (λ move. MayDo acts act.by move) is lawful.2) is, rest)
       where
@@ -71,8 +72,8 @@ sealed-once (act ∷ acts) book lawful = by_move act.move refl (sealed-once acts
         new-key key None e may is = absurd (rw e at may)
         new-key key (Some p) e may is =
             let here : is_place p p ≡ true = is_place-same p in
-            let effect : effect_of p act.by act.move ≡ Draws act.by key.iv =
-            ap (effect_of p act.by) is ∙ (ap (λ q. effect_of_use p q act.by key.iv) e ∙ ap (λ b. if b then Draws act.by key.iv else Nothing) here) in
+            let effect : effect_of p (lots_at p acts) act.by act.move ≡ Draws act.by key.iv =
+            ap (effect_of p (lots_at p acts) act.by) is ∙ (ap (λ q. effect_of_use p q act.by key.iv) e ∙ ap (λ b. if b then Draws act.by key.iv else Nothing) here) in
             let once : IsEachOnce (map (λ u. u.number) (uses_after (Draws act.by key.iv) (holding_at p acts) (uses_at p acts))) =
             subst (λ x. IsEachOnce (map (λ u. u.number) (uses_after x (holding_at p acts) (uses_at p acts)))) effect (owned.numbers p).once in
             all-each (sealed_in acts)
@@ -110,6 +111,7 @@ module _ (w : Actor) where
   sealed-uses (Calls call ∷ moves) uses rest acts = absurd uses.0
   sealed-uses (Uses place n ∷ moves) uses rest acts = sealed-uses moves uses.1 rest (record { by = w; move = Uses place n } ∷ acts)
   sealed-uses (Seals key ∷ moves) uses rest acts = absurd uses.0
+  sealed-uses (Leases pool first count seen ∷ moves) uses rest acts = absurd uses.0
   sealed-uses (Ends ∷ moves) uses rest acts = sealed-uses moves uses.1 rest (record { by = w; move = Ends } ∷ acts)
 
   -- seals of a turn stand before those of earlier turns
