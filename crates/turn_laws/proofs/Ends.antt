@@ -26,7 +26,7 @@ use Rattle.turn_laws.proofs.Moves.{IsUseOrEnd, are-uses}
 use Rattle.turn_laws.proofs.Numbers.{counters-hold}
 use Rattle.turn_laws.proofs.Safety.{failed_effect, is_place-true, named-counter}
 use Rattle.turn_laws.specs.Acts.{Leases, effect_of_lease, lot_begun, lots_at, Act, Calls, Ends, HoldsFor, MayAsk, MayCover, MayDo, MayDoAll, Move, Seals, Uses, acts_onto, effect_of, effect_of_call, effect_of_use, effect_ours, effect_theirs, holding_at, numbers_at, uses_at}
-use Rattle.turn_laws.specs.Holdings.{Actor, Begins, Draws, Effect, Holding, Nothing, Rises, Use, drawn, holding_after, is_actor, raised_to, use_end, uses_after}
+use Rattle.turn_laws.specs.Holdings.{Passes, Actor, Begins, Draws, Effect, Holding, Nothing, Rises, Use, drawn, holding_after, is_actor, raised_to, use_end, uses_after}
 use Rattle.turn_laws.specs.Places.{NumberPool, Pooled, is_pool, pool_end, Ours, Place, Theirs, column, end_at, is_place, place_of}
 use Rattle.turn_laws.specs.Turns.{actor_of, acts_of, key_iv, moves_of, uses_of}
 use Rattle.turn_rules.specs.Held.{is_named, number_of}
@@ -44,6 +44,7 @@ abbrev KeepsEnds : Effect → (Actor → Option Holding) → Type 0
 KeepsEnds Nothing held = Unit {0}
 KeepsEnds (Begins w h) held = h.high ≤ h.end
 KeepsEnds (Rises w upto) held = (h : Holding) → held w ≡ Some h → upto ≤ h.end
+KeepsEnds (Passes w v) held = Unit {0}
 KeepsEnds (Draws w n) held = (h : Holding) × (held w ≡ Some h) × (n < h.high)
 
 highs-after : (held : Actor → Option Holding) (e : Effect) → HighsWithin held → KeepsEnds e held → HighsWithin (holding_after e held)
@@ -65,6 +66,12 @@ highs-after held (Rises w upto) within keeps v g is = by_test (is_actor w v) ref
     by_test : (b : Bool) → is_actor w v ≡ b → (if b then option_map (raised_to upto) (held v) else held v) ≡ Some g → g.high ≤ g.end
     by_test true t is = raised (held v) refl (ap held (is_actor-true w v t)) is
     by_test false t is = within v g is
+highs-after held (Passes w u) within keeps v g is = by_test (is_actor u v) (is_actor w v) is
+  where
+    by_test : (b c : Bool) → (if b then held w else (if c then None else held v)) ≡ Some g → g.high ≤ g.end
+    by_test true c is = within w g is
+    by_test false true is = absurd (cc)
+    by_test false false is = within v g is
 highs-after held (Draws w n) within keeps v g is = by_test (is_actor w v) is
   where
     used : (x : Option Holding) → held v ≡ x → option_map (drawn n) x ≡ Some g → g.high ≤ g.end

@@ -11,7 +11,7 @@ use Rattle.keeper_book.specs.declared.records.Record.{Record}
 use Rattle.keeper_book.specs.declared.records.Taken.{Taken}
 use Rattle.turn_laws.proofs.Holdings.{is_actor-same}
 use Rattle.turn_laws.specs.Acts.{Act, Calls, Ends, MayDoAll, Move, Seals, Uses, holding_begun, Leases, effect_of, effect_of_lease, effect_of_use, lot_begun, lots_at, effect_ours, effect_theirs, entered_at, holding_at, acts_onto}
-use Rattle.turn_laws.specs.Holdings.{Actor, Begins, Draws, Effect, Holding, Nothing, Rises, holding_after, is_actor, raised_to}
+use Rattle.turn_laws.specs.Holdings.{Passes, Actor, Begins, Draws, Effect, Holding, Nothing, Rises, holding_after, is_actor, raised_to}
 use Rattle.turn_laws.specs.Owned.{Lawful, Writes}
 use Rattle.turn_laws.specs.Places.{NumberPool, Ours, Place, Pooled, Theirs, is_place, is_pool, place_of}
 use Rattle.turn_rules.specs.Ends.{Member, Peer, Performer, is_performer}
@@ -23,6 +23,7 @@ IsBy w Nothing = Unit {0}
 IsBy w (Begins v h) = v ≡ w
 IsBy w (Rises v n) = v ≡ w
 IsBy w (Draws v n) = v ≡ w
+IsBy w (Passes u v) = ⊥
 
 module _ (w : Actor) where
   by-ours : (c : Counter) (grant : Option Taken) (upto : Option ℕ) → IsBy w (effect_ours w c grant upto)
@@ -66,6 +67,7 @@ other-effect : (w v : Actor) → is_actor w v ≡ false → (held : Actor → Op
 other-effect w v differs held Nothing by = refl
 other-effect w v differs held (Begins u h) by = let no : is_actor u v ≡ false = subst (λ x. is_actor x v ≡ false) (sym by) differs in rw no
 other-effect w v differs held (Rises u n) by = let no : is_actor u v ≡ false = subst (λ x. is_actor x v ≡ false) (sym by) differs in rw no
+other-effect w v differs held (Passes u x) by = absurd by
 other-effect w v differs held (Draws u n) by = let no : is_actor u v ≡ false = subst (λ x. is_actor x v ≡ false) (sym by) differs in rw no
 
 -- moves of one end leave what another one holds

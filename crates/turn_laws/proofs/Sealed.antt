@@ -11,7 +11,7 @@ use Rattle.turn_laws.proofs.Moves.{IsUseOrEnd, are-uses}
 use Rattle.turn_laws.proofs.Names.{is_place-same}
 use Rattle.turn_laws.proofs.Safety.{owned-lawful}
 use Rattle.turn_laws.specs.Acts.{Leases, lots_at, Act, Calls, Ends, HoldsFor, MayDo, Move, Seals, Uses, effect_of, effect_of_use, holding_at, numbers_at, acts_onto, uses_at}
-use Rattle.turn_laws.specs.Holdings.{Actor, Begins, Draws, Effect, Holding, IsNotIn, Nothing, Rises, Use, uses_after}
+use Rattle.turn_laws.specs.Holdings.{Passes, Actor, Begins, Draws, Effect, Holding, IsNotIn, Nothing, Rises, Use, uses_after}
 use Rattle.turn_laws.specs.Owned.{Lawful, Owned}
 use Rattle.turn_laws.specs.Places.{Place, is_place, place_of}
 use Rattle.turn_laws.specs.Turns.{actor_of, acts_of, key_iv, uses_of}
@@ -37,6 +37,7 @@ module _ (p : Place) (n : ℕ) where
   fewer Nothing held us none = none
   fewer (Begins w h) held us none = none
   fewer (Rises w k) held us none = none
+  fewer (Passes w v) held us none = none
   fewer (Draws w k) held us none = none.1
 
   seal-used : (w : Actor) (key : KeyIv) (held : Actor → Option Holding) (us : List Use) → IsNotIn n (map (λ u. u.number) (uses_after (effect_of_use p (place_of key.name) w key.iv) held us)) → IsOther key

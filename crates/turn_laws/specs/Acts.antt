@@ -1,4 +1,5 @@
--- What ends do, as data, and what it does to the numbers of each counter. A list of acts has the newest first.
+-- What ends do, as data, and what it does to the numbers of each counter. A list of acts has the
+-- newest first.
 use Rattle.std.specs.Prelude.{ℕ, ◌+◌, ◌^◌, ◌≡◌, ◌≤◌, ◌==◌, Bool, true, Option, Some, None, MatchOption, List, [], ◌∷◌, ◌++◌, length, map, if◌then◌else◌}
 use Rattle.keeper_book.specs.CounterEnds.{end_of}
 use Rattle.keeper_book.specs.Counters.{counter_named, five_at}
@@ -30,8 +31,8 @@ pub data Move : Type 0 where
   Uses : (place : Place) → (number : ℕ) → Move
   -- something is sealed under a key and an IV, which is a number of the key's counter
   Seals : (key : KeyIv) → Move
-  -- The book leases a range of a pool, from a number on and so many. Where the caller saw it, the range is its lot, in place of
-  -- an earlier one.
+  -- The book leases a range of a pool, from a number on and so many. Where the caller saw it, the
+  -- range is its lot, in place of an earlier one.
   Leases : (pool : NumberPool) → (first count : ℕ) → (seen : Bool) → Move
   -- a member ends
   Ends : Move
@@ -130,8 +131,8 @@ pub record MayCover (held : Option Holding) (epoch upto : ℕ) : Type 0 where
   pub in_epoch : holding.epoch ≡ epoch
   pub within_end : upto ≤ holding.end
 
--- Imports have these SPIs: lower ones are for what the cluster draws itself, the responder's of a resumed association and,
--- above it, the one at which the cluster receives in it.
+-- Imports have these SPIs: lower ones are for what the cluster draws itself, the responder's of a
+-- resumed association and, above it, the one at which the cluster receives in it.
 pub record IsImport (sa : Record) : Type 0 where
   pub spir : FIRST_IMPORTED_SPIR ≤ sa.spir
   pub spi_in : FIRST_IMPORTED_SPI ≤ sa.spi_in

@@ -22,13 +22,16 @@ IsOtherPacket p n packet = place_of packet.name ≡ Some p → packet.number ≢
 abbrev pub IsFirst : Place → ℕ → List Turn → Type 0
 IsFirst p n past = AllByRecursion (IsOtherPacket p n) (filter_map accepted_in past)
 
--- A packet under the receive key and the SPI of what a member holds that is up, whoever sealed it, whose number the window
--- covers and no earlier turn accepted, is accepted where its number is acknowledged to the member.
+-- A packet under the receive key and the SPI of what a member holds that is up, whoever sealed it,
+-- whose number the window covers and no earlier turn accepted, is accepted where its number is
+-- acknowledged to the member.
 abbrev pub MemberAcceptsFirst : List Turn → Turn → Type 0
 MemberAcceptsFirst past turn =
-    (member spir number : ℕ) (held : Held) (payload octets : List ℕ) → Came past turn (Member member) octets
+    (member spir number : ℕ) (held : Held) (payload octets : List ℕ)
+    → Came past turn (Member member) octets
     → IsReceiver (held_by (window_by past) (own (Member member) past)) (spi_of octets) spir held
-    → IsEspDatagram held.sa.child.to_cluster held.sa.spi_in number payload 4 octets → WindowCovers held.window number
+    → IsEspDatagram held.sa.child.to_cluster held.sa.spi_in number payload 4 octets
+    → WindowCovers held.window number
     → IsFirst (Ours spir counter.EspIn) number past → IsAcknowledged held number turn.calls
     → IsAcceptedAs (counter_name held.sa counter.EspIn) number payload turn.step.verdict
 
@@ -37,6 +40,7 @@ abbrev pub PeerAcceptsFirst : List Turn → Turn → Type 0
 PeerAcceptsFirst past turn =
     (number : ℕ) (slot : Slot) (payload octets : List ℕ) → Came past turn Peer octets
     → first_slot (receives_at (spi_of octets)) (slots_by (window_by past) (own Peer past)) ≡ Some slot
-    → IsEspDatagram slot.sa.child.to_peer slot.sa.spi_out number payload 4 octets → WindowCovers slot.window number
+    → IsEspDatagram slot.sa.child.to_peer slot.sa.spi_out number payload 4 octets
+    → WindowCovers slot.window number
     → IsFirst (Theirs slot.sa.spir counter.EspIn) number past
     → IsAcceptedAs (peer_counter slot.sa counter.EspIn) number payload turn.step.verdict

@@ -7,9 +7,11 @@ use Rattle.turn_laws.specs.Places.{Place, column, pool_next, with_pool_next}
 
 pub record Owned (acts : List Act) (book : Book) : Type 0 where
   -- of every counter of every association, the cluster's and the peer's, and of each pool
-  pub numbers : (p : Place) → IsOwned (holding_at p acts) (uses_at p acts) (column p (lots_at p acts) book)
+  pub numbers : (p : Place)
+      → IsOwned (holding_at p acts) (uses_at p acts) (column p (lots_at p acts) book)
   -- before the first epoch the highs are the starts
-  pub starts : (spir : ℕ) (e : Entry) → entry_of spir book.entries ≡ Some e → e.bases ≡ [] → e.highs ≡ e.sa.starts
+  pub starts : (spir : ℕ) (e : Entry) → entry_of spir book.entries ≡ Some e → e.bases ≡ []
+      → e.highs ≡ e.sa.starts
   -- no association of the book has an SPI that the cluster may draw itself
   pub imported : (spir : ℕ) (e : Entry) → entry_of spir book.entries ≡ Some e → IsImport e.sa
 

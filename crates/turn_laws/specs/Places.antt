@@ -17,7 +17,8 @@ use Rattle.keeper_book.specs.declared.records.Record.{Record}
 use Rattle.turn_laws.specs.Columns.{Column, nothing}
 use Rattle.turn_rules.specs.Held.{first_some, is_counter}
 
--- The numbers that members draw from ranges that they lease: those under a ticket key, and those in the nonces of resumptions.
+-- The numbers that members draw from ranges that they lease: those under a ticket key, and those in
+-- the nonces of resumptions.
 pub data NumberPool : Type 0 where
   TicketNumbers : NumberPool
   NonceNumbers : NumberPool
@@ -89,13 +90,15 @@ abbrev pub with_pool_next : NumberPool → ℕ → Book → Book
 with_pool_next TicketNumbers n book = record book { next_ticket = n }
 with_pool_next NonceNumbers n book = record book { next_nonce = n }
 
--- No number of a pool reaches its end. A number of a nonce is the responder's SPI of what is resumed, and 256 more than it the
--- SPI at which the cluster receives in it, so it stays below those of imports.
+-- No number of a pool reaches its end. A number of a nonce is the responder's SPI of what is
+-- resumed, and 256 more than it the SPI at which the cluster receives in it, so it stays below
+-- those of imports.
 abbrev pub pool_end : NumberPool → ℕ
 pool_end TicketNumbers = 2 ^ 32
 pool_end NonceNumbers = 65280
 
--- The numbers of a place, by the book; of a pool also by where the ranges begin that were leased, the first one first.
+-- The numbers of a place, by the book; of a pool also by where the ranges begin that were leased,
+-- the first one first.
 abbrev pub column : Place → List ℕ → Book → Column
 column (Ours spir c) lots book = column_ours c (entry_of spir book.entries)
 column (Theirs spir c) lots book = column_theirs c (entry_of spir book.entries)
