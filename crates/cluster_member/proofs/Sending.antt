@@ -1,5 +1,5 @@
 -- A payload is sent under the number that a horizon gave.
-use Rattle.std.proofs.Common.{◌≡◌, ℕ, ◌+◌, List, [], Result, Ok, Err, sym, subst}
+use Rattle.std.proofs.Common.{◌≡◌, ℕ, ◌+◌, List, [], Result, Ok, Err, subst}
 use Rattle.events.specs.declared.turn.Step.{Step}
 use Rattle.events.specs.declared.verdict.Verdict.TheVariants as out
 use Rattle.horizons.specs.Reaches.{Reach}

@@ -8,15 +8,21 @@ use Rattle.keeper_book.specs.declared.calls.Call.{Call}
 use Rattle.keeper_book.specs.declared.calls.KeeperAnswer.TheVariants as answer
 use Rattle.keeper_book.specs.declared.faults.KeeperFault.TheVariants as fault
 use Rattle.keeper_book.specs.declared.keepers.Keeper.{Ghosts}
+use Rattle.turn_rules.specs.Configurations.{Configuration}
 use Rattle.turn_rules.specs.Held.{Held, held_after, held_at}
 use Rattle.turn_rules.specs.Packets.{IsVerdictOf}
 use Rattle.turn_rules.specs.Tasks as task
 use Rattle.turn_rules.specs.Tasks.{Task}
+use Rattle.cluster_member.specs.declared.config.Config.{Config}
 
--- a member: its number, the size of its receive windows, and what it holds, by association
+abbrev pub configuration_of : Config → Configuration
+configuration_of config = record { identity = config.identity; lifetime = config.lifetime; window = config.window; ticket_key = config.ticket_key }
+
+-- a member: its number, how it is configured, its fresh octets, and what it holds, by association
 pub record Holder : Type 0 where
   pub number : ℕ
-  pub window : ℕ
+  pub config : Configuration
+  pub fresh : List ℕ
   pub held : List Held
 
 -- each association is held as the turn makes it of what was held, with receive windows of this size
@@ -34,8 +40,9 @@ ReceivesOn calls answered after old new = (step : Step) → IsVerdictOf answered
 -- what a member is after a task
 pub record IsAfter (asked : Task) (calls : List Call) (step : Step) (old new : Holder) : Type 0 where
   pub number : new.number ≡ old.number
-  pub window : new.window ≡ old.window
-  pub holds : HoldsAfter old.window asked calls step old.held new.held
+  pub config : new.config ≡ old.config
+  pub fresh : new.fresh ≡ old.fresh
+  pub holds : HoldsAfter old.config.window asked calls step old.held new.held
 
 -- the same of a packet, by the step that words the answer
 abbrev pub IsAfterPacket : List Call → EspVerdict → List ℕ → Holder → Holder → Type 0

@@ -9,6 +9,7 @@ ghost use Rattle.cluster_member.specs.Uses.{DrawsNext, Notes, NotesPacket, Sends
 ghost use Rattle.keeper_book.specs.Asks.{AsksFor};
 ghost use Rattle.turn_rules.specs.Held.{held_begun};
 ghost use Rattle.turn_rules.specs.Packets.{LiesWithin};
+ghost use Rattle.ha_base.specs.declared.limits.TheConstants.{DATAGRAM_OCTETS, PAYLOAD_OCTETS};
 
 use crate::refusals;
 use esp_sas::{InboundSa, OutboundSa, Room};
@@ -163,7 +164,7 @@ impl Holding {
 
     /// Sends a payload of at most 1,400 octets under the next ESP number.
     pub fn send<K: Keeper>(&mut self, keeper: &mut K, room: Room, payload: &[u8]) -> Step
-        requires size { length payload.now ≤ 1400 }
+        requires size { length payload.now ≤ PAYLOAD_OCTETS }
         requires room { length payload.now ≤ room }
         ensures sends { AsksFor K.Keeper keeper.old keeper.new (λ calls. SendsNext self.old payload.now calls result self.new) }
         ensures sa { self.new.sa ≡ self.old.sa }
@@ -197,7 +198,7 @@ impl Holding {
 
     /// Opens in place a packet that came. Its number is noted where the packet is accepted.
     pub fn receive<K: Keeper>(&mut self, keeper: &mut K, bytes: &mut [u8]) -> EspVerdict
-        requires { length bytes.old ≤ 65536 }
+        requires { length bytes.old ≤ DATAGRAM_OCTETS }
         ensures receives { AsksFor K.Keeper keeper.old keeper.new (λ calls. NotesPacket self.old bytes.old calls result bytes.new self.new) }
         ensures within { LiesWithin result (length bytes.new) }
         ensures sa { self.new.sa ≡ self.old.sa }

@@ -11,6 +11,7 @@ ghost use Rattle.turn_rules.specs.Packets.{LiesWithin};
 ghost use Rattle.turn_rules.specs.Steps.{Says};
 ghost use Rattle.cluster_member.specs.Members.{HoldsOn, ReceivesOn};
 ghost use Rattle.cluster_member.specs.Places.{IsLeastAt, IsLesser, IsHoldingPlace, KeepsOthers, NoneReceives};
+ghost use Rattle.ha_base.specs.declared.limits.TheConstants.{DATAGRAM_OCTETS, PAYLOAD_OCTETS};
 
 use crate::holding::Holding;
 use esp_packets::packet_spi;
@@ -132,7 +133,7 @@ impl Holdings {
 
     /// Sends a payload of at most 1,400 octets in an association that is held.
     pub fn send<K: Keeper>(&mut self, keeper: &mut K, spir: u64, room: Room, payload: &[u8]) -> Step
-        requires size { length payload.now ≤ 1400 }
+        requires size { length payload.now ≤ PAYLOAD_OCTETS }
         requires room { length payload.now ≤ room }
         ensures sends { AsksFor K.Keeper keeper.old keeper.new (λ calls. SendsOf (held_at self.old.held spir) payload.now calls result
             × HoldsOn (task.Send spir payload.now) calls result self.old.held self.new.held) }
@@ -148,7 +149,7 @@ impl Holdings {
 
     /// Hands a packet to what is held that receives at its SPI.
     pub fn receive<K: Keeper>(&mut self, keeper: &mut K, bytes: &mut [u8]) -> EspVerdict
-        requires { length bytes.old ≤ 65536 }
+        requires { length bytes.old ≤ DATAGRAM_OCTETS }
         ensures receives { AsksFor K.Keeper keeper.old keeper.new (λ calls.
             MemberReceives (held_at self.old.held) bytes.old calls result bytes.new
             × ReceivesOn calls result bytes.new self.old.held self.new.held) }
@@ -162,7 +163,7 @@ impl Holdings {
 
     // Hands a packet to what is held that receives at this SPI.
     fn receive_at<K: Keeper>(&mut self, keeper: &mut K, spi: u32, bytes: &mut [u8]) -> EspVerdict
-        requires size { length bytes.old ≤ 65536 }
+        requires size { length bytes.old ≤ DATAGRAM_OCTETS }
         requires spi { spi ≡ spi_of bytes.old }
         ensures receives { AsksFor K.Keeper keeper.old keeper.new (λ calls.
             ((ReceivesNowhere (held_at self.old.held) (spi_of bytes.old) × DropsQuietly drop.WrongSpi bytes.old calls result bytes.new)

@@ -8,7 +8,8 @@ ghost use Rattle.turn_rules.specs.MemberPackets.{MemberReceives};
 ghost use Rattle.turn_rules.specs.Packets.{LiesWithin};
 ghost use Rattle.turn_rules.specs.Tasks as task;
 ghost use Rattle.cluster_member.specs.Genuine.{GenuineAreAccepted};
-ghost use Rattle.cluster_member.specs.Members.{AsksInVain, IsAfter, IsAfterPacket};
+ghost use Rattle.cluster_member.specs.Members.{AsksInVain, IsAfter, IsAfterPacket, configuration_of};
+ghost use Rattle.ha_base.specs.declared.limits.TheConstants.{DATAGRAM_OCTETS, PAYLOAD_OCTETS};
 
 use crate::config::Config;
 use crate::holding::Holding;
@@ -34,11 +35,11 @@ pub struct Member {
 
 impl Model for Member {
     ghost use Rattle.replay_set.specs.Window.{IsWindowSize};
-    ghost use Rattle.cluster_member.specs.Members.{Holder};
+    ghost use Rattle.cluster_member.specs.Members.{Holder, configuration_of};
 
     ghost Value = { Holder };
 
-    ghost view = { λ m. record { number = m.number; window = m.config.window; held = m.holdings.held } };
+    ghost view = { λ m. record { number = m.number; config = configuration_of m.config; fresh = m.fresh; held = m.holdings.held } };
 
     ghost invariant = { λ m. IsWindowSize m.config.window };
 }
@@ -47,7 +48,7 @@ impl Member {
     /// A member that holds nothing. Its fresh octets are its own alone.
     pub fn join(alloc: Global, number: u32, config: Config, fresh: [u8; 24]) -> Member
         requires { IsWindowSize config.window }
-        ensures { result ≡ record { number = number; window = config.window; held = [] } }
+        ensures { result ≡ record { number = number; config = configuration_of config; fresh = fresh; held = [] } }
     {
         Member {
             alloc,
@@ -101,7 +102,7 @@ impl Member {
         spir: u64,
         payload: &[u8],
     ) -> Result<Step, Memory>
-        requires { length payload.now ≤ 1400 }
+        requires { length payload.now ≤ PAYLOAD_OCTETS }
         ensures sends { IfOk result (λ step. AsksFor K.Keeper keeper.old keeper.new (λ calls.
             SendsOf (held_at self.old.held spir) payload.now calls step
             × IsAfter (task.Send spir payload.now) calls step self.old self.new)) }
@@ -114,7 +115,7 @@ impl Member {
     /// Opens in place an ESP packet that came, and notes its number where it is accepted (RFC 4303, section 3.4): the number
     /// has to be ready first. It takes no memory.
     pub fn receive_esp<K: Keeper>(&mut self, keeper: &mut K, bytes: &mut [u8]) -> EspVerdict
-        requires { length bytes.old ≤ 2048 }
+        requires { length bytes.old ≤ DATAGRAM_OCTETS }
         ensures receives { AsksFor K.Keeper keeper.old keeper.new (λ calls.
             MemberReceives (held_at self.old.held) bytes.old calls result bytes.new
             × GenuineAreAccepted self.old.held bytes.old calls result bytes.new

@@ -1,5 +1,5 @@
 -- What the peer holds after a task, by what one of its associations is then.
-use Rattle.std.proofs.Common.{◌≡◌, ℕ, zero, suc, ◌+◌, ◌^◌, ◌<◌, ◌≤◌, ◌==◌, max, true, Option, Some, None, Result, Ok, Err, List, [], ◌∷◌, ◌++◌, map, length, get_or, append-nil, ⊎_elim, refl, ap, ap₂, sym, ◌∙◌, subst, arith, if◌then◌else◌}
+use Rattle.std.proofs.Common.{◌≡◌, ℕ, zero, suc, ◌+◌, ◌<◌, ◌≤◌, ◌==◌, max, true, Option, Some, None, Result, Ok, Err, List, [], ◌∷◌, ◌++◌, map, length, get_or, append-nil, ⊎_elim, refl, ap, ap₂, sym, ◌∙◌, subst, arith, if◌then◌else◌}
 use Rattle.std.proofs.Math.ListN.{set}
 use Rattle.std.proofs.lemmas.Bool.{cases_lt, eq-eqb, ne_eqb}
 use Rattle.std.specs.List.{AllByRecursion}
@@ -11,6 +11,7 @@ use Rattle.events.specs.declared.verdict.Refusal.TheVariants as refusal
 use Rattle.events.specs.declared.verdict.Verdict.TheVariants as out
 use Rattle.ha_base.specs.declared.esp_outcomes.EspDrop.{EspDrop}
 use Rattle.ha_base.specs.declared.esp_outcomes.EspOpened.{EspOpened}
+use Rattle.keeper_book.specs.CounterEnds.{end_of}
 use Rattle.keeper_book.specs.declared.counters.Counter.TheVariants as counter
 use Rattle.keeper_book.specs.declared.records.Record.{Record}
 use Rattle.turn_rules.proofs.SlotTies.{admits-differ, apart-append}
@@ -84,14 +85,14 @@ module _ (asked : Task) (step : Step) where
 
 module _ (spir : ℕ) (payload : List ℕ) (step : Step) (place : ℕ) (slots : List Slot) (slot now : Slot) (within : place < length slots) (is : slot ≡ get_or slots place slot) (apart : AreDistinct (records slots)) where
   -- what the peer holds after it sent in an association
-  pub sent-after : slot.sa.spir ≡ spir → SlotSends slot payload step → (slot.next < 2 ^ 63 → now ≡ record slot { next = slot.next + 1 }) → (2 ^ 63 ≤ slot.next → now ≡ slot)
+  pub sent-after : slot.sa.spir ≡ spir → SlotSends slot payload step → (slot.next < end_of slot.sa counter.EspOut → now ≡ record slot { next = slot.next + 1 }) → (end_of slot.sa counter.EspOut ≤ slot.next → now ≡ slot)
       → set slots place now ≡ map (slot_after (task.Send spir payload) step) slots
-  sent-after its sends goes stays = ⊎_elim went stopped (cases_lt slot.next (2 ^ 63))
+  sent-after its sends goes stays = ⊎_elim went stopped (cases_lt slot.next (end_of slot.sa counter.EspOut))
     where
       asked : Task
       asked = task.Send spir payload
 
-      went : slot.next < 2 ^ 63 → set slots place now ≡ map (slot_after (task.Send spir payload) step) slots
+      went : slot.next < end_of slot.sa counter.EspOut → set slots place now ≡ map (slot_after (task.Send spir payload) step) slots
       went below =
           let said = (sends.within below).said in
           let here : used_in slot.sa.spir counter.EspOut (task.Send spir payload) step.verdict ≡ Some slot.next =
@@ -102,7 +103,7 @@ module _ (spir : ℕ) (payload : List ℕ) (step : Step) (place : ℕ) (slots : 
           (λ other differ. slot-kept (task.Send spir payload) step other
           (ap (used_in other.sa.spir counter.EspOut (task.Send spir payload)) said ∙ ap (λ b. if b then Some slot.next else None) (ne_eqb spir other.sa.spir (λ same. differ.spir (its ∙ same)))) refl)
 
-      stopped : 2 ^ 63 ≤ slot.next → set slots place now ≡ map (slot_after (task.Send spir payload) step) slots
+      stopped : end_of slot.sa counter.EspOut ≤ slot.next → set slots place now ≡ map (slot_after (task.Send spir payload) step) slots
       stopped above =
           let kept : (any : Slot) → any ≡ slot_after (task.Send spir payload) step any = refused-kept (task.Send spir payload) step refusal.Exhausted (sends.ended above).said in
           put (slot_after (task.Send spir payload) step) place slots slot now within is apart (stays above ∙ kept slot) (λ other differ. kept other)

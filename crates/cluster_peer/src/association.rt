@@ -1,10 +1,12 @@
-ghost use Rattle.std.specs.Prelude.{◌≡◌, ◌+◌, ◌<◌, ◌≤◌, ◌^◌, ◌⊎◌, length};
+ghost use Rattle.std.specs.Prelude.{◌≡◌, ◌+◌, ◌<◌, ◌≤◌, ◌⊎◌, length};
 ghost use Rattle.replay_set.specs.Window.{IsWindowSize};
+ghost use Rattle.keeper_book.specs.CounterEnds.{end_of};
 ghost use Rattle.keeper_book.specs.declared.counters.Counter.TheVariants as counter;
 ghost use Rattle.turn_rules.specs.Packets.{LiesWithin};
 ghost use Rattle.turn_rules.specs.Peers.{clashes};
 ghost use Rattle.turn_rules.specs.Slots.{SlotReceives, SlotSends, entered_slot, peer_counter};
 ghost use Rattle.cluster_peer.specs.Slots.{slot_noted};
+ghost use Rattle.ha_base.specs.declared.limits.TheConstants.{DATAGRAM_OCTETS, PAYLOAD_OCTETS};
 
 use esp_sas::{InboundSa, OutboundSa, Room};
 use events::{EspVerdict, Refusal, Step, Verdict};
@@ -110,11 +112,11 @@ impl Association {
 
     /// Sends a payload of at most 1,400 octets. It is refused `Exhausted` exactly where the counter is at its end.
     pub fn send(&mut self, room: Room, payload: &[u8]) -> Step
-        requires size { length payload.now ≤ 1400 }
+        requires size { length payload.now ≤ PAYLOAD_OCTETS }
         requires room { length payload.now ≤ room }
         ensures sends { SlotSends self.old payload.now result }
-        ensures within { self.old.next < 2 ^ 63 → self.new ≡ record self.old { next = self.old.next + 1 } }
-        ensures ended { 2 ^ 63 ≤ self.old.next → self.new ≡ self.old }
+        ensures within { self.old.next < end_of self.old.sa counter.EspOut → self.new ≡ record self.old { next = self.old.next + 1 } }
+        ensures ended { end_of self.old.sa counter.EspOut ≤ self.old.next → self.new ≡ self.old }
         ensures sa { self.new.sa ≡ self.old.sa }
     {
         match self.lot.draw() {
@@ -125,7 +127,7 @@ impl Association {
 
     /// Opens in place a packet that came, and notes its number where it is accepted.
     pub fn receive(&mut self, bytes: &mut [u8]) -> EspVerdict
-        requires { length bytes.old ≤ 65536 }
+        requires { length bytes.old ≤ DATAGRAM_OCTETS }
         ensures receives { SlotReceives self.old bytes.old result bytes.new }
         ensures noted { self.new ≡ slot_noted result self.old }
         ensures sa { self.new.sa ≡ self.old.sa }

@@ -8,6 +8,7 @@ ghost use Rattle.turn_rules.specs.Slots.{PeerReceives, PeerSends, entered_slot, 
 ghost use Rattle.turn_rules.specs.Tasks as task;
 ghost use Rattle.cluster_peer.specs.Slots.{IsPeerAfter, IsPeerAfterPacket};
 ghost use Rattle.turn_rules.specs.Steps.{Says};
+ghost use Rattle.ha_base.specs.declared.limits.TheConstants.{DATAGRAM_OCTETS, PAYLOAD_OCTETS};
 
 use crate::slots::Slots;
 use esp_packets::sealed_packets_open;
@@ -111,7 +112,7 @@ impl Peer {
     /// such association, and `Exhausted` where its numbers are at their end. An error is want of memory, and the peer is
     /// then as it was.
     pub fn send_data(&mut self, spir: u64, payload: &[u8]) -> Result<Step, Memory>
-        requires { length payload.now ≤ 1400 }
+        requires { length payload.now ≤ PAYLOAD_OCTETS }
         ensures sends { IfOk result (λ step. PeerSends spir self.old.slots payload.now step) }
         ensures after { IfOk result (λ step. IsPeerAfter (task.Send spir payload.now) step self.old self.new) }
         ensures err { OnErr result (self.new ≡ self.old) }
@@ -123,7 +124,7 @@ impl Peer {
     /// Opens in place an ESP packet that came, of at most 2,048 octets, and notes its number where it is accepted (RFC 4303,
     /// section 3.4). It takes no memory.
     pub fn receive_esp(&mut self, bytes: &mut [u8]) -> EspVerdict
-        requires { length bytes.old ≤ 2048 }
+        requires { length bytes.old ≤ DATAGRAM_OCTETS }
         ensures receives { PeerReceives self.old.slots bytes.old result bytes.new }
         ensures after { IsPeerAfterPacket result bytes.new self.old self.new }
         ensures genuine { PeerAcceptsGenuine self.old.slots bytes.old result bytes.new }

@@ -7,6 +7,7 @@ ghost use Rattle.turn_rules.specs.Slots.{PeerReceives, PeerSends, SlotReceives, 
 ghost use Rattle.turn_rules.specs.Tasks as task;
 ghost use Rattle.cluster_peer.specs.Slots.{IsFirst};
 ghost use Rattle.ha_base.specs.declared.esp_outcomes.EspDrop.TheVariants as drop;
+ghost use Rattle.ha_base.specs.declared.limits.TheConstants.{DATAGRAM_OCTETS, PAYLOAD_OCTETS};
 
 use crate::association::Association;
 use esp_packets::packet_spi;
@@ -104,7 +105,7 @@ impl Slots {
 
     /// Sends a payload of at most 1,400 octets in an association.
     pub fn send(&mut self, spir: u64, room: Room, payload: &[u8]) -> Step
-        requires size { length payload.now ≤ 1400 }
+        requires size { length payload.now ≤ PAYLOAD_OCTETS }
         requires room { length payload.now ≤ room }
         ensures sends { PeerSends spir self.old.slots payload.now result }
         ensures after { self.new.slots ≡ map (slot_after (task.Send spir payload.now) result) self.old.slots }
@@ -120,7 +121,7 @@ impl Slots {
 
     /// Hands a packet to the association that receives at its SPI.
     pub fn receive(&mut self, bytes: &mut [u8]) -> EspVerdict
-        requires { length bytes.old ≤ 65536 }
+        requires { length bytes.old ≤ DATAGRAM_OCTETS }
         ensures receives { PeerReceives self.old.slots bytes.old result bytes.new }
         ensures after { (step : Step) → IsVerdictOf result bytes.new step.verdict → self.new.slots ≡ map (slot_after task.Receive step) self.old.slots }
         ensures within { LiesWithin result (length bytes.new) }
@@ -133,7 +134,7 @@ impl Slots {
 
     // Hands a packet to the association that receives at this SPI.
     fn receive_at(&mut self, spi: u32, bytes: &mut [u8]) -> EspVerdict
-        requires { length bytes.old ≤ 65536 }
+        requires { length bytes.old ≤ DATAGRAM_OCTETS }
         ensures receives { MatchOption (first_slot (receives_at spi) self.old.slots)
             (Drops drop.WrongSpi bytes.old result bytes.new)
             (λ slot. SlotReceives slot bytes.old result bytes.new) }

@@ -14,10 +14,11 @@ use Rattle.events.specs.declared.verdict.Verdict.{Verdict}
 use Rattle.events.specs.declared.verdict.Verdict.TheVariants as out
 use Rattle.keeper_book.specs.declared.calls.Call.{Call}
 use Rattle.turn_rules.proofs.Refusals.{refusal-of_run}
-use Rattle.turn_rules.specs.Datagrams.{Delivery, MAX_DATAGRAMS, arrives, datagrams_of}
+use Rattle.ha_base.specs.declared.limits.TheConstants.{MAX_DATAGRAMS}
+use Rattle.turn_rules.specs.Configurations.{configured_in}
+use Rattle.turn_rules.specs.Datagrams.{Delivery, arrives, datagrams_of}
 use Rattle.turn_rules.specs.Ends.{end_of_party, performer_of}
 use Rattle.turn_rules.specs.Fits.{Performs, Receives, Refuses, has_joined, is_of_datagrams, member_of, named_in, refused_absent, refused_arrival, refused_besides, refused_where, run_refusal}
-use Rattle.turn_rules.specs.Held.{window_in}
 use Rattle.turn_rules.specs.States.{RunState, ended_by}
 use Rattle.turn_rules.specs.Steps.{Says}
 use Rattle.turn_rules.specs.Tasks as task
@@ -111,23 +112,23 @@ module _ (past : List Turn) (s : EndsHeld) (at : Event) (member : ℕ) (named : 
     pub its-seat : (was : Holder) → x ≡ Some was → holder_of s.members member ≡ Some was
     its-seat was some = seat_is s.members member place x is seat ∙ some
 
-    pub its-member : (was : Holder) → x ≡ Some was → IsMember member s.window was
+    pub its-member : (was : Holder) → x ≡ Some was → IsMember member s.config was
     its-member was some =
         let e : member ≡ suc place = counted member place s.members is in
-        subst (λ n. IsMember n s.window was) (sym e) (in_place place was is.within (ap (holder_of s.members) (sym e) ∙ its-seat was some))
+        subst (λ n. IsMember n s.config was) (sym e) (in_place place was is.within (ap (holder_of s.members) (sym e) ∙ its-seat was some))
 
     pub acts-plays : (of : IsOf at member) (was now : Holder) (calls : List Call) (step : Step) (new : EndsHeld) → x ≡ Some was → refused_besides (state_of past s) at ≡ None
         → ended_by at step.verdict ≡ None → IsOfEnd step.verdict → Performs (state_of past s) at calls step → IsAfter (member_task at) calls step was now
         → new ≡ record s { members = set s.members place (Some now) } → Plays past s at calls step new
     acts-plays of was now calls step new some free no_end said performs after leaves =
         let e : member ≡ suc place = counted member place s.members is in
-        let mine : IsMember member s.window was = its-member was some in
+        let mine : IsMember member s.config was = its-member was some in
         subst (λ later. Plays past s at calls step later) (sym leaves) (record {
           does = does-performed (state_of past s) at calls step (up-refusal was some ∙ free) performs;
-          holds = member-holds past s at calls step place is.within (subst (IsOf at) e of) said no_end was now (ap (holder_of s.members) (sym e) ∙ its-seat was some) mine.window_is after;
+          holds = member-holds past s at calls step place is.within (subst (IsOf at) e of) said no_end was now (ap (holder_of s.members) (sym e) ∙ its-seat was some) mine.config_is after;
           in_place = acted-in_place s place now is.within in_place (record {
             number_is = after.number ∙ mine.number_is ∙ e;
-            window_is = after.window ∙ mine.window_is;
+            config_is = after.config ∙ mine.config_is;
           });
         })
 
@@ -139,15 +140,15 @@ pub record Brings (at : Event) (to : Party) : Type 0 where
   pub by : (verdict : Verdict) → performer_of at verdict ≡ Some (end_of_party to)
   pub member : member_task at ≡ task.Receive
   pub peer : peer_task at ≡ task.Receive
-  pub no_window : (verdict : Verdict) → window_in at verdict ≡ None
+  pub no_config : (verdict : Verdict) → configured_in at verdict ≡ None
   pub no_end : (verdict : Verdict) → ended_by at verdict ≡ None
 
 same-party : (x y : Delivery) → Some x ≡ Some y → x.to ≡ y.to
 same-party x y e = ap (λ (d : Delivery). d.to) (same_Some x y e)
 
 pub brings : (at : Event) (to : Party) → DeliversTo at to → Brings at to
-brings (event.Deliver which reached) to d = subst (λ p. Brings (event.Deliver which reached) p) (same-party _ _ d.1) (record { named = refl; besides = λ state. refl; performs = λ state calls step r. r; by = λ v. refl; member = refl; peer = refl; no_window = λ v. refl; no_end = λ v. refl })
-brings (event.Alter which reached place octet) to d = subst (λ p. Brings (event.Alter which reached place octet) p) (same-party _ _ d.1) (record { named = refl; besides = λ state. refl; performs = λ state calls step r. r; by = λ v. refl; member = refl; peer = refl; no_window = λ v. refl; no_end = λ v. refl })
-brings (event.Cut which reached keep) to d = subst (λ p. Brings (event.Cut which reached keep) p) (same-party _ _ d.1) (record { named = refl; besides = λ state. refl; performs = λ state calls step r. r; by = λ v. refl; member = refl; peer = refl; no_window = λ v. refl; no_end = λ v. refl })
-brings (event.Inject reached medium octets) to d = subst (λ p. Brings (event.Inject reached medium octets) p) (same-party _ _ d.1) (record { named = refl; besides = λ state. refl; performs = λ state calls step r. r; by = λ v. refl; member = refl; peer = refl; no_window = λ v. refl; no_end = λ v. refl })
+brings (event.Deliver which reached) to d = subst (λ p. Brings (event.Deliver which reached) p) (same-party _ _ d.1) (record { named = refl; besides = λ state. refl; performs = λ state calls step r. r; by = λ v. refl; member = refl; peer = refl; no_config = λ v. refl; no_end = λ v. refl })
+brings (event.Alter which reached place octet) to d = subst (λ p. Brings (event.Alter which reached place octet) p) (same-party _ _ d.1) (record { named = refl; besides = λ state. refl; performs = λ state calls step r. r; by = λ v. refl; member = refl; peer = refl; no_config = λ v. refl; no_end = λ v. refl })
+brings (event.Cut which reached keep) to d = subst (λ p. Brings (event.Cut which reached keep) p) (same-party _ _ d.1) (record { named = refl; besides = λ state. refl; performs = λ state calls step r. r; by = λ v. refl; member = refl; peer = refl; no_config = λ v. refl; no_end = λ v. refl })
+brings (event.Inject reached medium octets) to d = subst (λ p. Brings (event.Inject reached medium octets) p) (same-party _ _ d.1) (record { named = refl; besides = λ state. refl; performs = λ state calls step r. r; by = λ v. refl; member = refl; peer = refl; no_config = λ v. refl; no_end = λ v. refl })
 brings at to d = absurd (let e = d.1 in cc)

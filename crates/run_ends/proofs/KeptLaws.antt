@@ -1,17 +1,20 @@
 -- After an event the ends hold what the turns make of it, and each turn is explained.
-use Rattle.std.proofs.Common.{◌≡◌, ◌≤◌, Option, List, [], ◌∷◌, ◌++◌, length, refl, ap, sym, ◌∙◌, subst}
+use Rattle.std.proofs.Common.{◌≡◌, ℕ, zero, suc, ◌≤◌, true, false, None, arith, Option, List, [], ◌∷◌, ◌++◌, length, refl, ap, sym, ◌∙◌, subst}
+use Rattle.std.proofs.lemmas.Bool.{lt-ltb}
 use Rattle.std.specs.List.{AllByRecursion}
+use Rattle.std.specs.Prelude.{is_none, nat_lt}
 use Rattle.events.specs.Events.{plain}
 use Rattle.events.specs.Ranges.{Fits}
 use Rattle.events.specs.declared.turn.Turn.{Turn}
 use Rattle.keeper_book.specs.Told.{AreAnswers}
+use Rattle.turn_rules.specs.Configurations.{default_configuration, gateway_of}
 use Rattle.turn_rules.specs.Datagrams.{PlainDatagram}
 use Rattle.turn_rules.specs.Fits.{Does}
 use Rattle.turn_rules.specs.Local.{AreShown, IsExplained, Local}
 use Rattle.turn_rules.specs.States.{RunState, state_after, state_by}
 use Rattle.cluster_member.specs.Members.{Holder}
 use Rattle.run_ends.proofs.Verdicts.{does-few}
-use Rattle.run_ends.specs.Parties.{AreKept, EndsHeld, IsShort, Plays, state_of}
+use Rattle.run_ends.specs.Parties.{AreKept, EndsHeld, IsShort, Plays, given_of, held_in, holder_of, state_of}
 
 all-append : (xs ys : List PlainDatagram) → AllByRecursion IsShort xs → AllByRecursion IsShort ys → AllByRecursion IsShort (xs ++ ys)
 all-append [] ys a b = b
@@ -25,6 +28,46 @@ nothing-first [] s k e = (ap (λ (x : RunState). x.slots) k.state, no_members s.
     no_members [] e = refl
     no_members (x ∷ xs) e = absurd (cc)
 nothing-first (turn ∷ past) s k e = absurd (cc)
+
+-- so it is before the first turn
+first-gone : (k : ℕ) → is_none (holder_of [] k) ≡ false
+first-gone zero = refl
+first-gone (suc k) = refl
+
+first-given : (k : ℕ) → given_of [] k ≡ None
+first-given zero = refl
+first-given (suc k) = refl
+
+first-held : (k spir : ℕ) → held_in (holder_of [] k) spir ≡ None
+first-held zero spir = refl
+first-held (suc k) spir = refl
+
+pub kept-at_first : (boxes : ℕ) → AreKept [] (record { boxes = boxes; config = default_configuration; gateway = gateway_of default_configuration; slots = []; members = [] })
+kept-at_first boxes = record {
+  state = λ i. record {
+    boxes = boxes;
+    started = false;
+    config = default_configuration;
+    joined = 0;
+    ended = λ k. first-gone k i;
+    datagrams = [];
+    gateway = gateway_of default_configuration;
+    slots = [];
+    members = λ k. first-given k i;
+    held = λ k spir. first-held k spir i;
+  };
+  in_place = λ place holder l sits. absurd (omega (arith, l));
+  short = tt;
+  local = tt;
+}
+
+-- no turns are none
+pub none-played : (past : List Turn) (turns : ℕ) → turns ≡ length past → nat_lt 0 turns ≡ false → past ≡ []
+none-played [] turns count none = refl
+none-played (turn ∷ past) turns count none =
+    let more : turns ≡ suc (length past) = count in
+    let both : true ≡ false = sym (lt-ltb 0 turns (omega (arith, more))) ∙ none in
+    absurd (cc)
 
 module _ (past : List Turn) (turn : Turn) (s new : EndsHeld) (k : AreKept past s) (fits : Fits (plain turn.event)) (shown : AreShown turn.calls) (answers : AreAnswers turn.calls) (p : Plays past s turn.event turn.calls turn.step new) where
   pub few : length turn.calls ≤ 1

@@ -4,10 +4,11 @@ use Rattle.std.proofs.Math.ListN.{set}
 use Rattle.std.proofs.lemmas.Bool.{and_parts, cases_lt, eqb-false, eqb-true, ltb-true}
 use Rattle.std.proofs.lemmas.List.{get_or_append_left, get_or_at, get_or_default, get_or_past, get_or-set_same, get_or-set_other, length-append, length-set, set-get_or}
 use Rattle.std.proofs.lemmas.Option.{same_Some}
+use Rattle.std.specs.Option.{option_map}
 use Rattle.std.specs.Prelude.{is_none, nat_le, nat_lt}
 use Rattle.turn_rules.specs.States.{held_unless}
 use Rattle.cluster_member.specs.Members.{Holder}
-use Rattle.run_ends.specs.Parties.{AreInPlace, EndsHeld, IsMember, IsMemberPlace, held_in, holder_of, nobody}
+use Rattle.run_ends.specs.Parties.{AreInPlace, EndsHeld, IsMember, IsMemberPlace, given_of, given_to, held_in, holder_of, nobody, seat_or}
 
 -- the members are counted from 1
 pub counted : (member place : ℕ) (members : List (Option Holder)) → IsMemberPlace member place members → member ≡ suc place
@@ -29,14 +30,36 @@ pub unless-none : (x : Option Holder) (spir : ℕ) → held_in x spir ≡ held_u
 unless-none None spir = refl
 unless-none (Some holder) spir = refl
 
-module _ (members : List (Option Holder)) (place : ℕ) (within : place < length members) (x : Option Holder) where
+-- and what a member was given, it has no more once it ended
+pub unless-given : (members : List (Option Holder)) (k : ℕ) → given_of members k ≡ held_unless (is_none (holder_of members k)) (given_of members k)
+unless-given members zero = refl
+unless-given members (suc k) = go members k
+  where
+    go : (members : List (Option Holder)) (k : ℕ) → given_of members (suc k) ≡ held_unless (is_none (holder_of members (suc k))) (given_of members (suc k))
+    go [] k = refl
+    go (None ∷ more) zero = refl
+    go (Some x ∷ more) zero = refl
+    go (x ∷ more) (suc k) = go more k
+
+module _ (none : Option Holder) (members : List (Option Holder)) (place : ℕ) (within : place < length members) where
   -- one place is another's, and the others stay
+  pub seat-same : (x : Option Holder) → seat_or none (set members place x) (suc place) ≡ x
+  seat-same x = get_or-set_same members place x none within
+
+  pub seat-other : (x : Option Holder) (k : ℕ) → (k == suc place) ≡ false → seat_or none (set members place x) k ≡ seat_or none members k
+  seat-other x zero other = refl
+  seat-other x (suc k) other = get_or-set_other members place k x none (λ same. eqb-false (suc k) (suc place) other (ap (λ n. suc n) same))
+
+  -- who is there is so whatever stands for nobody
+  pub seat-any : (other : Option Holder) → seat_or none members (suc place) ≡ seat_or other members (suc place)
+  seat-any other = get_or_default members place none other within
+
+module _ (members : List (Option Holder)) (place : ℕ) (within : place < length members) (x : Option Holder) where
   pub seat_here : holder_of (set members place x) (suc place) ≡ x
-  seat_here = get_or-set_same members place x (Some nobody) within
+  seat_here = seat-same (Some nobody) members place within x
 
   pub seat_there : (k : ℕ) → (k == suc place) ≡ false → holder_of (set members place x) k ≡ holder_of members k
-  seat_there zero other = refl
-  seat_there (suc k) other = get_or-set_other members place k x (Some nobody) (λ same. eqb-false (suc k) (suc place) other (ap (λ n. suc n) same))
+  seat_there k other = seat-other (Some nobody) members place within x k other
 
 module _ (members : List (Option Holder)) (x : Holder) where
   abbrev pub more : List (Option Holder)
@@ -78,21 +101,35 @@ module _ (members : List (Option Holder)) (x : Holder) where
       (λ after. more-seat (λ y. is_none y ≡ false) (suc k) refl (ap is_none (get_or_past members k (Some nobody) after)) ∙ sym (ap is_none (get_or_past members k (Some nobody) after)))
       (cases_lt k (length members))
 
+  -- what the one more was given, and the others
+  pub more-given_here : given_of more (suc (length members)) ≡ Some (given_to x)
+  more-given_here = ap (option_map given_to) (get_or_at members (Some x) [] None (length members) refl)
+
+  pub more-given_there : (k : ℕ) → (k == suc (length members)) ≡ false → given_of more k ≡ given_of members k
+  more-given_there zero other = refl
+  more-given_there (suc k) other = ⊎_elim
+      (λ before. ap (option_map given_to) (get_or_append_left members (Some x ∷ []) None k before))
+      (λ after.
+      let apart = eqb-false (suc k) (suc (length members)) other in
+      let long : length more ≤ k = omega (arith, more-length, after, apart) in
+      ap (option_map given_to) (get_or_past more k None long ∙ sym (get_or_past members k None after)))
+      (cases_lt k (length members))
+
 -- the members are in their places after one of them acted
-pub acted-in_place : (s : EndsHeld) (place : ℕ) (now : Holder) → place < length s.members → AreInPlace s → IsMember (suc place) s.window now → AreInPlace (record s { members = set s.members place (Some now) })
+pub acted-in_place : (s : EndsHeld) (place : ℕ) (now : Holder) → place < length s.members → AreInPlace s → IsMember (suc place) s.config now → AreInPlace (record s { members = set s.members place (Some now) })
 acted-in_place s place now within in_place is k holder l sits = by_place (suc k == suc place) refl
   where
-    by_place : (b : Bool) → (suc k == suc place) ≡ b → IsMember (suc k) s.window holder
+    by_place : (b : Bool) → (suc k == suc place) ≡ b → IsMember (suc k) s.config holder
     by_place true e =
         let same : k ≡ place = omega (arith, eqb-true (suc k) (suc place) e) in
         let here : holder_of (set s.members place (Some now)) (suc k) ≡ Some now = ap (λ n. holder_of (set s.members place (Some now)) (suc n)) same ∙ seat_here s.members place within (Some now) in
-        subst (λ n. IsMember (suc n) s.window holder) (sym same) (subst (IsMember (suc place) s.window) (same_Some now holder (sym here ∙ sits)) is)
+        subst (λ n. IsMember (suc n) s.config holder) (sym same) (subst (IsMember (suc place) s.config) (same_Some now holder (sym here ∙ sits)) is)
     by_place false e = in_place k holder (omega (arith, l, length-set s.members place (Some now))) (sym (seat_there s.members place within (Some now) (suc k) e) ∙ sits)
 
 pub ended-in_place : (s : EndsHeld) (place : ℕ) → place < length s.members → AreInPlace s → AreInPlace (record s { members = set s.members place None })
 ended-in_place s place within in_place k holder l sits = by_place (suc k == suc place) refl
   where
-    by_place : (b : Bool) → (suc k == suc place) ≡ b → IsMember (suc k) s.window holder
+    by_place : (b : Bool) → (suc k == suc place) ≡ b → IsMember (suc k) s.config holder
     by_place true e =
         let same : k ≡ place = omega (arith, eqb-true (suc k) (suc place) e) in
         let here : holder_of (set s.members place None) (suc k) ≡ None = ap (λ n. holder_of (set s.members place None) (suc n)) same ∙ seat_here s.members place within None in
@@ -101,11 +138,11 @@ ended-in_place s place within in_place k holder l sits = by_place (suc k == suc 
     by_place false e = in_place k holder (omega (arith, l, length-set s.members place None)) (sym (seat_there s.members place within None (suc k) e) ∙ sits)
 
 -- and after one more joined
-pub joined-in_place : (s : EndsHeld) (x : Holder) → AreInPlace s → IsMember (suc (length s.members)) s.window x → AreInPlace (record s { members = s.members ++ Some x ∷ [] })
+pub joined-in_place : (s : EndsHeld) (x : Holder) → AreInPlace s → IsMember (suc (length s.members)) s.config x → AreInPlace (record s { members = s.members ++ Some x ∷ [] })
 joined-in_place s x in_place is k holder l sits = ⊎_elim
     (λ before. in_place k holder before (sym (get_or_append_left s.members (Some x ∷ []) (Some nobody) k before) ∙ sits))
     (λ after.
     let e : k ≡ length s.members = omega (arith, l, more-length s.members x, after) in
     let here : Some x ≡ Some holder = sym (get_or_at s.members (Some x) [] (Some nobody) k (sym e)) ∙ sits in
-    subst (IsMember (suc k) s.window) (same_Some x holder here) (subst (λ n. IsMember (suc n) s.window x) (sym e) is))
+    subst (IsMember (suc k) s.config) (same_Some x holder here) (subst (λ n. IsMember (suc n) s.config x) (sym e) is))
     (cases_lt k (length s.members))

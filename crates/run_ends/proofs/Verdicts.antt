@@ -1,5 +1,5 @@
 -- What the ends come to themselves: how it comes out, by how many calls, and how long what they send is.
-use Rattle.std.proofs.Common.{◌≡◌, ℕ, ◌^◌, ◌≤◌, Bool, true, false, not, Option, Some, None, Result, Ok, Err, MatchOption, List, [], ◌∷◌, length, option_to_list, ⊎_elim, refl, ap, sym, subst, arith}
+use Rattle.std.proofs.Common.{◌≡◌, ℕ, ◌≤◌, Bool, true, false, not, Option, Some, None, Result, Ok, Err, MatchOption, List, [], ◌∷◌, length, option_to_list, ⊎_elim, refl, ap, sym, subst, arith}
 use Rattle.std.proofs.lemmas.Bool.{cases_lt}
 use Rattle.std.specs.List.{AllByRecursion}
 use Rattle.std.specs.Option.{option_map}
@@ -28,6 +28,7 @@ use Rattle.keeper_book.specs.Told.{seen}
 use Rattle.keeper_book.specs.declared.calls.Call.{Call}
 use Rattle.keeper_book.specs.declared.calls.KeeperAnswer.{KeeperAnswer}
 use Rattle.keeper_book.specs.declared.calls.KeeperAnswer.TheVariants as answer
+use Rattle.keeper_book.specs.CounterEnds.{end_of}
 use Rattle.keeper_book.specs.declared.counters.Counter.TheVariants as counter
 use Rattle.keeper_book.specs.declared.faults.KeeperFault.{KeeperFault}
 use Rattle.keeper_book.specs.declared.faults.KeeperFault.TheVariants as fault
@@ -174,7 +175,7 @@ peer_sends-proper spir slots payload step size sends = go (first_slot (has_spir 
           brief = sends-short (slot_outbound slot) slot.next payload step (sized_to_cluster slot.sa.size slot.sa.keys slot.sa.child slot.sa.key_lengths) size it;
         })
         (λ above. let it = s.ended above in quiet-proper [] step (omega arith) (of-refusal step.verdict refusal.Exhausted refl it.said) it.quiet)
-        (cases_lt slot.next (2 ^ 63))
+        (cases_lt slot.next (end_of slot.sa counter.EspOut))
 
     go : (x : Option Slot) → MatchOption x (Says (out.Refused refusal.Unknown) step) (λ slot. SlotSends slot payload step) → IsProper [] step
     go None says = quiet-proper [] step (omega arith) (of-refusal step.verdict refusal.Unknown refl says.said) says.quiet

@@ -8,9 +8,11 @@ use Rattle.events.specs.declared.event.Party.{Party}
 use Rattle.events.specs.declared.turn.Step.{Step}
 use Rattle.events.specs.declared.turn.Turn.{Turn}
 use Rattle.events.specs.declared.verdict.Refusal.{Refusal}
-use Rattle.ha_base.specs.declared.identities.Identity.{Identity}
+use Rattle.ha_base.specs.declared.identities.GatewayId.{GatewayId}
+use Rattle.ha_base.specs.declared.limits.TheConstants.{DATAGRAM_OCTETS, MAX_DATAGRAMS}
 use Rattle.keeper_book.specs.declared.calls.Call.{Call}
-use Rattle.turn_rules.specs.Datagrams.{MAX_DATAGRAMS, PlainDatagram, datagrams_of, delivery_of, plain_datagram}
+use Rattle.turn_rules.specs.Configurations.{Configuration, Membership, default_configuration, first_ticket_key, membership}
+use Rattle.turn_rules.specs.Datagrams.{PlainDatagram, datagrams_of, delivery_of, plain_datagram}
 use Rattle.turn_rules.specs.Fits.{Does}
 use Rattle.turn_rules.specs.Held.{Held, held_at}
 use Rattle.turn_rules.specs.Local.{Local}
@@ -18,22 +20,35 @@ use Rattle.turn_rules.specs.Slots.{Slot}
 use Rattle.turn_rules.specs.States.{RunState, has_turns, state_after, state_by}
 use Rattle.cluster_member.specs.Members.{Holder}
 
--- boxes: how many services were handed in for members; window: the size of receive windows of what comes; slots: the
--- peer's associations; members: what each member holds that joined, and nothing where it ended
+-- boxes: how many services were handed in for members; config: how members are configured that join; gateway and slots:
+-- where the peer sends, and its associations; members: what each member holds that joined, and nothing where it ended
 pub record EndsHeld : Type 0 where
   pub boxes : ℕ
-  pub window : ℕ
+  pub config : Configuration
+  pub gateway : GatewayId
   pub slots : List Slot
   pub members : List (Option Holder)
 
 -- a member that has not joined
 abbrev pub nobody : Holder
-nobody = record { number = 0; window = 0; held = [] }
+nobody = record { number = 0; config = default_configuration; fresh = []; held = [] }
 
--- who the member of this number is: they are counted from 1, in the order in which they joined
+-- who has this number, or else the other one: members are counted from 1, in the order in which they joined
+abbrev pub seat_or : Option Holder → List (Option Holder) → ℕ → Option Holder
+seat_or other members zero = other
+seat_or other members (suc place) = slice_index_or members place other
+
+-- who the member of this number is
 abbrev pub holder_of : List (Option Holder) → ℕ → Option Holder
-holder_of members zero = Some nobody
-holder_of members (suc place) = slice_index_or members place (Some nobody)
+holder_of members number = seat_or (Some nobody) members number
+
+-- what a member was given when it joined
+abbrev pub given_to : Holder → Membership
+given_to holder = membership holder.config holder.fresh
+
+-- what the member of this number was given, where it joined and did not end
+abbrev pub given_of : List (Option Holder) → ℕ → Option Membership
+given_of members number = option_map given_to (seat_or None members number)
 
 -- what is held where somebody is
 abbrev pub held_in : Option Holder → ℕ → Option Held
@@ -45,11 +60,13 @@ abbrev pub state_with : Bool → List PlainDatagram → EndsHeld → RunState
 state_with started datagrams s = record {
   boxes = s.boxes;
   started = started;
-  window = s.window;
+  config = s.config;
   joined = length s.members;
   ended = λ member. is_none (holder_of s.members member);
   datagrams = datagrams;
+  gateway = s.gateway;
   slots = s.slots;
+  members = λ member. given_of s.members member;
   held = λ member spir. held_in (holder_of s.members member) spir;
 }
 
@@ -71,14 +88,14 @@ pub record IsMemberPlace (member place : ℕ) (members : List (Option Holder)) :
   pub within : place < length members
   pub counted : place ≡ member - 1
 
--- a member of this number, with receive windows of this size
-pub record IsMember (number window : ℕ) (holder : Holder) : Type 0 where
+-- a member of this number, which is configured so
+pub record IsMember (number : ℕ) (config : Configuration) (holder : Holder) : Type 0 where
   pub number_is : holder.number ≡ number
-  pub window_is : holder.window ≡ window
+  pub config_is : holder.config ≡ config
 
 -- each member that is up has the number of its place
 abbrev pub AreInPlace : EndsHeld → Type 0
-AreInPlace s = (place : ℕ) (holder : Holder) → place < length s.members → holder_of s.members (suc place) ≡ Some holder → IsMember (suc place) s.window holder
+AreInPlace s = (place : ℕ) (holder : Holder) → place < length s.members → holder_of s.members (suc place) ≡ Some holder → IsMember (suc place) s.config holder
 
 -- the event delivers to this end
 abbrev pub DeliversTo : Event → Party → Type 0
@@ -90,9 +107,10 @@ pub record Plays (past : List Turn) (old : EndsHeld) (at : Event) (calls : List 
   pub holds : state_then past step new ≡ state_after at calls step (state_of past old)
   pub in_place : AreInPlace new
 
--- so it is at each event that configures the cluster with receive windows of this size
-abbrev pub Configures : ℕ → (Event → Type 0) → Type 0
-Configures window plays = (identity : Identity) (lifetime : ℕ) (ticket_key : List ℕ) → plays (event.Cluster identity lifetime window ticket_key)
+-- so it is at each event that configures the cluster so
+abbrev pub Configures : Configuration → (Event → Type 0) → Type 0
+Configures config plays = (ticket_key : List ℕ) → config.ticket_key ≡ first_ticket_key ticket_key
+    → plays (event.Cluster config.identity config.lifetime config.window ticket_key)
 
 -- a run after these turns has room for one more datagram
 abbrev pub HasRoom : List Turn → Type 0
@@ -100,7 +118,7 @@ HasRoom past = nat_le MAX_DATAGRAMS (length (datagrams_of past)) ≡ false
 
 -- datagrams are of at most so many octets
 abbrev pub IsShort : PlainDatagram → Type 0
-IsShort datagram = length datagram.octets ≤ 2048
+IsShort datagram = length datagram.octets ≤ DATAGRAM_OCTETS
 
 -- what is held is what the turns make of it, and each turn is explained by those before it
 pub record AreKept (past : List Turn) (s : EndsHeld) : Type 0 where

@@ -19,7 +19,7 @@ const MAX_MEMBERS: usize = 64;
 impl Parties {
     pub(crate) fn join(&mut self, fresh: [u8; 24]) -> Result<Step, Memory>
         requires in_place { AreInPlace self.old }
-        ensures joins { IfOk result (λ step. (past : List Turn) (octets : List ℕ) → Plays past self.old (event.Join octets) [] step self.new) }
+        ensures joins { IfOk result (λ step. (past : List Turn) → Plays past self.old (event.Join fresh) [] step self.new) }
         ensures err { OnErr result (self.new ≡ self.old) }
     {
         let joined = self.members.len();

@@ -9,6 +9,7 @@ ghost use Rattle.events.specs.declared.event.Event.TheVariants as event;
 ghost use Rattle.events.specs.declared.turn.Turn.{Turn};
 ghost use Rattle.keeper_book.specs.Asks.{AsksFor};
 ghost use Rattle.replay_set.specs.Window.{IsWindowSize};
+ghost use Rattle.turn_rules.specs.Configurations.{default_configuration, gateway_of};
 ghost use Rattle.turn_rules.specs.Datagrams.{datagrams_of};
 ghost use Rattle.turn_rules.specs.Fits.{is_importable};
 ghost use Rattle.turn_rules.specs.Steps.{Says};
@@ -18,17 +19,11 @@ use crate::settings::Settings;
 use cluster_member::{Member, of_import};
 use cluster_peer::Peer;
 use events::{Event, Refusal, Step, Verdict};
-use ha_base::Memory;
+use ha_base::{LEAST_ESP_SPI, LEAST_SPI, Memory};
 use keeper_book::{Keeper, Record};
 use std::alloc::Global;
 use std::marker::Model;
 use turn_trace::Trace;
-
-/// The least SPI of an IKE association that may be imported.
-const LEAST_SPI: u64 = 1 << 48;
-
-/// The least ESP SPI that may be imported.
-const LEAST_ESP_SPI: u32 = 65_536;
 
 /// The peer, and the members that joined.
 #[derive(Drop)]
@@ -51,7 +46,8 @@ impl Model for Parties {
 
     ghost view = { λ c. record {
       boxes = c.boxes;
-      window = c.settings.window;
+      config = c.settings;
+      gateway = c.peer.gateway;
       slots = c.peer.slots;
       members = c.members.items;
     } };
@@ -81,7 +77,13 @@ fn is_importable(sa: &Record) -> bool
 impl Parties {
     /// Ends that have done nothing, and services for as many members as `boxes` says.
     pub fn new(alloc: Global, boxes: usize) -> Parties
-        ensures { result ≡ record { boxes = boxes; window = 64; slots = []; members = [] } }
+        ensures { result ≡ record {
+          boxes = boxes;
+          config = default_configuration;
+          gateway = gateway_of default_configuration;
+          slots = [];
+          members = [];
+        } }
     {
         let settings = Settings::by_default();
         Parties {
@@ -141,7 +143,7 @@ impl Parties {
         requires window { IsWindowSize settings.window }
         requires first { trace.now.past ≡ [] → (self.old.slots ≡ []) × (self.old.members ≡ []) }
         requires in_place { AreInPlace self.old }
-        ensures configures { Configures settings.window (λ event. Plays trace.now.past self.old event [] result self.new) }
+        ensures configures { Configures settings (λ event. Plays trace.now.past self.old event [] result self.new) }
     {
         if trace.turns() > 0 {
             return refused(Refusal::Late);

@@ -4,6 +4,7 @@ ghost use Rattle.std.specs.Prelude.{◌≡◌, ◌≤◌, nat_le, [], List, IfOk
 ghost use Rattle.events.specs.declared.event.Event.TheVariants as event;
 ghost use Rattle.events.specs.declared.event.Party.TheVariants as parties;
 ghost use Rattle.ha_base.specs.Octets.{WithRoom};
+ghost use Rattle.ha_base.specs.declared.limits.TheConstants.{MAX_DATAGRAMS, PAYLOAD_OCTETS};
 ghost use Rattle.keeper_book.specs.Asks.{AsksFor};
 ghost use Rattle.turn_rules.specs.Datagrams.{datagrams_of};
 ghost use Rattle.events.specs.declared.turn.Turn.{Turn};
@@ -11,12 +12,9 @@ ghost use Rattle.run_ends.specs.Parties.{AreInPlace, HasRoom, Plays};
 
 use crate::parties::{Parties, refused};
 use events::{Party, Refusal, Step};
-use ha_base::Memory;
+use ha_base::{MAX_DATAGRAMS, Memory};
 use keeper_book::Keeper;
 use turn_trace::Trace;
-
-/// The most datagrams of a run.
-const MAX_DATAGRAMS: usize = 65_536;
 
 /// Whether a run has room for no more datagrams.
 pub(crate) fn is_full(trace: &Trace) -> bool
@@ -34,7 +32,7 @@ impl Parties {
         spir: u64,
         payload: &[u8],
     ) -> Result<Step, Memory>
-        requires size { length payload.now ≤ 1400 }
+        requires size { length payload.now ≤ PAYLOAD_OCTETS }
         requires in_place { AreInPlace self.old }
         ensures sends { IfOk result (λ step. AsksFor K.Keeper keeper.old keeper.new (λ calls. (given : WithRoom) → given.octets ≡ payload.now
             → Plays trace.now.past self.old (event.Send from spir given) calls step self.new)) }
@@ -51,7 +49,7 @@ impl Parties {
     }
 
     fn send_as_peer(&mut self, spir: u64, payload: &[u8]) -> Result<Step, Memory>
-        requires size { length payload.now ≤ 1400 }
+        requires size { length payload.now ≤ PAYLOAD_OCTETS }
         requires in_place { AreInPlace self.old }
         ensures sends { IfOk result (λ step. (past : List Turn) (given : WithRoom) → HasRoom past → given.octets ≡ payload.now
             → Plays past self.old (event.Send parties.Peer spir given) [] step self.new) }
@@ -68,7 +66,7 @@ impl Parties {
         spir: u64,
         payload: &[u8],
     ) -> Result<Step, Memory>
-        requires size { length payload.now ≤ 1400 }
+        requires size { length payload.now ≤ PAYLOAD_OCTETS }
         requires in_place { AreInPlace self.old }
         ensures sends { IfOk result (λ step. AsksFor K.Keeper keeper.old keeper.new (λ calls.
             (past : List Turn) (given : WithRoom) → HasRoom past → given.octets ≡ payload.now

@@ -1,10 +1,13 @@
 //! How the ends of a run are configured.
 
-ghost use Rattle.std.specs.Prelude.{◌≡◌};
+ghost use Rattle.std.specs.Prelude.{◌≡◌, ◌≤◌, length};
+ghost use Rattle.cluster_member.specs.Members.{configuration_of};
+ghost use Rattle.turn_rules.specs.Configurations.{default_configuration, first_ticket_counter, first_ticket_key, gateway_kind, gateway_of};
 
 use aes_gcm::Key;
 use cluster_member::Config;
 use ha_base::{CounterName, End, GatewayId, Identity, Kind, OctetArray, OctetList, Origin};
+use std::marker::Model;
 
 /// The receive window of ESP where nothing configures it.
 const DEFAULT_WINDOW: u32 = 64;
@@ -19,8 +22,19 @@ pub(crate) struct Settings {
     pub(crate) ticket_key: OctetList<36>,
 }
 
+impl Model for Settings {
+    ghost use Rattle.cluster_member.specs.Members.{configuration_of};
+ghost use Rattle.turn_rules.specs.Configurations.{Configuration, first_ticket_key};
+
+    ghost Value = { Configuration };
+
+    ghost view = { λ s. record { identity = s.identity; lifetime = s.lifetime; window = s.window; ticket_key = first_ticket_key s.ticket_key } };
+}
+
 // the counter of the IVs under the first ticket key
-fn ticket_counter() -> CounterName {
+fn ticket_counter() -> CounterName
+    ensures { result ≡ first_ticket_counter }
+{
     CounterName {
         origin: Origin::TicketKey(1),
         kind: Kind::TicketIv,
@@ -29,10 +43,28 @@ fn ticket_counter() -> CounterName {
     }
 }
 
+// the first ticket key, where its octets are those of a key
+fn ticket_key(octets: &[u8]) -> Option<Key>
+    ensures { result ≡ first_ticket_key octets.now }
+{
+    Key::new(ticket_counter(), octets)
+}
+
+// how REDIRECT names a gateway of this identity (RFC 5685, section 9.2)
+fn gateway_kind(identity: u8) -> u8
+    ensures { result ≡ gateway_kind identity }
+{
+    match identity {
+        1 => 1,
+        5 => 2,
+        _ => 3,
+    }
+}
+
 impl Settings {
     /// How they are configured where nothing configures them: the cluster has the name "cluster".
     pub(crate) fn by_default() -> Settings
-        ensures { result.window ≡ 64 }
+        ensures { result ≡ default_configuration }
     {
         Settings {
             identity: Identity {
@@ -52,7 +84,7 @@ impl Settings {
         window: u32,
         key: &OctetList<36>,
     ) -> Settings
-        ensures { result.window ≡ window }
+        ensures { result ≡ record { identity = identity; lifetime = lifetime; window = window; ticket_key = first_ticket_key key.now } }
     {
         Settings {
             identity,
@@ -64,24 +96,22 @@ impl Settings {
 
     /// How a member is configured.
     pub(crate) fn config(&self) -> Config
-        ensures { result.window ≡ self.now.window }
+        ensures { configuration_of result ≡ self.now }
     {
         Config {
             identity: self.identity,
             lifetime: self.lifetime,
             window: self.window,
-            ticket_key: Key::new(ticket_counter(), self.ticket_key.as_slice()),
+            ticket_key: ticket_key(self.ticket_key.as_slice()),
         }
     }
 
     /// The gateway that the peer talks to: the address of the cluster, or its name (RFC 5685, section 4).
-    pub(crate) fn gateway(&self) -> GatewayId {
+    pub(crate) fn gateway(&self) -> GatewayId
+        ensures { result ≡ gateway_of self.now }
+    {
         GatewayId {
-            kind: match self.identity.kind {
-                1 => 1,
-                5 => 2,
-                _ => 3,
-            },
+            kind: gateway_kind(self.identity.kind),
             octets: OctetArray::from_slice(self.identity.octets.as_slice()),
         }
     }

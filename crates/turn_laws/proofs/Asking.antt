@@ -1,5 +1,5 @@
 -- Each event that is refused, or makes one call that asks for no number, is a deed.
-use Rattle.std.proofs.Common.{◌≡◌, ℕ, ◌^◌, ◌==◌, ◌&&◌, Bool, true, false, Option, Some, None, MatchOption, List, [], ◌∷◌, refl, ap, sym, ◌∙◌, subst, if◌then◌else◌}
+use Rattle.std.proofs.Common.{◌≡◌, ℕ, ◌==◌, ◌&&◌, Bool, true, false, Option, Some, None, MatchOption, List, [], ◌∷◌, refl, ap, sym, ◌∙◌, subst, if◌then◌else◌}
 use Rattle.std.proofs.lemmas.Option.{same_Some}
 use Rattle.std.proofs.lemmas.Bool.{eqb-true, leb-true}
 use Rattle.std.specs.Prelude.{nat_le, nat_lt}
@@ -11,6 +11,7 @@ use Rattle.events.specs.declared.turn.Turn.{Turn}
 use Rattle.events.specs.declared.verdict.Refusal.{Refusal}
 use Rattle.events.specs.declared.verdict.Verdict.{Verdict}
 use Rattle.events.specs.declared.verdict.Verdict.TheVariants as out
+use Rattle.ha_base.specs.declared.limits.TheConstants.{LEAST_ESP_SPI, LEAST_SPI}
 use Rattle.keeper_book.specs.Told.{seen}
 use Rattle.keeper_book.specs.declared.calls.Call.{Call}
 use Rattle.keeper_book.specs.declared.calls.KeeperAnswer.{KeeperAnswer}
@@ -79,8 +80,8 @@ second-third false b c d e f g is = absurd (cc)
 -- the SPIs of what the run lets be imported
 importable-is : (sa : Record) → is_importable sa ≡ true → IsImport sa
 importable-is sa is =
-    let parts = second-third (nat_le (2 ^ 48) sa.spii) (nat_le (2 ^ 48) sa.spir) (nat_le 65536 sa.spi_in) (nat_le 65536 sa.spi_out) (nat_lt 0 sa.starts.esp_out) (nat_lt 0 sa.starts.esp_in) (nat_lt 0 sa.starts.iv) is in
-    record { spir = leb-true (2 ^ 48) sa.spir parts.0; spi_in = leb-true 65536 sa.spi_in parts.1 }
+    let parts = second-third (nat_le LEAST_SPI sa.spii) (nat_le LEAST_SPI sa.spir) (nat_le LEAST_ESP_SPI sa.spi_in) (nat_le LEAST_ESP_SPI sa.spi_out) (nat_lt 0 sa.starts.esp_out) (nat_lt 0 sa.starts.esp_in) (nat_lt 0 sa.starts.iv) is in
+    record { spir = leb-true LEAST_SPI sa.spir parts.0; spi_in = leb-true LEAST_ESP_SPI sa.spi_in parts.1 }
 
 module _ (past : List Turn) (step : Step) where
   pub refused-deed : (event : Event) (calls : List Call) (why : Refusal) → Refuses why calls step → Deed past event calls step

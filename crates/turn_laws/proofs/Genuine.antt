@@ -18,6 +18,7 @@ use Rattle.events.specs.declared.verdict.EspVerdict.TheVariants as esp
 use Rattle.events.specs.declared.verdict.Refusal.{Refusal}
 use Rattle.events.specs.declared.verdict.Verdict.{Verdict}
 use Rattle.events.specs.declared.verdict.Verdict.TheVariants as out
+use Rattle.ha_base.specs.declared.limits.TheConstants.{MAX_DATAGRAMS}
 use Rattle.ha_base.specs.declared.counter_names.CounterName.{CounterName}
 use Rattle.ha_base.specs.declared.esp_outcomes.EspDrop.{EspDrop}
 use Rattle.ha_base.specs.declared.esp_outcomes.EspDrop.TheVariants as drop
@@ -28,7 +29,7 @@ use Rattle.turn_rules.proofs.GenuinePackets.{genuine-long, genuine-opens, ready-
 use Rattle.turn_rules.proofs.SlotTies.{DoesTold}
 use Rattle.turn_rules.proofs.StateLaws.{does-told}
 use Rattle.turn_rules.proofs.KeySizes.{sized_to_cluster, sized_to_peer}
-use Rattle.turn_rules.specs.Datagrams.{MAX_DATAGRAMS, PlainDatagram, arrives, datagrams_of, delivery_of}
+use Rattle.turn_rules.specs.Datagrams.{PlainDatagram, arrives, datagrams_of, delivery_of}
 use Rattle.turn_rules.specs.Deliveries.{MemberTakes, PeerTakes}
 use Rattle.turn_rules.specs.Draws.{counter_name}
 use Rattle.turn_rules.specs.Ends.{Member, Peer, Performer, end_of_party, own, receiver_of}

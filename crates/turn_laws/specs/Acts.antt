@@ -1,6 +1,7 @@
 -- What ends do, as data, and what it does to the numbers of each counter. A list of acts has the
 -- newest first.
-use Rattle.std.specs.Prelude.{ℕ, ◌+◌, ◌^◌, ◌≡◌, ◌≤◌, ◌==◌, Bool, true, Option, Some, None, MatchOption, List, [], ◌∷◌, ◌++◌, length, map, if◌then◌else◌}
+use Rattle.std.specs.Prelude.{ℕ, ◌+◌, ◌≡◌, ◌≤◌, ◌==◌, Bool, true, Option, Some, None, MatchOption, List, [], ◌∷◌, ◌++◌, length, map, if◌then◌else◌}
+use Rattle.ha_base.specs.declared.limits.TheConstants.{LEAST_ESP_SPI, LEAST_SPI}
 use Rattle.keeper_book.specs.CounterEnds.{end_of}
 use Rattle.keeper_book.specs.Counters.{counter_named, five_at}
 use Rattle.keeper_book.specs.Told.{seen}
@@ -16,13 +17,6 @@ use Rattle.turn_laws.specs.Holdings.{Actor, Begins, Draws, Effect, Holding, MayU
 use Rattle.turn_laws.specs.Places.{NumberPool, Place, Ours, Pooled, Theirs, is_place, is_pool, place_of, pool_end, start_of}
 use Rattle.turn_rules.specs.Held.{covered, granted}
 use Rattle.turn_rules.specs.Safe.{KeyIv}
-
--- the least SPIs that an import may have
-abbrev pub FIRST_IMPORTED_SPIR : ℕ
-FIRST_IMPORTED_SPIR = 2 ^ 48
-
-abbrev pub FIRST_IMPORTED_SPI : ℕ
-FIRST_IMPORTED_SPI = 65536
 
 pub data Move : Type 0 where
   -- a call of the keeper
@@ -134,8 +128,8 @@ pub record MayCover (held : Option Holding) (epoch upto : ℕ) : Type 0 where
 -- Imports have these SPIs: lower ones are for what the cluster draws itself, the responder's of a
 -- resumed association and, above it, the one at which the cluster receives in it.
 pub record IsImport (sa : Record) : Type 0 where
-  pub spir : FIRST_IMPORTED_SPIR ≤ sa.spir
-  pub spi_in : FIRST_IMPORTED_SPI ≤ sa.spi_in
+  pub spir : LEAST_SPI ≤ sa.spir
+  pub spi_in : LEAST_ESP_SPI ≤ sa.spi_in
 
 -- what a call needs beside the book
 abbrev pub MayAsk : List Act → Actor → KeeperAsk → Type 0

@@ -1,6 +1,7 @@
 -- What the run itself refuses, and what it does not.
 use Rattle.std.proofs.Common.{◌≡◌, ℕ, ◌&&◌, ◌||◌, Bool, true, false, not, Option, Some, None, Result, Ok, Err, List, refl, ap, sym, ◌∙◌, subst}
 use Rattle.std.specs.Prelude.{nat_le, length}
+use Rattle.std.proofs.lemmas.Bool.{not-false}
 use Rattle.std.proofs.lemmas.Option.{same_Some}
 use Rattle.events.specs.declared.event.Event.{Event}
 use Rattle.events.specs.declared.event.Event.TheVariants as event
@@ -8,7 +9,8 @@ use Rattle.events.specs.declared.turn.Medium.{Medium}
 use Rattle.events.specs.declared.turn.Medium.TheVariants as medium
 use Rattle.events.specs.declared.verdict.Refusal.{Refusal}
 use Rattle.events.specs.declared.verdict.Refusal.TheVariants as refusal
-use Rattle.turn_rules.specs.Datagrams.{MAX_DATAGRAMS, PlainDatagram, altered, changed, cut, datagram_at}
+use Rattle.ha_base.specs.declared.limits.TheConstants.{MAX_DATAGRAMS}
+use Rattle.turn_rules.specs.Datagrams.{PlainDatagram, altered, changed, cut, datagram_at}
 use Rattle.turn_rules.specs.Ends.{is_of_run}
 use Rattle.turn_rules.specs.Fits.{MAX_MEMBERS, has_joined, is_importable, is_of_datagrams, named_in, refused_absent, refused_arrival, refused_besides, refused_medium, refused_where, run_refusal}
 use Rattle.turn_rules.specs.States.{RunState}
@@ -26,18 +28,14 @@ none-run why e = absurd (cc)
 abbrev Found : Type 0
 Found = Result PlainDatagram Refusal
 
+abbrev err_run : Found → Bool
+err_run (Ok datagram) = true
+err_run (Err why) = is_of_run why
+
 changed-run : (given : Option PlainDatagram) (change : List ℕ → Option (List ℕ)) (why : Refusal) → changed given change ≡ Err why → is_of_run why ≡ true
 changed-run None change why e = ap err_run (sym e)
-  where
-    err_run : Found → Bool
-    err_run (Ok datagram) = true
-    err_run (Err why) = is_of_run why
 changed-run (Some given) change why e = go (change given.octets) refl
   where
-    err_run : Found → Bool
-    err_run (Ok datagram) = true
-    err_run (Err why) = is_of_run why
-
     go : (made : Option (List ℕ)) → change given.octets ≡ made → is_of_run why ≡ true
     go None m = let is : changed (Some given) change ≡ Err refusal.NoOctet = rw m in ap err_run (sym e ∙ is)
     go (Some made) m = let is : changed (Some given) change ≡ Ok (record { medium = given.medium; octets = made }) = rw m in ap err_run (sym e ∙ is)
@@ -74,10 +72,6 @@ refusal-of_run state event = where-run (is_of_datagrams event && nat_le MAX_DATA
 where-none : (test : Bool) (why : Refusal) (otherwise : Option Refusal) → refused_where test why otherwise ≡ None → (test ≡ false) × (otherwise ≡ None)
 where-none true why otherwise e = absurd (cc)
 where-none false why otherwise e = (refl, e)
-
-not-false : (b : Bool) → not b ≡ false → b ≡ true
-not-false true e = refl
-not-false false e = absurd (cc)
 
 -- where it does not refuse an event, the member that is named joined and did not end
 pub named-present : (state : RunState) (event : Event) (member : ℕ) → run_refusal state event ≡ None → named_in event ≡ Some member → (has_joined member state ≡ true) × (state.ended member ≡ false)

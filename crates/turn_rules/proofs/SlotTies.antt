@@ -1,6 +1,6 @@
 -- What the peer holds after one more turn of its own is what that turn makes of what it held.
-use Rattle.std.proofs.Common.{◌≡◌, ◌≢◌, ℕ, ◌+◌, ◌==◌, ◌||◌, ◌⊎◌, inl, inr, unwrap_or, Bool, true, false, not, Option, Some, None, MatchOption, List, [], ◌∷◌, ◌++◌, map, option_to_list, ⊎_elim, refl, ap, ap₂, sym, ◌∙◌, subst, if◌then◌else◌}
-use Rattle.std.proofs.lemmas.Bool.{eqb-false, eq-eqb, ne_eqb}
+use Rattle.std.proofs.Common.{◌≡◌, ◌≢◌, ℕ, ◌+◌, ◌==◌, ◌⊎◌, inl, inr, unwrap_or, Bool, true, false, not, Option, Some, None, MatchOption, List, [], ◌∷◌, ◌++◌, map, option_to_list, ⊎_elim, refl, ap, ap₂, sym, ◌∙◌, subst, if◌then◌else◌}
+use Rattle.std.proofs.lemmas.Bool.{eqb-false, eq-eqb, ne_eqb, not-false, not-true, or_parts}
 use Rattle.std.proofs.lemmas.List.{map-append}
 use Rattle.std.proofs.lemmas.Option.{same_Some}
 use Rattle.std.specs.List.{AllByRecursion, filter_map, list_any}
@@ -18,9 +18,10 @@ use Rattle.keeper_book.specs.declared.calls.Call.{Call}
 use Rattle.keeper_book.specs.declared.records.Record.{Record}
 use Rattle.replay_set.specs.Window.{window_of}
 use Rattle.turn_rules.proofs.Ties.{greatest-cons_option, received-peer, window_of-cons_option}
+use Rattle.turn_rules.specs.Configurations.{Configuration, configured_in, default_configuration}
 use Rattle.turn_rules.specs.Ends.{Peer, Performer, is_by, is_end, own, performer_at}
 use Rattle.turn_rules.specs.Fits.{Does, Imports, Refuses, Refusing, run_refusal}
-use Rattle.turn_rules.specs.Held.{after_received, first_some, found, greatest, received_in, received_of, window_by, window_in, window_of_turn}
+use Rattle.turn_rules.specs.Held.{after_received, first_some, found, greatest, received_in, received_of, config_by, configured_at, window_by}
 use Rattle.turn_rules.specs.Peers.{AreDistinct, Differ, admits, associations_by, clashes, record_entered, entered_in}
 use Rattle.turn_rules.specs.Slots.{Slot, entered_slot, first_slot, is_entered, records, sent_of, since_entered, slot_after, slot_by, slots_after, slots_by}
 use Rattle.turn_rules.specs.States.{RunState, told_state}
@@ -33,15 +34,6 @@ all-each (x ∷ xs) each = (each x, all-each xs each)
 pub all-weaker : {X : Type 0} {P Q : X → Type 0} (xs : List X) → ((x : X) → P x → Q x) → AllByRecursion P xs → AllByRecursion Q xs
 all-weaker [] f all = tt
 all-weaker (x ∷ xs) f all = (f x all.0, all-weaker xs f all.1)
-
-pub neither : (a b : Bool) → (a || b) ≡ false → (a ≡ false) × (b ≡ false)
-neither false false e = (refl, refl)
-neither false true e = absurd (cc)
-neither true b e = absurd (cc)
-
-not-true : (b : Bool) → not b ≡ true → b ≡ false
-not-true false e = refl
-not-true true e = absurd (cc)
 
 -- what the peer holds is of the associations that came to it
 records-map : (size : ℕ) (past : List Turn) (associations : List Record) → records (map (slot_by size past) associations) ≡ associations
@@ -58,8 +50,8 @@ admits-differ slots sa e = go slots (not-true (list_any (clashes sa) slots) e)
     go : (slots : List Record) → list_any (clashes sa) slots ≡ false → AllByRecursion (λ slot. Differ slot sa) slots
     go [] e = tt
     go (slot ∷ more) e =
-        let parts : (clashes sa slot ≡ false) × (list_any (clashes sa) more ≡ false) = neither (clashes sa slot) (list_any (clashes sa) more) e in
-        let tests : ((slot.spir == sa.spir) ≡ false) × ((slot.spi_out == sa.spi_out) ≡ false) = neither (slot.spir == sa.spir) (slot.spi_out == sa.spi_out) parts.0 in
+        let parts : (clashes sa slot ≡ false) × (list_any (clashes sa) more ≡ false) = or_parts (clashes sa slot) (list_any (clashes sa) more) e in
+        let tests : ((slot.spir == sa.spir) ≡ false) × ((slot.spi_out == sa.spi_out) ≡ false) = or_parts (slot.spir == sa.spir) (slot.spi_out == sa.spi_out) parts.0 in
         (record { spir = eqb-false slot.spir sa.spir tests.0; spi_out = eqb-false slot.spi_out sa.spi_out tests.1 }, go more parts.1)
 
 pub apart-append : (old : List Record) (sa : Record) → AreDistinct old → AllByRecursion (λ slot. Differ slot sa) old → AreDistinct (old ++ sa ∷ [])
@@ -130,10 +122,6 @@ entered-import : (asked sa : Record) (verdict : Verdict) → record_entered (eve
 entered-import asked sa out.Entered e = (refl, same_Some asked sa e)
 entered-import asked sa verdict e = absurd (cc)
 
-not-false : (b : Bool) → not b ≡ false → b ≡ true
-not-false true e = refl
-not-false false e = absurd (cc)
-
 enters-admitted : (state : RunState) (event : Event) (calls : List Call) (step : Step) (sa : Record) → Does state event calls step → record_entered event step.verdict ≡ Some sa → admits (records state.slots) sa ≡ true
 enters-admitted state (event.Import asked) calls step sa does e = by_refusal (run_refusal state (event.Import asked)) does
   where
@@ -170,44 +158,44 @@ own_slots-cons size boxes past turn does mine =
     ∙ slots_by-cons size turn (own Peer past)
     (λ sa e. subst (λ slots. admits slots sa ≡ true) (sym (records-slots_by size (own Peer past))) (import-admits boxes past turn does sa e))
 
--- a turn of an end's own leaves the size of windows
-window-own : (end : Performer) (event : Event) (verdict : Verdict) → is_end end (performer_at event verdict) ≡ true → window_in event verdict ≡ None
-window-own end (event.Cluster identity lifetime window ticket_key) out.Configured mine = absurd (cc)
-window-own end (event.Cluster identity lifetime window ticket_key) verdict mine = refl
-window-own end event verdict mine = refl
+-- a turn of an end's own configures nothing
+config-own : (end : Performer) (event : Event) (verdict : Verdict) → is_end end (performer_at event verdict) ≡ true → configured_in event verdict ≡ None
+config-own end (event.Cluster identity lifetime window ticket_key) out.Configured mine = absurd (cc)
+config-own end (event.Cluster identity lifetime window ticket_key) verdict mine = refl
+config-own end event verdict mine = refl
 
--- and a turn that sets it is the first
-sets-first : (boxes : ℕ) (past : List Turn) (event : Event) (calls : List Call) (step : Step) → Does (told_state boxes past) event calls step → (window_in event step.verdict ≡ None) ⊎ (past ≡ [])
+-- and a turn that configures is the first
+sets-first : (boxes : ℕ) (past : List Turn) (event : Event) (calls : List Call) (step : Step) → Does (told_state boxes past) event calls step → (configured_in event step.verdict ≡ None) ⊎ (past ≡ [])
 sets-first boxes [] event calls step does = inr refl
-sets-first boxes (turn ∷ past) (event.Cluster identity lifetime window ticket_key) calls step does = inl (ap (window_in (event.Cluster identity lifetime window ticket_key)) does.says.said)
+sets-first boxes (turn ∷ past) (event.Cluster identity lifetime window ticket_key) calls step does = inl (ap (configured_in (event.Cluster identity lifetime window ticket_key)) does.says.said)
 sets-first boxes (turn ∷ past) event calls step does = inl refl
 
-keeps-window : (turn : Turn) (past : List Turn) → window_of_turn turn ≡ None → window_by (turn ∷ past) ≡ window_by past
-keeps-window turn past none = ap (λ size. unwrap_or (first_some size (found window_of_turn past)) 64) none
+keeps-config : (turn : Turn) (past : List Turn) → configured_at turn ≡ None → config_by (turn ∷ past) ≡ config_by past
+keeps-config turn past none = ap (λ config. unwrap_or (first_some config (found configured_at past)) default_configuration) none
 
--- own turns tell the same with the size of windows after a turn as before it
-pub own-window : (end : Performer) (past : List Turn) (turn : Turn) → is_by end turn ≡ true → window_by (turn ∷ past) ≡ window_by past
-own-window end past turn mine = keeps-window turn past (window-own end turn.event turn.step.verdict mine)
+-- own turns tell the same with the configuration after a turn as before it
+pub own-config : (end : Performer) (past : List Turn) (turn : Turn) → is_by end turn ≡ true → config_by (turn ∷ past) ≡ config_by past
+own-config end past turn mine = keeps-config turn past (config-own end turn.event turn.step.verdict mine)
 
-pub other-window : {X : Type 0} (f : ℕ → List Turn → X) (end : Performer) (boxes : ℕ) (past : List Turn) (turn : Turn) → DoesTold boxes past turn → ((w v : ℕ) → f w [] ≡ f v [])
-    → f (window_by (turn ∷ past)) (own end past) ≡ f (window_by past) (own end past)
-other-window {X} f end boxes past turn does none = ⊎_elim
-    (λ same. ap (λ size. f size (own end past)) (keeps-window turn past same))
-    (λ empty. subst (λ turns. f (window_by (turn ∷ past)) (own end turns) ≡ f (window_by past) (own end turns)) (sym empty) (none (window_by (turn ∷ past)) (window_by past)))
+pub other-config : {X : Type 0} (f : Configuration → List Turn → X) (end : Performer) (boxes : ℕ) (past : List Turn) (turn : Turn) → DoesTold boxes past turn → ((c d : Configuration) → f c [] ≡ f d [])
+    → f (config_by (turn ∷ past)) (own end past) ≡ f (config_by past) (own end past)
+other-config {X} f end boxes past turn does none = ⊎_elim
+    (λ same. ap (λ config. f config (own end past)) (keeps-config turn past same))
+    (λ empty. subst (λ turns. f (config_by (turn ∷ past)) (own end turns) ≡ f (config_by past) (own end turns)) (sym empty) (none (config_by (turn ∷ past)) (config_by past)))
     (sets-first boxes past turn.event turn.calls turn.step does)
 
 -- what is held of the peer's associations, after a turn of the peer's own and after one of another end
 pub slots-own : (boxes : ℕ) (past : List Turn) (turn : Turn) → DoesTold boxes past turn → is_by Peer turn ≡ true
     → slots_by (window_by (turn ∷ past)) (own Peer (turn ∷ past)) ≡ slots_after (window_by past) (peer_task turn.event) turn.step (slots_by (window_by past) (own Peer past))
 slots-own boxes past turn does mine =
-    ap (λ size. slots_by size (own Peer (turn ∷ past))) (own-window Peer past turn mine)
+    ap (λ (config : Configuration). slots_by config.window (own Peer (turn ∷ past))) (own-config Peer past turn mine)
     ∙ own_slots-cons (window_by past) boxes past turn does mine
 
 pub slots-other : (boxes : ℕ) (past : List Turn) (turn : Turn) → DoesTold boxes past turn → is_by Peer turn ≡ false
     → slots_by (window_by (turn ∷ past)) (own Peer (turn ∷ past)) ≡ slots_by (window_by past) (own Peer past)
 slots-other boxes past turn does other =
     ap (λ b. slots_by (window_by (turn ∷ past)) (if b then turn ∷ own Peer past else own Peer past)) other
-    ∙ other-window slots_by Peer boxes past turn does (λ w v. refl)
+    ∙ other-config (λ config. slots_by config.window) Peer boxes past turn does (λ c d. refl)
 
 -- the first slot that passes a test does, and has what all slots have
 pub first-passes : (test : Slot → Bool) (slots : List Slot) (slot : Slot) → first_slot test slots ≡ Some slot → test slot ≡ true

@@ -1,27 +1,37 @@
 -- What turns make of what the ends hold is what each end's own turns tell of it.
 use Rattle.std.proofs.Common.{◌≡◌, ℕ, ◌||◌, unwrap_or, Bool, true, false, Option, Some, None, List, [], ◌∷◌, ◌++◌, option_to_list, append-nil, length, refl, ap, sym, ◌∙◌, subst, if◌then◌else◌}
+use Rattle.std.proofs.lemmas.Bool.{or_parts}
 use Rattle.std.specs.List.{filter}
+use Rattle.std.specs.Option.{option_map}
 use Rattle.events.specs.declared.turn.Turn.{Turn}
 use Rattle.keeper_book.specs.declared.records.Record.{Record}
-use Rattle.turn_rules.proofs.SlotTies.{DoesTold, admits-differ, apart-append, import-admits, neither, other-window, own-window, slots-other, slots-own}
+use Rattle.turn_rules.proofs.SlotTies.{DoesTold, admits-differ, apart-append, import-admits, other-config, own-config, slots-other, slots-own}
 use Rattle.turn_rules.proofs.Ties.{held_by-cons}
+use Rattle.turn_rules.specs.Configurations.{Configuration, Membership, default_configuration, gateway_of, membership}
 use Rattle.turn_rules.specs.Datagrams.{datagrams_of}
 use Rattle.turn_rules.specs.Ends.{Member, Peer, is_by, own}
 use Rattle.turn_rules.specs.Fits.{Does}
-use Rattle.turn_rules.specs.Held.{Held, first_some, found, held_after, held_by, window_by, window_in, window_of_turn}
+use Rattle.turn_rules.specs.Held.{Held, config_by, configured_at, first_some, found, held_after, held_by, window_by}
 use Rattle.turn_rules.specs.Local.{Explained, IsByRule, Local}
 use Rattle.turn_rules.specs.Peers.{AreDistinct, associations_by, entered_in}
 use Rattle.turn_rules.specs.Slots.{slots_after, slots_by}
-use Rattle.turn_rules.specs.States.{ends, has_ended, held_unless, is_join, joined_after, joins, state_after, state_by, told_state}
+use Rattle.turn_rules.specs.States.{ends, fresh_at, gateway_after, has_ended, held_unless, is_join, joined_after, joins, state_after, state_by, told_state}
 use Rattle.turn_rules.specs.Tasks.{member_task, peer_task}
 
 module _ (boxes : ℕ) (past : List Turn) (turn : Turn) (does : DoesTold boxes past turn) where
-  window-more : window_by (turn ∷ past) ≡ unwrap_or (window_in turn.event turn.step.verdict) (window_by past)
-  window-more = go (window_of_turn turn) (found window_of_turn past)
+  config-more : config_by (turn ∷ past) ≡ unwrap_or (configured_at turn) (config_by past)
+  config-more = go (configured_at turn) (found configured_at past)
     where
-      go : (w x : Option ℕ) → unwrap_or (first_some w x) 64 ≡ unwrap_or w (unwrap_or x 64)
+      go : (c x : Option Configuration) → unwrap_or (first_some c x) default_configuration ≡ unwrap_or c (unwrap_or x default_configuration)
       go None x = refl
-      go (Some w) x = refl
+      go (Some c) x = refl
+
+  gateway-more : gateway_of (config_by (turn ∷ past)) ≡ gateway_after (configured_at turn) (gateway_of (config_by past))
+  gateway-more = ap gateway_of config-more ∙ go (configured_at turn)
+    where
+      go : (c : Option Configuration) → gateway_of (unwrap_or c (config_by past)) ≡ gateway_after c (gateway_of (config_by past))
+      go None = refl
+      go (Some c) = refl
 
   joined-more : joins (turn ∷ past) ≡ joined_after (is_join turn.step.verdict) (joins past)
   joined-more = go (is_join turn.step.verdict)
@@ -48,30 +58,63 @@ module _ (boxes : ℕ) (past : List Turn) (turn : Turn) (does : DoesTold boxes p
     held-up : has_ended member past ≡ false → (b : Bool) → is_by (Member member) turn ≡ b
         → held_now ≡ (if b then held_after (window_by past) spir (member_task turn.event) turn.calls turn.step held_then else held_then)
     held-up up true mine =
-        ap (λ size. held_by size (own (Member member) (turn ∷ past)) spir) (own-window (Member member) past turn mine)
+        ap (λ (config : Configuration). held_by config.window (own (Member member) (turn ∷ past)) spir) (own-config (Member member) past turn mine)
         ∙ ap (λ b. held_by (window_by past) (if b then turn ∷ own (Member member) past else own (Member member) past) spir) mine
         ∙ held_by-cons (window_by past) spir turn (own (Member member) past)
         ∙ ap (λ b. held_after (window_by past) spir (member_task turn.event) turn.calls turn.step (held_unless b (held_by (window_by past) (own (Member member) past) spir))) (sym up)
     held-up up false other =
         ap (λ b. held_by (window_by (turn ∷ past)) (if b then turn ∷ own (Member member) past else own (Member member) past) spir) other
-        ∙ other-window (λ size turns. held_by size turns spir) (Member member) boxes past turn does (λ w v. refl)
+        ∙ other-config (λ config turns. held_by config.window turns spir) (Member member) boxes past turn does (λ c d. refl)
         ∙ ap (λ b. held_unless b (held_by (window_by past) (own (Member member) past) spir)) (sym up)
 
     held-more : (b : Bool) → (ends member turn.event turn.step.verdict || has_ended member past) ≡ b
         → held_unless b held_now
         ≡ held_unless b (if is_by (Member member) turn then held_after (window_by past) spir (member_task turn.event) turn.calls turn.step held_then else held_then)
     held-more true ended = refl
-    held-more false up = held-up (neither (ends member turn.event turn.step.verdict) (has_ended member past) up).1 (is_by (Member member) turn) refl
+    held-more false up = held-up (or_parts (ends member turn.event turn.step.verdict) (has_ended member past) up).1 (is_by (Member member) turn) refl
+
+  -- what a member was given when it joined
+  module _ (member : ℕ) where
+    abbrev told_with : Configuration → List Turn → Option Membership
+    told_with config mine = option_map (membership config) (found fresh_at mine)
+
+    abbrev given_then : Option Membership
+    given_then = held_unless (has_ended member past) (told_with (config_by past) (own (Member member) past))
+
+    abbrev given_as : Bool → Option Membership → Option Membership
+    given_as b before = if b then first_some (option_map (membership (config_by past)) (fresh_at turn)) before else before
+
+    given-up : has_ended member past ≡ false → (b : Bool) → is_by (Member member) turn ≡ b → told_with (config_by (turn ∷ past)) (own (Member member) (turn ∷ past)) ≡ given_as b given_then
+    given-up up true mine =
+        ap (λ config. told_with config (own (Member member) (turn ∷ past))) (own-config (Member member) past turn mine)
+        ∙ ap (λ b. told_with (config_by past) (if b then turn ∷ own (Member member) past else own (Member member) past)) mine
+        ∙ newest (fresh_at turn) (found fresh_at (own (Member member) past))
+        ∙ ap (λ b. given_as true (held_unless b (told_with (config_by past) (own (Member member) past)))) (sym up)
+      where
+        newest : (x y : Option (List ℕ)) → option_map (membership (config_by past)) (first_some x y) ≡ first_some (option_map (membership (config_by past)) x) (option_map (membership (config_by past)) y)
+        newest None y = refl
+        newest (Some fresh) y = refl
+    given-up up false other =
+        ap (λ b. told_with (config_by (turn ∷ past)) (if b then turn ∷ own (Member member) past else own (Member member) past)) other
+        ∙ other-config told_with (Member member) boxes past turn does (λ c d. refl)
+        ∙ ap (λ b. held_unless b (told_with (config_by past) (own (Member member) past))) (sym up)
+
+    given-more : (b : Bool) → (ends member turn.event turn.step.verdict || has_ended member past) ≡ b
+        → held_unless b (told_with (config_by (turn ∷ past)) (own (Member member) (turn ∷ past))) ≡ held_unless b (given_as (is_by (Member member) turn) given_then)
+    given-more true ended = refl
+    given-more false up = given-up (or_parts (ends member turn.event turn.step.verdict) (has_ended member past) up).1 (is_by (Member member) turn) refl
 
   pub told-cons : told_state boxes (turn ∷ past) ≡ state_after turn.event turn.calls turn.step (told_state boxes past)
   told-cons i = record {
     boxes = boxes;
     started = true;
-    window = window-more i;
+    config = config-more i;
     joined = joined-more i;
     ended = λ member. has_ended member (turn ∷ past);
     datagrams = datagrams_of (turn ∷ past);
+    gateway = gateway-more i;
     slots = slots-more (is_by Peer turn) refl i;
+    members = λ member. given-more member (ends member turn.event turn.step.verdict || has_ended member past) refl i;
     held = λ member spir. held-more member spir (ends member turn.event turn.step.verdict || has_ended member past) refl i;
   }
 

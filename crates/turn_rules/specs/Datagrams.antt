@@ -13,10 +13,6 @@ use Rattle.events.specs.declared.turn.Turn.{Turn}
 use Rattle.events.specs.declared.verdict.Refusal.{Refusal}
 use Rattle.events.specs.declared.verdict.Refusal.TheVariants as refusal
 
--- the most datagrams of a run
-abbrev pub MAX_DATAGRAMS : ℕ
-MAX_DATAGRAMS = 65536
-
 -- a datagram, by what it carries and its octets alone
 pub record PlainDatagram : Type 0 where
   pub medium : Medium

@@ -1,5 +1,5 @@
 -- What each event does, by what the ends hold.
-use Rattle.std.specs.Prelude.{ℕ, ◌+◌, ◌^◌, ◌≡◌, ◌||◌, ◌&&◌, Bool, true, false, not, nat_le, nat_lt, is_some, MatchOption, Option, Some, None, Result, Ok, Err, List, [], length}
+use Rattle.std.specs.Prelude.{ℕ, ◌+◌, ◌≡◌, ◌||◌, ◌&&◌, Bool, true, false, not, nat_le, nat_lt, is_some, MatchOption, Option, Some, None, Result, Ok, Err, List, [], length}
 use Rattle.events.specs.declared.event.Event.{Event}
 use Rattle.events.specs.declared.event.Event.TheVariants as event
 use Rattle.events.specs.declared.event.Party.{Party}
@@ -12,9 +12,10 @@ use Rattle.events.specs.declared.verdict.Refusal.{Refusal}
 use Rattle.events.specs.declared.verdict.Refusal.TheVariants as refusal
 use Rattle.events.specs.declared.verdict.Verdict.{Verdict}
 use Rattle.events.specs.declared.verdict.Verdict.TheVariants as out
+use Rattle.ha_base.specs.declared.limits.TheConstants.{LEAST_ESP_SPI, LEAST_SPI, MAX_DATAGRAMS}
 use Rattle.keeper_book.specs.declared.calls.Call.{Call}
 use Rattle.keeper_book.specs.declared.records.Record.{Record}
-use Rattle.turn_rules.specs.Datagrams.{Delivery, MAX_DATAGRAMS, PlainDatagram, delivery_of}
+use Rattle.turn_rules.specs.Datagrams.{Delivery, PlainDatagram, delivery_of}
 use Rattle.turn_rules.specs.Deliveries.{MemberTakes, PeerTakes}
 use Rattle.turn_rules.specs.Draws.{Draws, EntersRecord, TakesOver}
 use Rattle.turn_rules.specs.Held.{Held}
@@ -31,8 +32,8 @@ MAX_MEMBERS = 64
 -- the SPIs that a run may import: the greater ones are for imports, and the others for what the cluster draws itself
 abbrev pub is_importable : Record → Bool
 is_importable sa =
-    nat_le (2 ^ 48) sa.spii && nat_le (2 ^ 48) sa.spir
-    && nat_le 65536 sa.spi_in && nat_le 65536 sa.spi_out
+    nat_le LEAST_SPI sa.spii && nat_le LEAST_SPI sa.spir
+    && nat_le LEAST_ESP_SPI sa.spi_in && nat_le LEAST_ESP_SPI sa.spi_out
     && nat_lt 0 sa.starts.esp_out && nat_lt 0 sa.starts.esp_in && nat_lt 0 sa.starts.iv
 
 -- no call was made, and the event came out so; nothing was executed, sealed or sent

@@ -10,6 +10,7 @@ use Rattle.events.specs.declared.verdict.EspVerdict.TheVariants as esp
 use Rattle.events.specs.declared.verdict.Verdict.{Verdict}
 use Rattle.events.specs.declared.verdict.Verdict.TheVariants as out
 use Rattle.ha_base.specs.Octets.{WithRoom}
+use Rattle.ha_base.specs.declared.limits.TheConstants.{MAX_DATAGRAMS}
 use Rattle.ha_base.specs.declared.counter_names.CounterName.{CounterName}
 use Rattle.ha_base.specs.declared.esp_outcomes.EspOpened.{EspOpened}
 use Rattle.keeper_book.specs.Told.{seen}
@@ -18,7 +19,7 @@ use Rattle.keeper_book.specs.declared.calls.KeeperAnswer.TheVariants as answers
 use Rattle.keeper_book.specs.declared.counters.Counter.TheVariants as counter
 use Rattle.replay_set.specs.Window.{judged}
 use Rattle.replay_set.specs.declared.judgement.Judgement.TheVariants as judgement
-use Rattle.turn_rules.specs.Datagrams.{MAX_DATAGRAMS, arrives, datagrams_of, delivery_of}
+use Rattle.turn_rules.specs.Datagrams.{arrives, datagrams_of, delivery_of}
 use Rattle.turn_rules.specs.Draws.{counter_name}
 use Rattle.turn_rules.specs.Ends.{Member, Peer, Performer, own, receiver_of}
 use Rattle.turn_rules.specs.Held.{Held, held_by, window_by}

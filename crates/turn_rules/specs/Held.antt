@@ -3,7 +3,6 @@ use Rattle.std.specs.Prelude.{ℕ, ◌+◌, ◌==◌, ◌&&◌, max, unwrap_or, 
 use Rattle.std.specs.List.{filter_map, flat_map}
 use Rattle.std.specs.Option.{option_map}
 use Rattle.events.specs.declared.event.Event.{Event}
-use Rattle.events.specs.declared.event.Event.TheVariants as event
 use Rattle.events.specs.declared.turn.Step.{Step}
 use Rattle.events.specs.declared.turn.Turn.{Turn}
 use Rattle.events.specs.declared.verdict.Verdict.{Verdict}
@@ -22,6 +21,7 @@ use Rattle.keeper_book.specs.declared.records.Record.{Record}
 use Rattle.keeper_book.specs.declared.records.Taken.{Taken}
 use Rattle.keeper_book.specs.Records.{spir_of_origin}
 use Rattle.replay_set.specs.Window.{Window, window_of, with_noted}
+use Rattle.turn_rules.specs.Configurations.{Configuration, configured_in, default_configuration}
 use Rattle.turn_rules.specs.Datagrams.{delivery_of}
 use Rattle.turn_rules.specs.Tasks as task
 use Rattle.turn_rules.specs.Tasks.{Task, member_task, receipt}
@@ -189,14 +189,13 @@ abbrev pub held_at : List Held → ℕ → Option Held
 held_at [] spir = None
 held_at (held ∷ more) spir = if held.sa.spir == spir then Some held else held_at more spir
 
--- the size of receive windows that an event set
-abbrev pub window_in : Event → Verdict → Option ℕ
-window_in (event.Cluster identity lifetime window ticket_key) out.Configured = Some window
-window_in event verdict = None
+abbrev pub configured_at : Turn → Option Configuration
+configured_at turn = configured_in turn.event turn.step.verdict
 
-abbrev pub window_of_turn : Turn → Option ℕ
-window_of_turn turn = window_in turn.event turn.step.verdict
+-- how the cluster is configured in a run
+abbrev pub config_by : List Turn → Configuration
+config_by past = unwrap_or (found configured_at past) default_configuration
 
--- the size of receive windows in a run: 64 where nothing configured it
+-- the size of receive windows in a run
 abbrev pub window_by : List Turn → ℕ
-window_by past = unwrap_or (found window_of_turn past) 64
+window_by past = (config_by past).window

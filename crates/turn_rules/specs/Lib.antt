@@ -1,3 +1,4 @@
+pub mod Configurations
 pub mod Datagrams
 pub mod Deliveries
 pub mod Draws

@@ -1,6 +1,6 @@
 -- What the peer holds of its associations, and what it does with ESP packets.
 use Rattle.std.specs.List.{filter_map}
-use Rattle.std.specs.Prelude.{ℕ, ◌+◌, ◌^◌, ◌≡◌, ◌<◌, ◌≤◌, ◌==◌, Bool, false, MatchOption, length, Option, Some, None, List, [], ◌∷◌, ◌++◌, map, option_to_list, if◌then◌else◌, Result, Ok, Err}
+use Rattle.std.specs.Prelude.{ℕ, ◌+◌, ◌≡◌, ◌<◌, ◌≤◌, ◌==◌, Bool, false, MatchOption, length, Option, Some, None, List, [], ◌∷◌, ◌++◌, map, option_to_list, if◌then◌else◌, Result, Ok, Err}
 use Rattle.std.specs.Option.{option_map}
 use Rattle.esp_packets.specs.Packet.{spi_of}
 use Rattle.events.specs.declared.event.Event.{Event}
@@ -110,8 +110,8 @@ slots_after size asked step slots =
 
 -- a payload is sent under the next number, unless the counter is at its end
 pub record SlotSends (slot : Slot) (payload : List ℕ) (step : Step) : Type 0 where
-  pub within : slot.next < 2 ^ 63 → SendsEsp (slot_outbound slot) slot.next payload step
-  pub ended : 2 ^ 63 ≤ slot.next → Says (out.Refused refusal.Exhausted) step
+  pub within : slot.next < end_of slot.sa counter.EspOut → SendsEsp (slot_outbound slot) slot.next payload step
+  pub ended : end_of slot.sa counter.EspOut ≤ slot.next → Says (out.Refused refusal.Exhausted) step
 
 -- the peer sends a payload in an association
 abbrev pub PeerSends : ℕ → List Slot → List ℕ → Step → Type 0

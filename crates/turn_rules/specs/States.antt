@@ -8,23 +8,28 @@ use Rattle.events.specs.declared.turn.Step.{Step}
 use Rattle.events.specs.declared.turn.Turn.{Turn}
 use Rattle.events.specs.declared.verdict.Verdict.{Verdict}
 use Rattle.events.specs.declared.verdict.Verdict.TheVariants as out
+use Rattle.ha_base.specs.declared.identities.GatewayId.{GatewayId}
 use Rattle.keeper_book.specs.declared.calls.Call.{Call}
+use Rattle.turn_rules.specs.Configurations.{Configuration, Membership, configured_in, default_configuration, fresh_in, gateway_of, membership}
 use Rattle.turn_rules.specs.Datagrams.{PlainDatagram, datagrams_of, plain_datagram}
 use Rattle.turn_rules.specs.Ends.{Member, Peer, is_end, own, performer_at}
-use Rattle.turn_rules.specs.Held.{Held, held_after, held_by, window_by, window_in}
+use Rattle.turn_rules.specs.Held.{Held, config_by, first_some, found, held_after, held_by, window_by}
 use Rattle.turn_rules.specs.Slots.{Slot, slots_after, slots_by}
 use Rattle.turn_rules.specs.Tasks.{member_task, peer_task}
 
--- boxes: how many services were handed in for members; window: the size of receive windows of what comes; joined: how many
--- members joined. `ended` and `held` are by the number of a member: they are counted from 1.
+-- boxes: how many services were handed in for members; config: how members are configured that join; joined: how many
+-- members joined; gateway and slots: where the peer sends, and its associations. `ended`, `members` and `held` are by the
+-- number of a member: they are counted from 1.
 pub record RunState : Type 0 where
   pub boxes : ℕ
   pub started : Bool
-  pub window : ℕ
+  pub config : Configuration
   pub joined : ℕ
   pub ended : ℕ → Bool
   pub datagrams : List PlainDatagram
+  pub gateway : GatewayId
   pub slots : List Slot
+  pub members : ℕ → Option Membership
   pub held : ℕ → ℕ → Option Held
 
 abbrev pub is_join : Verdict → Bool
@@ -48,8 +53,8 @@ is_number member (Some other) = other == member
 abbrev pub ends : ℕ → Event → Verdict → Bool
 ends member event verdict = is_number member (ended_by event verdict)
 
--- what a member holds; once it ended that is nothing
-abbrev pub held_unless : Bool → Option Held → Option Held
+-- what a member has; once it ended that is nothing
+abbrev pub held_unless : {X : Type 0} → Bool → Option X → Option X
 held_unless true held = None
 held_unless false held = held
 
@@ -58,27 +63,39 @@ abbrev pub at_first : ℕ → RunState
 at_first boxes = record {
   boxes = boxes;
   started = false;
-  window = 64;
+  config = default_configuration;
   joined = 0;
   ended = λ member. false;
   datagrams = [];
+  gateway = gateway_of default_configuration;
   slots = [];
+  members = λ member. None;
   held = λ member spir. None;
 }
+
+-- the gateway that the peer talks to: the one that an event set, if it set one
+abbrev pub gateway_after : Option Configuration → GatewayId → GatewayId
+gateway_after None gateway = gateway
+gateway_after (Some config) gateway = gateway_of config
 
 -- what a turn makes of what the ends hold: the end that performs it goes on, and the others stay as they are
 abbrev pub state_after : Event → List Call → Step → RunState → RunState
 state_after event calls step state = record {
   boxes = state.boxes;
   started = true;
-  window = unwrap_or (window_in event step.verdict) state.window;
+  config = unwrap_or (configured_in event step.verdict) state.config;
   joined = joined_after (is_join step.verdict) state.joined;
   ended = λ member. ends member event step.verdict || state.ended member;
   datagrams = state.datagrams ++ option_to_list (option_map plain_datagram step.gives);
-  slots = if is_end Peer (performer_at event step.verdict) then slots_after state.window (peer_task event) step state.slots else state.slots;
+  gateway = gateway_after (configured_in event step.verdict) state.gateway;
+  slots = if is_end Peer (performer_at event step.verdict) then slots_after state.config.window (peer_task event) step state.slots else state.slots;
+  members = λ member. held_unless (ends member event step.verdict || state.ended member)
+      (if is_end (Member member) (performer_at event step.verdict)
+      then first_some (option_map (membership state.config) (fresh_in event step.verdict)) (state.members member)
+      else state.members member);
   held = λ member spir. held_unless (ends member event step.verdict || state.ended member)
       (if is_end (Member member) (performer_at event step.verdict)
-      then held_after state.window spir (member_task event) calls step (state.held member spir)
+      then held_after state.config.window spir (member_task event) calls step (state.held member spir)
       else state.held member spir);
 }
 
@@ -99,16 +116,22 @@ joins past = length (filter (λ turn. is_join turn.step.verdict) past)
 abbrev pub has_ended : ℕ → List Turn → Bool
 has_ended member past = list_any (λ turn. ends member turn.event turn.step.verdict) past
 
+-- the fresh octets of a member that joined in a turn
+abbrev pub fresh_at : Turn → Option (List ℕ)
+fresh_at turn = fresh_in turn.event turn.step.verdict
+
 -- The same, as each end's own turns tell it: with the greatest numbers that it used and saw acknowledged, and the sets of
 -- those that it received. The laws say that it is the same where each turn is explained.
 abbrev pub told_state : ℕ → List Turn → RunState
 told_state boxes past = record {
   boxes = boxes;
   started = has_turns past;
-  window = window_by past;
+  config = config_by past;
   joined = joins past;
   ended = λ member. has_ended member past;
   datagrams = datagrams_of past;
+  gateway = gateway_of (config_by past);
   slots = slots_by (window_by past) (own Peer past);
+  members = λ member. held_unless (has_ended member past) (option_map (membership (config_by past)) (found fresh_at (own (Member member) past)));
   held = λ member spir. held_unless (has_ended member past) (held_by (window_by past) (own (Member member) past) spir);
 }

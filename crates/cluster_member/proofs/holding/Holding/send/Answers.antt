@@ -1,5 +1,5 @@
 -- A payload is sent under the next number.
-use Rattle.std.proofs.Common.{◌≡◌, ℕ, ap, subst}
+use Rattle.std.proofs.Common.{◌≡◌, ap, subst}
 use Rattle.horizons.specs.Reaches.{Reach}
 use Rattle.keeper_book.specs.declared.counters.Counter.TheVariants as counter
 use Rattle.spend_once.specs.Lot.{Drawn}

@@ -21,8 +21,9 @@ returns-clause-receives g c =
         genuine_accepted c.sealed_packets_open.ensures c.args.self.now.held c.args.bytes.now it.calls c.receive.result c.receive.new.bytes from,
         λ step worded. record {
           number = ap (λ (v : Holder). v.number) c.self.view_is;
-          window = ap (λ (v : Holder). v.window) c.self.view_is;
-          holds = on step worded c.args.self.now.window;
+          config = ap (λ (v : Holder). v.config) c.self.view_is;
+          fresh = ap (λ (v : Holder). v.fresh) c.self.view_is;
+          holds = on step worded c.args.self.now.config.window;
         },
       );
       asked = it.asked;

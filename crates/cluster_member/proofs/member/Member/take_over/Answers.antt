@@ -21,7 +21,7 @@ returns-in-Ok-clause-takes g c =
     let size = c.self.inside.config.window in
     let now : List Held = c.put.new.self.held in
     let number : c.self.inside.number ≡ c.args.self.now.number = ap (λ (v : Holder). v.number) c.self.view_is in
-    let window : size ≡ c.args.self.now.window = ap (λ (v : Holder). v.window) c.self.view_is in
+    let window : size ≡ c.args.self.now.config.window = ap (λ (v : Holder). v.config.window) c.self.view_is in
     let asked : call.asked ≡ ask.TakeOver spir c.args.self.now.number = called.1.asks ∙ ap (ask.TakeOver spir) number in
     let sees : seen call ≡ answer.Taken taken = called.1.sees in
     let its : taken.sa.spir ≡ spir = c.in-Ok.ensures.record_asked in
@@ -39,7 +39,8 @@ returns-in-Ok-clause-takes g c =
         },
         record {
           number = number;
-          window = window;
+          config = ap (λ (v : Holder). v.config) c.self.view_is;
+          fresh = ap (λ (v : Holder). v.fresh) c.self.view_is;
           holds = subst (λ n. HoldsAfter n (task.TakeOver spir) (call ∷ []) step c.args.self.now.held now) window
               (subst (λ hs. HoldsAfter size (task.TakeOver spir) (call ∷ []) step hs now) old holds);
         },

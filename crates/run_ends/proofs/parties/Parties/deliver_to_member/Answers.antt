@@ -28,7 +28,7 @@ pub returns-in_default-index_mut-clause-delivers : goal.returns-in_default-index
 returns-in_default-index_mut-clause-delivers g c =
     let members : List (Option Holder) = c.self.inside.members.items in
     let members_are : members ≡ c.args.self.now.members = ap (λ (s : EndsHeld). s.members) c.self.view_is in
-    let with_members : List (Option Holder) → EndsHeld = λ ms. record { boxes = c.self.inside.boxes; window = c.self.inside.settings.window; slots = c.self.inside.peer.slots; members = ms } in
+    let with_members : List (Option Holder) → EndsHeld = λ ms. record { boxes = c.self.inside.boxes; config = c.self.inside.settings; gateway = c.self.inside.peer.gateway; slots = c.self.inside.peer.slots; members = ms } in
     let at = c.args.event.now in
     let past = c.args.trace.now.past in
     let room : WithRoomFor (state_of past c.args.self.now) at = has-room (state_of past c.args.self.now) at c.requires.room in
@@ -45,7 +45,7 @@ pub returns-in-Err-clause-delivers : goal.returns-in-Err-clause-delivers
 returns-in-Err-clause-delivers g c =
     let members : List (Option Holder) = c.self.inside.members.items in
     let members_are : members ≡ c.args.self.now.members = ap (λ (s : EndsHeld). s.members) c.self.view_is in
-    let with_members : List (Option Holder) → EndsHeld = λ ms. record { boxes = c.self.inside.boxes; window = c.self.inside.settings.window; slots = c.self.inside.peer.slots; members = ms } in
+    let with_members : List (Option Holder) → EndsHeld = λ ms. record { boxes = c.self.inside.boxes; config = c.self.inside.settings; gateway = c.self.inside.peer.gateway; slots = c.self.inside.peer.slots; members = ms } in
     let back : set members c.in-Some.place (Some c.in-Some-index_mut.member) ≡ members = ap (set members c.in-Some.place) (sym c.in-Some-index_mut.is) ∙ put_back members c.in-Some.place c.index_mut.result.now c.index_mut.ensures.value in
     let at = c.args.event.now in
     let past = c.args.trace.now.past in
@@ -64,7 +64,7 @@ pub returns-in-Ok-clause-delivers : goal.returns-in-Ok-clause-delivers
 returns-in-Ok-clause-delivers g c =
     let members : List (Option Holder) = c.self.inside.members.items in
     let members_are : members ≡ c.args.self.now.members = ap (λ (s : EndsHeld). s.members) c.self.view_is in
-    let with_members : List (Option Holder) → EndsHeld = λ ms. record { boxes = c.self.inside.boxes; window = c.self.inside.settings.window; slots = c.self.inside.peer.slots; members = ms } in
+    let with_members : List (Option Holder) → EndsHeld = λ ms. record { boxes = c.self.inside.boxes; config = c.self.inside.settings; gateway = c.self.inside.peer.gateway; slots = c.self.inside.peer.slots; members = ms } in
     let back : set members c.in-Some.place (Some c.in-Some-index_mut.member) ≡ members = ap (set members c.in-Some.place) (sym c.in-Some-index_mut.is) ∙ put_back members c.in-Some.place c.index_mut.result.now c.index_mut.ensures.value in
     let now = c.member_takes.new.member in
     let stays = sym (ap (λ (v : EndsHeld). record v { members = set v.members c.in-Some.place (Some c.in-Some-index_mut.member) }) (sym c.self.view_is) ∙ ap with_members back ∙ c.self.view_is) in

@@ -32,12 +32,13 @@ returns-then-not-is_importable-clause-imports g c =
 pub returns-in-Ok-clause-imports : goal.returns-in-Ok-clause-imports
 returns-in-Ok-clause-imports g c =
     let sa = c.args.sa.now in
-    let view : EndsHeld = record { boxes = c.self.inside.boxes; window = c.self.inside.settings.window; slots = c.self.inside.peer.slots; members = c.self.inside.members.items } in
+    let view : EndsHeld = record { boxes = c.self.inside.boxes; config = c.self.inside.settings; gateway = c.self.inside.peer.gateway; slots = c.self.inside.peer.slots; members = c.self.inside.members.items } in
     let within : is_importable sa ≡ true = search rules in
     let free : admits (records c.args.self.now.slots) sa ≡ true = search rules in
     let called = c.in-Ok.ensures.call in
+    let gate : c.add.new.self.gateway ≡ view.gateway = ap (λ (p : PeerHeld). p.gateway) c.add.ensures ∙ ap (λ (p : PeerHeld). p.gateway) c.in_ok-reserve.ensures.unchanged in
     let said = c.quiet.ensures in
-    let grown : c.add.new.self.slots ≡ view.slots ++ entered_slot view.window sa ∷ [] =
+    let grown : c.add.new.self.slots ≡ view.slots ++ entered_slot view.config.window sa ∷ [] =
     ap (λ (p : PeerHeld). p.slots) c.add.ensures
     ∙ ap (λ (p : PeerHeld). p.slots ++ entered_slot p.window sa ∷ []) c.in_ok-reserve.ensures.unchanged
     ∙ ap (λ w. view.slots ++ entered_slot w sa ∷ []) c.self.invariant.1 in
@@ -48,7 +49,7 @@ returns-in-Ok-clause-imports g c =
             follows = (called.1.asks, subst (λ k. Admits k c.quiet.result.verdict) (sym called.1.sees) said.verdict);
             quiet = record { served = said.served; seals = said.seals; gives = said.gives };
           })
-          said.verdict _ (ap (λ slots. record view { slots = slots }) grown ∙ ap (λ (s : EndsHeld). record s { slots = s.slots ++ entered_slot s.window sa ∷ [] }) c.self.view_is);
+          said.verdict _ ((λ i. record view { gateway = gate i; slots = grown i }) ∙ ap (λ (s : EndsHeld). record s { slots = s.slots ++ entered_slot s.config.window sa ∷ [] }) c.self.view_is);
       asked = called.2;
       held = c.in-Ok.ensures.held;
     }
@@ -57,7 +58,7 @@ returns-in-Ok-clause-imports g c =
 pub returns-in-Some-clause-imports : goal.returns-in-Some-clause-imports
 returns-in-Some-clause-imports g c =
     let sa = c.args.sa.now in
-    let view : EndsHeld = record { boxes = c.self.inside.boxes; window = c.self.inside.settings.window; slots = c.self.inside.peer.slots; members = c.self.inside.members.items } in
+    let view : EndsHeld = record { boxes = c.self.inside.boxes; config = c.self.inside.settings; gateway = c.self.inside.peer.gateway; slots = c.self.inside.peer.slots; members = c.self.inside.members.items } in
     let within : is_importable sa ≡ true = search rules in
     let free : admits (records c.args.self.now.slots) sa ≡ true = search rules in
     let called = c.in-Err.ensures.call in
@@ -71,7 +72,7 @@ returns-in-Some-clause-imports g c =
             follows = (called.1.asks, subst (λ k. Admits k step.verdict) (sym called.1.sees) (subst (λ x. MatchOption x ⊥ (λ r. step.verdict ≡ out.Refused r)) (sym why) says.said));
             quiet = says.quiet;
           })
-          says.said _ (ap (λ (p : PeerHeld). record view { slots = p.slots }) c.in_ok-reserve.ensures.unchanged ∙ c.self.view_is);
+          says.said _ (ap (λ (p : PeerHeld). record view { gateway = p.gateway; slots = p.slots }) c.in_ok-reserve.ensures.unchanged ∙ c.self.view_is);
       asked = called.2;
       held = c.in-Err.ensures.held;
     }

@@ -25,7 +25,7 @@ pub returns-in-None-clause-owns : goal.returns-in-None-clause-owns
 returns-in-None-clause-owns g c =
     let members : List (Option Holder) = c.self.inside.members.items in
     let members_are : members ≡ c.args.self.now.members = ap (λ (s : EndsHeld). s.members) c.self.view_is in
-    let with_members : List (Option Holder) → EndsHeld = λ ms. record { boxes = c.self.inside.boxes; window = c.self.inside.settings.window; slots = c.self.inside.peer.slots; members = ms } in
+    let with_members : List (Option Holder) → EndsHeld = λ ms. record { boxes = c.self.inside.boxes; config = c.self.inside.settings; gateway = c.self.inside.peer.gateway; slots = c.self.inside.peer.slots; members = ms } in
     record {
       calls = [];
       follows = λ past. down-plays past c.args.self.now (event.Own c.args.member c.args.spir) c.args.member refl refl c.requires.in_place c.in-Some.place c.index_mut.result.now c.in-Some.ensures

@@ -1,7 +1,9 @@
 -- Each event is played as its kind says.
-use Rattle.std.proofs.Common.{[], refl, sym}
+use Rattle.std.proofs.Common.{[], refl, subst, sym}
 use Rattle.keeper_book.proofs.Asking.{asks_none}
+use Rattle.turn_rules.specs.Configurations.{Configuration}
 use Rattle.turn_rules.specs.Datagrams.{datagrams_of}
+use Rattle.run_ends.specs.Parties.{Configures, Plays}
 use Rattle.run_ends.proofs.Bounds.{arrives-short}
 use Rattle.run_ends.proofs.Plays.{asked-as, if_ok-as}
 use Rattle.run_ends.proofs.parties.Parties.play.Goals as goal
@@ -9,7 +11,8 @@ use Rattle.run_ends.proofs.parties.Parties.play.Goals as goal
 pub returns-in-Cluster-clause-plays : goal.returns-in-Cluster-clause-plays
 returns-in-Cluster-clause-plays g c = record {
   calls = [];
-  follows = rw (c.in-Cluster.is, sym c.of-settings.ensures) (c.configure.ensures.configures _ _ _);
+  follows = rw c.in-Cluster.is
+      (subst (λ (s : Configuration). Configures s (λ at. Plays c.args.trace.now.past c.args.self.now at [] c.configure.result c.configure.new.self)) c.of-settings.ensures c.configure.ensures.configures _ refl);
   asked = asks_none c.args.keeper.now;
   held = refl;
 }
@@ -19,7 +22,7 @@ returns-in-Import-clause-plays g c = if_ok-as c.import.result (λ step. asked-as
 
 pub returns-in-Join-clause-plays : goal.returns-in-Join-clause-plays
 returns-in-Join-clause-plays g c = if_ok-as c.join.result
-    (λ step it. record { calls = []; follows = rw c.in-Join.is (it c.args.trace.now.past _); asked = asks_none c.args.keeper.now; held = refl }) c.join.ensures.joins
+    (λ step it. record { calls = []; follows = rw c.in-Join.is (it c.args.trace.now.past); asked = asks_none c.args.keeper.now; held = refl }) c.join.ensures.joins
 
 pub returns-in-Own-clause-plays : goal.returns-in-Own-clause-plays
 returns-in-Own-clause-plays g c = if_ok-as c.own.result (λ step. asked-as (λ calls it. rw c.in-Own.is (it c.args.trace.now.past))) c.own.ensures.owns

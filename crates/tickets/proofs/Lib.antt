@@ -1,0 +1,4 @@
+pub mod Contents
+pub mod IssuedTickets
+pub mod Openings
+pub mod Parts
