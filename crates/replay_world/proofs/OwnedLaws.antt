@@ -7,21 +7,22 @@ use Rattle.keeper_book.specs.Book.{Book}
 use Rattle.replay_world.specs.Owning.{OwnedTold}
 use Rattle.run_ends.specs.Runs.{Grows, Run, StandsTold}
 use Rattle.turn_laws.proofs.All.{owned-run}
-use Rattle.turn_rules.specs.Local.{Local, Stands}
+use Rattle.turn_rules.proofs.StateLaws.{local-explained}
+use Rattle.turn_rules.specs.Local.{Explained, Local, Stands}
 use Rattle.turn_rules.specs.Safe.{Safe}
 
 -- the law of whole runs
 abbrev pub RunsAreSafe : Type 0
-RunsAreSafe = (boxes : ℕ) (past : List Turn) (book : Book) → Local boxes past → Stands past book → Safe past
+RunsAreSafe = (boxes : ℕ) (past : List Turn) (book : Book) → Explained boxes past → Stands past book → Safe past
 
 pub owned_told : (boxes : ℕ) (past : List Turn) (book : Option Book) → Local boxes past → StandsTold past book → OwnedTold past book
 owned_told boxes past None local stands = absurd stands
-owned_told boxes past (Some book) local stands = owned-run boxes past book local stands
+owned_told boxes past (Some book) local stands = owned-run boxes past book (local-explained boxes past local) stands
 
 -- and what holds across the ends holds, by the law of whole runs
 pub safe_told : RunsAreSafe → (boxes : ℕ) (past : List Turn) (book : Option Book) → Local boxes past → StandsTold past book → Safe past
 safe_told law boxes past None local stands = absurd stands
-safe_told law boxes past (Some book) local stands = law boxes past book local stands
+safe_told law boxes past (Some book) local stands = law boxes past book (local-explained boxes past local) stands
 
 -- the turns before the newest one are explained too
 pub local_before : (old new : Run) (now : Moment) (event : Event) → Grows old now event new → Local new.boxes new.past → Local old.boxes old.past

@@ -21,10 +21,10 @@ use Rattle.turn_laws.specs.Acts.{numbers_at}
 use Rattle.turn_laws.specs.Holdings.{IsNotIn}
 use Rattle.turn_laws.specs.Places.{Ours, Place, Theirs, is_place, place_of}
 use Rattle.turn_laws.specs.Turns.{acts_of}
-use Rattle.turn_rules.specs.Local.{Local, Stands}
+use Rattle.turn_rules.specs.Local.{Explained, Stands}
 use Rattle.turn_rules.specs.Safe.{IsEachOnce, Packet, accepted_as, accepted_in}
 
-no-packet : {X : Type 0} (packet : X) → None ≡ Some packet → ⊥
+pub no-packet : {X : Type 0} (packet : X) → None ≡ Some packet → ⊥
 no-packet packet is = absurd (cc)
 
 idle-packet : (verdict : Verdict) → IsIdle verdict → accepted_as verdict ≡ None
@@ -60,7 +60,7 @@ fewer-once : (number : Option ℕ) (ns : List ℕ) → IsEachOnce (cons_option n
 fewer-once None ns once = once
 fewer-once (Some k) ns once = once.1
 
-module _ (boxes : ℕ) (past : List Turn) (turn : Turn) (local : Local boxes (turn ∷ past)) where
+module _ (boxes : ℕ) (past : List Turn) (turn : Turn) (local : Explained boxes (turn ∷ past)) where
   abbrev outcome : Outcome past turn.event turn.calls turn.step
   outcome = outcome-of past turn.event turn.calls turn.step (deed-of boxes past turn local.0 local.1)
 
@@ -72,7 +72,7 @@ module _ (boxes : ℕ) (past : List Turn) (turn : Turn) (local : Local boxes (tu
 abbrev IsOther : Place → ℕ → Packet → Type 0
 IsOther p n packet = place_of packet.name ≡ Some p → packet.number ≢ n
 
-not-accepted : (p : Place) (n : ℕ) (boxes : ℕ) (past : List Turn) → Local boxes past → IsNotIn n (numbers_at p (acts_of past)) → AllByRecursion (IsOther p n) (filter_map accepted_in past)
+not-accepted : (p : Place) (n : ℕ) (boxes : ℕ) (past : List Turn) → Explained boxes past → IsNotIn n (numbers_at p (acts_of past)) → AllByRecursion (IsOther p n) (filter_map accepted_in past)
 not-accepted p n boxes [] local none = tt
 not-accepted p n boxes (turn ∷ past) local none = by_packet (accepted_in turn) refl
     (not-accepted p n boxes past local.1 (fewer-not_in n (spent p (outcome boxes past turn local)) (numbers_at p (acts_of past)) (subst (λ ns. IsNotIn n ns) (turn-numbers p past turn (outcome boxes past turn local)) none)))
@@ -89,7 +89,7 @@ not-accepted p n boxes (turn ∷ past) local none = by_packet (accepted_in turn)
     by_packet (Some packet) is rest = (other packet is, rest)
 
 -- where no number of a place is used twice, no packet is accepted twice
-accepted-once : (boxes : ℕ) (past : List Turn) → Local boxes past → ((p : Place) → IsEachOnce (numbers_at p (acts_of past))) → IsEachOnce (filter_map accepted_in past)
+accepted-once : (boxes : ℕ) (past : List Turn) → Explained boxes past → ((p : Place) → IsEachOnce (numbers_at p (acts_of past))) → IsEachOnce (filter_map accepted_in past)
 accepted-once boxes [] local once = tt
 accepted-once boxes (turn ∷ past) local once = by_packet (accepted_in turn) refl
     (accepted-once boxes past local.1 (λ p. fewer-once (spent p (outcome boxes past turn local)) (numbers_at p (acts_of past)) (subst (λ ns. IsEachOnce ns) (turn-numbers p past turn (outcome boxes past turn local)) (once p))))
@@ -107,5 +107,5 @@ accepted-once boxes (turn ∷ past) local once = by_packet (accepted_in turn) re
     by_packet (Some packet) is rest = (others packet is, rest)
 
 -- no packet is accepted twice
-pub packets-once : (boxes : ℕ) (past : List Turn) (book : Book) → Local boxes past → Stands past book → IsEachOnce (filter_map accepted_in past)
+pub packets-once : (boxes : ℕ) (past : List Turn) (book : Book) → Explained boxes past → Stands past book → IsEachOnce (filter_map accepted_in past)
 packets-once boxes past book local stands = accepted-once boxes past local (numbers-once boxes past book local stands)

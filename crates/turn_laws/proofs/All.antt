@@ -17,7 +17,7 @@ use Rattle.turn_laws.proofs.Tells.{Tells, tells}
 use Rattle.turn_laws.proofs.Opened.{peer-may}
 use Rattle.turn_laws.proofs.Told.{told-held}
 use Rattle.turn_laws.proofs.Well.{deed-well}
-use Rattle.turn_laws.specs.Acts.{Calls, Ends, MayDoAll, Move, Seals, Uses, holding_at, numbers_at, acts_onto, uses_at}
+use Rattle.turn_laws.specs.Acts.{Leases, Calls, Ends, MayDoAll, Move, Seals, Uses, holding_at, numbers_at, acts_onto, uses_at}
 use Rattle.turn_laws.specs.Columns.{column_mark}
 use Rattle.turn_laws.specs.Holdings.{End, Holding, IsOwned}
 use Rattle.turn_laws.specs.Owned.{Lawful, Owned}
@@ -25,17 +25,18 @@ use Rattle.turn_laws.specs.Places.{Ours, Place, column}
 use Rattle.turn_laws.specs.Turns.{actor_of, acts_of, key_iv, moves_of, uses_of}
 use Rattle.turn_rules.specs.Ends.{Member, own}
 use Rattle.turn_rules.specs.Held.{Held, held_by, number_of, window_by}
-use Rattle.turn_rules.specs.Local.{IsExplained, Local, Stands, calls_of}
+use Rattle.turn_rules.specs.Local.{IsByRule, Explained, Stands, calls_of}
 use Rattle.turn_rules.specs.Safe.{IsEachOnce}
 
 -- the moves of a turn that is explained may be made
-pub turn-well : (boxes : ℕ) (past : List Turn) (turn : Turn) → IsExplained boxes past turn → Local boxes past → MayDoAll (acts_of past) (actor_of turn) (moves_of turn)
+pub turn-well : (boxes : ℕ) (past : List Turn) (turn : Turn) → IsByRule boxes past turn → Explained boxes past → MayDoAll (acts_of past) (actor_of turn) (moves_of turn)
 turn-well boxes past turn explained local = deed-well past (acts_of past) (told-held boxes past local) (peer-may boxes past local) turn.event turn.calls turn.step (deed-of boxes past turn explained local)
 
 use-leaves : (move : Move) → IsUseOrEnd move → LeavesBook move
 use-leaves (Calls call) is book = absurd is
 use-leaves (Uses place n) is book = refl
 use-leaves (Seals key) is book = absurd is
+use-leaves (Leases pool first count seen) is book = absurd is
 use-leaves Ends is book = refl
 
 seals-leave : (seals : List Seal) → AllByRecursion LeavesBook (map (λ seal. Seals (key_iv seal)) seals)
@@ -43,7 +44,7 @@ seals-leave [] = tt
 seals-leave (seal ∷ seals) = ((λ book. refl), seals-leave seals)
 
 -- the acts of a run
-pub lawful-run : (boxes : ℕ) (past : List Turn) (book : Book) → Local boxes past → Stands past book → Lawful (acts_of past) book
+pub lawful-run : (boxes : ℕ) (past : List Turn) (book : Book) → Explained boxes past → Stands past book → Lawful (acts_of past) book
 lawful-run boxes [] book local stands = stands
 lawful-run boxes (turn ∷ past) book local stands =
     let parts : (mid : Book) × EntersAll empty (calls_of past) mid × EntersAll mid turn.calls book = enters_all-append (calls_of past) turn.calls empty book stands in
@@ -57,29 +58,29 @@ lawful-run boxes (turn ∷ past) book local stands =
     may.1)
 
 -- all is owned
-pub owned-run : (boxes : ℕ) (past : List Turn) (book : Book) → Local boxes past → Stands past book → Owned (acts_of past) book
+pub owned-run : (boxes : ℕ) (past : List Turn) (book : Book) → Explained boxes past → Stands past book → Owned (acts_of past) book
 owned-run boxes past book local stands = owned-lawful (acts_of past) book (lawful-run boxes past book local stands)
 
-pub numbers-once : (boxes : ℕ) (past : List Turn) (book : Book) → Local boxes past → Stands past book → (p : Place) → IsEachOnce (numbers_at p (acts_of past))
+pub numbers-once : (boxes : ℕ) (past : List Turn) (book : Book) → Explained boxes past → Stands past book → (p : Place) → IsEachOnce (numbers_at p (acts_of past))
 numbers-once boxes past book local stands p = ((owned-run boxes past book local stands).numbers p).once
 
-pub counters-once : (boxes : ℕ) (past : List Turn) (book : Book) → Local boxes past → Stands past book → (spir : ℕ) (c : Counter) → IsEachOnce (filter_map (number_of spir c) past)
+pub counters-once : (boxes : ℕ) (past : List Turn) (book : Book) → Explained boxes past → Stands past book → (spir : ℕ) (c : Counter) → IsEachOnce (filter_map (number_of spir c) past)
 counters-once boxes past book local stands spir c = counters-hold (λ ns. IsEachOnce ns) tt boxes past local spir c (numbers-once boxes past book local stands (Ours spir c))
 
 -- what a member's own turns say that it holds is its holding at each counter
-held-tells : (boxes : ℕ) (past : List Turn) → Local boxes past → (member spir : ℕ) (held : Held) → held_by (window_by past) (own (Member member) past) spir ≡ Some held → (c : Counter) → (h : Holding) × Tells (own (Member member) past) spir c held h × (holding_at (Ours spir c) (acts_of past) (End (Member member)) ≡ Some h)
+held-tells : (boxes : ℕ) (past : List Turn) → Explained boxes past → (member spir : ℕ) (held : Held) → held_by (window_by past) (own (Member member) past) spir ≡ Some held → (c : Counter) → (h : Holding) × Tells (own (Member member) past) spir c held h × (holding_at (Ours spir c) (acts_of past) (End (Member member)) ≡ Some h)
 held-tells boxes past local member spir held is c =
     let so : (h : Holding) × Tells (own (Member member) past) spir c held h = tells (window_by past) (own (Member member) past) spir c held is in
     (so.0, so.1, sym (told-held boxes past local member spir c) ∙ so.1.told_so)
 
-module _ (boxes : ℕ) (past : List Turn) (book : Book) (local : Local boxes past) (stands : Stands past book) (m k spir : ℕ) (h g : Held) (holds : held_by (window_by past) (own (Member m) past) spir ≡ Some h) (other : held_by (window_by past) (own (Member k) past) spir ≡ Some g) where
+module _ (boxes : ℕ) (past : List Turn) (book : Book) (local : Explained boxes past) (stands : Stands past book) (m k spir : ℕ) (h g : Held) (holds : held_by (window_by past) (own (Member m) past) spir ≡ Some h) (other : held_by (window_by past) (own (Member k) past) spir ≡ Some g) where
   of_m : (c : Counter) → (x : Holding) × Tells (own (Member m) past) spir c h x × (holding_at (Ours spir c) (acts_of past) (End (Member m)) ≡ Some x)
   of_m c = held-tells boxes past local m spir h holds c
 
   of_k : (c : Counter) → (x : Holding) × Tells (own (Member k) past) spir c g x × (holding_at (Ours spir c) (acts_of past) (End (Member k)) ≡ Some x)
   of_k c = held-tells boxes past local k spir g other c
 
-  owned_at : (c : Counter) → IsOwned (holding_at (Ours spir c) (acts_of past)) (uses_at (Ours spir c) (acts_of past)) (column (Ours spir c) book)
+  owned_at : (c : Counter) → IsOwned (holding_at (Ours spir c) (acts_of past)) (uses_at (Ours spir c) (acts_of past)) (column (Ours spir c) [] book)
   owned_at c = (owned-run boxes past book local stands).numbers (Ours spir c)
 
   -- two members that hold an association hold different epochs
@@ -97,9 +98,9 @@ module _ (boxes : ℕ) (past : List Turn) (book : Book) (local : Local boxes pas
   highs-below earlier c =
       let a = of_m c in
       let b = of_k c in
-      let below : a.0.high ≤ column_mark (column (Ours spir c) book) a.0.epoch = ((owned_at c).holdings (End (Member m)) a.0 a.2).high in
-      let rises : column_mark (column (Ours spir c) book) a.0.epoch ≤ column_mark (column (Ours spir c) book) (b.0.epoch - 1) = (owned_at c).rising a.0.epoch (b.0.epoch - 1) (let p : a.0.epoch ≡ h.epoch = a.1.epoch in let q : b.0.epoch ≡ g.epoch = b.1.epoch in omega arith) in
-      let base : column_mark (column (Ours spir c) book) (b.0.epoch - 1) ≡ b.0.base = ((owned_at c).holdings (End (Member k)) b.0 b.2).base in
+      let below : a.0.high ≤ column_mark (column (Ours spir c) [] book) a.0.epoch = ((owned_at c).holdings (End (Member m)) a.0 a.2).high in
+      let rises : column_mark (column (Ours spir c) [] book) a.0.epoch ≤ column_mark (column (Ours spir c) [] book) (b.0.epoch - 1) = (owned_at c).rising a.0.epoch (b.0.epoch - 1) (let p : a.0.epoch ≡ h.epoch = a.1.epoch in let q : b.0.epoch ≡ g.epoch = b.1.epoch in omega arith) in
+      let base : column_mark (column (Ours spir c) [] book) (b.0.epoch - 1) ≡ b.0.base = ((owned_at c).holdings (End (Member k)) b.0 b.2).base in
       let high : a.0.high ≡ five_at h.highs c = a.1.high in
       let low : b.0.base ≡ five_at g.bases c = b.1.base in
       omega arith

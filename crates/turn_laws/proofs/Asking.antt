@@ -1,7 +1,8 @@
 -- Each event that is refused, or makes one call that asks for no number, is a deed.
-use Rattle.std.proofs.Common.{◌≡◌, ℕ, ◌==◌, Bool, true, false, Option, Some, None, MatchOption, List, [], ◌∷◌, refl, ap, sym, ◌∙◌, subst, if◌then◌else◌}
+use Rattle.std.proofs.Common.{◌≡◌, ℕ, ◌==◌, ◌&&◌, Bool, true, false, Option, Some, None, MatchOption, List, [], ◌∷◌, refl, ap, sym, ◌∙◌, subst, if◌then◌else◌}
 use Rattle.std.proofs.lemmas.Option.{same_Some}
-use Rattle.std.proofs.lemmas.Bool.{eqb-true}
+use Rattle.std.proofs.lemmas.Bool.{eqb-true, leb-true}
+use Rattle.std.specs.Prelude.{nat_le, nat_lt}
 use Rattle.events.specs.declared.event.Event.{Event}
 use Rattle.events.specs.declared.event.Event.TheVariants as event
 use Rattle.events.specs.declared.event.Party.TheVariants as parties
@@ -10,6 +11,7 @@ use Rattle.events.specs.declared.turn.Turn.{Turn}
 use Rattle.events.specs.declared.verdict.Refusal.{Refusal}
 use Rattle.events.specs.declared.verdict.Verdict.{Verdict}
 use Rattle.events.specs.declared.verdict.Verdict.TheVariants as out
+use Rattle.ha_base.specs.declared.limits.TheConstants.{LEAST_ESP_SPI, LEAST_SPI}
 use Rattle.keeper_book.specs.Told.{seen}
 use Rattle.keeper_book.specs.declared.calls.Call.{Call}
 use Rattle.keeper_book.specs.declared.calls.KeeperAnswer.{KeeperAnswer}
@@ -19,9 +21,9 @@ use Rattle.keeper_book.specs.declared.records.Record.{Record}
 use Rattle.keeper_book.specs.declared.records.Taken.{Taken}
 use Rattle.turn_laws.specs.PeerTurns.{came}
 use Rattle.turn_laws.proofs.Deeds.{says-rests, Asked, Deed, IsIdle, Rested}
-use Rattle.turn_laws.specs.Acts.{entered_at}
+use Rattle.turn_laws.specs.Acts.{IsImport, entered_at}
 use Rattle.turn_rules.specs.Draws.{Admits, EntersRecord, Grants, TakesOver, refusal_of_import, refusal_of_takeover}
-use Rattle.turn_rules.specs.Fits.{Quietly, Refuses, Yields}
+use Rattle.turn_rules.specs.Fits.{Quietly, Refuses, Yields, is_importable}
 use Rattle.turn_rules.specs.Held.{granted}
 use Rattle.turn_rules.specs.Peers.{record_entered}
 
@@ -69,6 +71,18 @@ grants-record spir member (answer.Taken t) verdict g other taken is = by_test (s
     by_test true e is = subst (λ (x : Taken). x.sa.spir ≡ other) (same_Some t taken is) (g.0 ∙ eqb-true spir other e)
     by_test false e is = absurd (cc)
 
+second-third : (a b c d e f g : Bool) → (a && b && c && d && e && f && g) ≡ true → (b ≡ true) × (c ≡ true)
+second-third true true true d e f g is = (refl, refl)
+second-third true true false d e f g is = absurd (cc)
+second-third true false c d e f g is = absurd (cc)
+second-third false b c d e f g is = absurd (cc)
+
+-- the SPIs of what the run lets be imported
+importable-is : (sa : Record) → is_importable sa ≡ true → IsImport sa
+importable-is sa is =
+    let parts = second-third (nat_le LEAST_SPI sa.spii) (nat_le LEAST_SPI sa.spir) (nat_le LEAST_ESP_SPI sa.spi_in) (nat_le LEAST_ESP_SPI sa.spi_out) (nat_lt 0 sa.starts.esp_out) (nat_lt 0 sa.starts.esp_in) (nat_lt 0 sa.starts.iv) is in
+    record { spir = leb-true LEAST_SPI sa.spir parts.0; spi_in = leb-true LEAST_ESP_SPI sa.spi_in parts.1 }
+
 module _ (past : List Turn) (step : Step) where
   pub refused-deed : (event : Event) (calls : List Call) (why : Refusal) → Refuses why calls step → Deed past event calls step
   refused-deed event calls why r = Rested r.no_calls (says-rests step (out.Refused why) tt r.says) (ap (record_entered event) r.says.said ∙ refused-entry event why)
@@ -76,8 +90,8 @@ module _ (past : List Turn) (step : Step) where
   pub yields-deed : (event : Event) (calls : List Call) (verdict : Verdict) → IsIdle verdict → record_entered event verdict ≡ None → Yields verdict calls step → Deed past event calls step
   yields-deed event calls verdict idle none y = Rested y.no_calls (says-rests step verdict idle y.says) (ap (record_entered event) y.says.said ∙ none)
 
-  pub enters-deed : (sa : Record) (calls : List Call) → Quietly (EntersRecord sa) calls step → Deed past (event.Import sa) calls step
-  enters-deed sa calls quietly = go calls quietly.follows
+  pub enters-deed : (sa : Record) (calls : List Call) → is_importable sa ≡ true → Quietly (EntersRecord sa) calls step → Deed past (event.Import sa) calls step
+  enters-deed sa calls importable quietly = go calls quietly.follows
     where
       go : (calls : List Call) → EntersRecord sa calls step.verdict → Deed past (event.Import sa) calls step
       go [] e = absurd e
@@ -85,7 +99,7 @@ module _ (past : List Turn) (step : Step) where
       go (call ∷ []) e = Asked (record {
         call = call;
         one = refl;
-        may = λ acts w. rw e.0 tt;
+        may = λ acts w. rw e.0 (importable-is sa importable);
         own_record = λ spir taken is. absurd (not_granted spir taken (rw e.0 at is));
         entry = λ spir. ap (λ asked. entered_at spir asked (seen call)) e.0 ∙ admits-entry sa spir (seen call) step.verdict e.1;
         rests = record { idle = admits-idle (seen call) step.verdict e.1; quiet = quietly.quiet };

@@ -23,7 +23,8 @@ use Rattle.turn_laws.proofs.Entries.{entry_after, entry-entered, five_at-with_fi
 use Rattle.turn_laws.specs.Acts.{holding_begun, begun_theirs}
 use Rattle.turn_laws.specs.Columns.{ColumnGoesOn, IsRising, column_mark}
 use Rattle.turn_laws.specs.Holdings.{Actor, Holding, IsNew}
-use Rattle.turn_laws.specs.Places.{Ours, Place, Theirs, column, column_ours, column_theirs}
+use Rattle.turn_laws.proofs.Pools.{pool-entered}
+use Rattle.turn_laws.specs.Places.{Ours, Place, Pooled, Theirs, column, column_ours, column_theirs, pool_end}
 use Rattle.turn_rules.specs.Held.{first_some}
 
 -- the book is as it was, or has the entry of a call that is not refused
@@ -44,15 +45,16 @@ answers-entry old new asked (answer.Refused fault.Memory) a = inl a.2
 answers-entry old new asked answered a = after-entry old new asked a.1
 
 module _ (old : Book) (asked : KeeperAsk) where
-  column-entered : (p : Place) → IsRising (column p old) → ColumnGoesOn (column p old) (column p (book_entered old asked))
-  column-entered (Ours spir c) rising = subst (λ o. ColumnGoesOn (column (Ours spir c) old) (column_ours c o)) (sym (entry-entered spir old asked)) (goes_on-ours c spir asked (entry_of spir old.entries) rising)
-  column-entered (Theirs spir c) rising = subst (λ o. ColumnGoesOn (column (Theirs spir c) old) (column_theirs c o)) (sym (entry-entered spir old asked)) (goes_on-theirs c spir asked (entry_of spir old.entries) rising)
+  column-entered : (p : Place) (lots : List ℕ) → IsRising (column p lots old) → ColumnGoesOn (column p lots old) (column p lots (book_entered old asked))
+  column-entered (Ours spir c) lots rising = subst (λ o. ColumnGoesOn (column (Ours spir c) [] old) (column_ours c o)) (sym (entry-entered spir old asked)) (goes_on-ours c spir asked (entry_of spir old.entries) rising)
+  column-entered (Theirs spir c) lots rising = subst (λ o. ColumnGoesOn (column (Theirs spir c) [] old) (column_theirs c o)) (sym (entry-entered spir old asked)) (goes_on-theirs c spir asked (entry_of spir old.entries) rising)
+  column-entered (Pooled q) lots rising = subst (λ n. ColumnGoesOn (column (Pooled q) lots old) (record { bases = lots; high = n; end = pool_end q })) (sym (pool-entered q old asked)) (goes_on-refl (column (Pooled q) lots old) rising)
 
 -- Whatever a call is answered, every column goes on.
-pub column-goes_on : (old new : Book) (asked : KeeperAsk) (answered : KeeperAnswer) → Answers old asked answered new → (p : Place) → IsRising (column p old) → ColumnGoesOn (column p old) (column p new)
-column-goes_on old new asked answered a p rising = ⊎_elim
-    (λ same. subst (λ b. ColumnGoesOn (column p old) (column p b)) (sym same) (goes_on-refl (column p old) rising))
-    (λ has. subst (λ b. ColumnGoesOn (column p old) (column p b)) (sym has.is) (column-entered old asked p rising))
+pub column-goes_on : (old new : Book) (asked : KeeperAsk) (answered : KeeperAnswer) → Answers old asked answered new → (p : Place) (lots : List ℕ) → IsRising (column p lots old) → ColumnGoesOn (column p lots old) (column p lots new)
+column-goes_on old new asked answered a p lots rising = ⊎_elim
+    (λ same. subst (λ b. ColumnGoesOn (column p lots old) (column p lots b)) (sym same) (goes_on-refl (column p lots old) rising))
+    (λ has. subst (λ b. ColumnGoesOn (column p lots old) (column p lots b)) (sym has.is) (column-entered old asked p lots rising))
     (answers-entry old new asked answered a)
 
 -- what a takeover that was granted shows
@@ -110,10 +112,10 @@ after-granted old new asked granted is = is ∙ ap (λ r. unless_refused r (λ w
 
 module _ (old new : Book) (held : Actor → Option Holding) (w : Actor) where
   -- a takeover that was granted begins a holding of a new epoch
-  pub keeps-taken : (spir : ℕ) (c : Counter) (member : ℕ) (taken : Taken) → Answers old (ask.TakeOver spir member) (answer.Taken taken) new → IsNew (column (Ours spir c) old) (column (Ours spir c) new) (holding_begun c taken)
+  pub keeps-taken : (spir : ℕ) (c : Counter) (member : ℕ) (taken : Taken) → Answers old (ask.TakeOver spir member) (answer.Taken taken) new → IsNew (column (Ours spir c) [] old) (column (Ours spir c) [] new) (holding_begun c taken)
   keeps-taken spir c member taken a = go (shows-taken taken (entry_of spir old.entries) (refusal old (ask.TakeOver spir member)) a.0)
     where
-      go : ShowsTaken taken (entry_of spir old.entries) (refusal old (ask.TakeOver spir member)) → IsNew (column (Ours spir c) old) (column (Ours spir c) new) (holding_begun c taken)
+      go : ShowsTaken taken (entry_of spir old.entries) (refusal old (ask.TakeOver spir member)) → IsNew (column (Ours spir c) [] old) (column (Ours spir c) [] new) (holding_begun c taken)
       go shows =
           let here : (spir == spir) ≡ true = eq-eqb spir spir refl in
           let now : entry_of spir new.entries ≡ Some (taken_over member shows.entry) =
@@ -121,13 +123,13 @@ module _ (old new : Book) (held : Actor → Option Holding) (w : Actor) where
           ∙ (entry-entered spir old (ask.TakeOver spir member)
           ∙ (ap (λ b. if b then option_map (taken_over member) (entry_of spir old.entries) else entry_of spir old.entries) here
           ∙ ap (option_map (taken_over member)) shows.found)) in
-          subst (λ o. IsNew (column (Ours spir c) old) (column_ours c o) (holding_begun c taken)) (sym now)
+          subst (λ o. IsNew (column (Ours spir c) [] old) (column_ours c o) (holding_begun c taken)) (sym now)
           (subst (λ o. IsNew (column_ours c o) (column_ours c (Some (taken_over member shows.entry))) (holding_begun c taken)) (sym shows.found)
           (subst (λ t. IsNew (column_ours c (Some shows.entry)) (column_ours c (Some (taken_over member shows.entry))) (holding_begun c t)) (sym shows.is)
           (new-taken_over c member shows.entry)))
 
   -- an association that was entered begins what the peer holds
-  pub keeps-entered : (sa : Record) (c : Counter) → Answers old (ask.Enter sa) answer.Done new → IsNew (column (Theirs sa.spir c) old) (column (Theirs sa.spir c) new) (begun_theirs c sa)
+  pub keeps-entered : (sa : Record) (c : Counter) → Answers old (ask.Enter sa) answer.Done new → IsNew (column (Theirs sa.spir c) [] old) (column (Theirs sa.spir c) [] new) (begun_theirs c sa)
   keeps-entered sa c a =
       let granted : refusal old (ask.Enter sa) ≡ None = shows-done (refusal old (ask.Enter sa)) a.0 in
       let was : entry_of sa.spir old.entries ≡ None = shows-entered sa old.entries granted in
@@ -137,16 +139,16 @@ module _ (old new : Book) (held : Actor → Option Holding) (w : Actor) where
       ∙ (entry-entered sa.spir old (ask.Enter sa)
       ∙ (ap (λ o. first_some o (if sa.spir == sa.spir then Some (fresh sa) else None)) was
       ∙ ap (λ b. if b then Some (fresh sa) else None) here)) in
-      subst (λ o. IsNew (column (Theirs sa.spir c) old) (column_theirs c o) (begun_theirs c sa)) (sym now)
+      subst (λ o. IsNew (column (Theirs sa.spir c) [] old) (column_theirs c o) (begun_theirs c sa)) (sym now)
       (subst (λ o. IsNew (column_theirs c o) (column_theirs c (Some (fresh sa))) (begun_theirs c sa)) (sym was) (new-theirs c sa))
 
   -- a cover that was granted leaves no lower high
-  pub keeps-covered : (spir : ℕ) (c : Counter) (asked : KeeperAsk) (named : Option Counter) (epoch upto : ℕ) → refusal old asked ≡ cover_refusal (entry_of spir old.entries) named epoch → named ≡ Some c → entry_after spir asked (entry_of spir old.entries) ≡ option_map (raised_at named upto) (entry_of spir old.entries) → upto ≤ (column (Ours spir c) old).end → answer.Done ≡ unless_refused (refusal old asked) answer.Refused answer.Done → new ≡ book_after old asked → upto ≤ column_mark (column (Ours spir c) new) epoch
+  pub keeps-covered : (spir : ℕ) (c : Counter) (asked : KeeperAsk) (named : Option Counter) (epoch upto : ℕ) → refusal old asked ≡ cover_refusal (entry_of spir old.entries) named epoch → named ≡ Some c → entry_after spir asked (entry_of spir old.entries) ≡ option_map (raised_at named upto) (entry_of spir old.entries) → upto ≤ (column (Ours spir c) [] old).end → answer.Done ≡ unless_refused (refusal old asked) answer.Refused answer.Done → new ≡ book_after old asked → upto ≤ column_mark (column (Ours spir c) [] new) epoch
   keeps-covered spir c asked named epoch upto refused is edits below answered enters =
       let granted : refusal old asked ≡ None = shows-done (refusal old asked) answered in
       go granted (shows-covered (entry_of spir old.entries) named epoch (sym refused ∙ granted))
     where
-      go : refusal old asked ≡ None → ShowsCovered (entry_of spir old.entries) named epoch → upto ≤ column_mark (column (Ours spir c) new) epoch
+      go : refusal old asked ≡ None → ShowsCovered (entry_of spir old.entries) named epoch → upto ≤ column_mark (column (Ours spir c) [] new) epoch
       go granted shows =
           let inside : upto ≤ end_of shows.entry.sa c = subst (λ o. upto ≤ (column_ours c o).end) shows.found below in
           let now : entry_of spir new.entries ≡ Some (entry_raised c upto shows.entry) =

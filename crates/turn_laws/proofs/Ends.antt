@@ -1,5 +1,5 @@
 -- No number reaches the end of its counter, whatever the keeper's book is.
-use Rattle.std.proofs.Common.{◌≡◌, ℕ, ◌<◌, ◌≤◌, ◌==◌, ◌&&◌, Bool, true, false, Option, Some, None, MatchOption, List, [], ◌∷◌, ◌++◌, map, refl, ap, sym, ◌∙◌, subst, arith, if◌then◌else◌}
+use Rattle.std.proofs.Common.{◌≡◌, ℕ, ◌+◌, length, ◌<◌, ◌≤◌, ◌==◌, ◌&&◌, Bool, true, false, Option, Some, None, MatchOption, List, [], ◌∷◌, ◌++◌, map, refl, ap, sym, ◌∙◌, subst, arith, if◌then◌else◌}
 use Rattle.std.proofs.lemmas.Bool.{and_parts, eqb-true}
 use Rattle.std.proofs.lemmas.Option.{same_Some}
 use Rattle.std.specs.List.{AllByRecursion, filter_map}
@@ -25,12 +25,12 @@ use Rattle.turn_laws.proofs.Lists.{all-append, all-both, all-each}
 use Rattle.turn_laws.proofs.Moves.{IsUseOrEnd, are-uses}
 use Rattle.turn_laws.proofs.Numbers.{counters-hold}
 use Rattle.turn_laws.proofs.Safety.{failed_effect, is_place-true, named-counter}
-use Rattle.turn_laws.specs.Acts.{Act, Calls, Ends, HoldsFor, MayAsk, MayCover, MayDo, MayDoAll, Move, Seals, Uses, acts_onto, effect_of, effect_of_call, effect_of_use, effect_ours, effect_theirs, holding_at, numbers_at, uses_at}
-use Rattle.turn_laws.specs.Holdings.{Actor, Begins, Draws, Effect, Holding, Nothing, Rises, Use, drawn, holding_after, is_actor, raised_to, use_end, uses_after}
-use Rattle.turn_laws.specs.Places.{Ours, Place, Theirs, column, end_at, is_place, place_of}
+use Rattle.turn_laws.specs.Acts.{Leases, effect_of_lease, lot_begun, lots_at, Act, Calls, Ends, HoldsFor, MayAsk, MayCover, MayDo, MayDoAll, Move, Seals, Uses, acts_onto, effect_of, effect_of_call, effect_of_use, effect_ours, effect_theirs, holding_at, numbers_at, uses_at}
+use Rattle.turn_laws.specs.Holdings.{Passes, Actor, Begins, Draws, Effect, Holding, Nothing, Rises, Use, drawn, holding_after, is_actor, raised_to, use_end, uses_after}
+use Rattle.turn_laws.specs.Places.{NumberPool, Pooled, is_pool, pool_end, Ours, Place, Theirs, column, end_at, is_place, place_of}
 use Rattle.turn_laws.specs.Turns.{actor_of, acts_of, key_iv, moves_of, uses_of}
 use Rattle.turn_rules.specs.Held.{is_named, number_of}
-use Rattle.turn_rules.specs.Local.{Local, Stands}
+use Rattle.turn_rules.specs.Local.{Explained, Stands}
 
 -- what ends hold does not pass the counter's end, and what was used lies below it
 abbrev HighsWithin : (Actor → Option Holding) → Type 0
@@ -44,6 +44,7 @@ abbrev KeepsEnds : Effect → (Actor → Option Holding) → Type 0
 KeepsEnds Nothing held = Unit {0}
 KeepsEnds (Begins w h) held = h.high ≤ h.end
 KeepsEnds (Rises w upto) held = (h : Holding) → held w ≡ Some h → upto ≤ h.end
+KeepsEnds (Passes w v) held = Unit {0}
 KeepsEnds (Draws w n) held = (h : Holding) × (held w ≡ Some h) × (n < h.high)
 
 highs-after : (held : Actor → Option Holding) (e : Effect) → HighsWithin held → KeepsEnds e held → HighsWithin (holding_after e held)
@@ -65,6 +66,12 @@ highs-after held (Rises w upto) within keeps v g is = by_test (is_actor w v) ref
     by_test : (b : Bool) → is_actor w v ≡ b → (if b then option_map (raised_to upto) (held v) else held v) ≡ Some g → g.high ≤ g.end
     by_test true t is = raised (held v) refl (ap held (is_actor-true w v t)) is
     by_test false t is = within v g is
+highs-after held (Passes w u) within keeps v g is = by_test (is_actor u v) (is_actor w v) is
+  where
+    by_test : (b c : Bool) → (if b then held w else (if c then None else held v)) ≡ Some g → g.high ≤ g.end
+    by_test true c is = within w g is
+    by_test false true is = absurd (cc)
+    by_test false false is = within v g is
 highs-after held (Draws w n) within keeps v g is = by_test (is_actor w v) is
   where
     used : (x : Option Holding) → held v ≡ x → option_map (drawn n) x ≡ Some g → g.high ≤ g.end
@@ -122,7 +129,7 @@ module _ (acts : List Act) (w : Actor) where
       by_test false = tt
   ends-answered p asked answered may is = tt
 
-  ends-call : (p : Place) (call : Call) → MayAsk acts w call.asked → IsAnswerOf call.asked call.answer → KeepsEnds (effect_of p w (Calls call)) (holding_at p acts)
+  ends-call : (p : Place) (call : Call) → MayAsk acts w call.asked → IsAnswerOf call.asked call.answer → KeepsEnds (effect_of_call p w call.asked (seen call)) (holding_at p acts)
   ends-call p call may is = by_test call.hidden refl
     where
       by_test : (b : Bool) → call.hidden ≡ b → KeepsEnds (effect_of_call p w call.asked (seen call)) (holding_at p acts)
@@ -142,10 +149,21 @@ module _ (acts : List Act) (w : Actor) where
   ends-seal p None n may = tt
   ends-seal p (Some q) n may = ends-use p q n may
 
-  ends-move : (p : Place) (move : Move) → MayDo acts w move → IsAnswered move → KeepsEnds (effect_of p w move) (holding_at p acts)
+  ends-lease : (p : Place) (lots : List ℕ) (pool : NumberPool) (first count : ℕ) (seen : Bool) → first + count ≤ pool_end pool → KeepsEnds (effect_of_lease p lots w pool first count seen) (holding_at p acts)
+  ends-lease (Ours spir c) lots pool first count seen below = tt
+  ends-lease (Theirs spir c) lots pool first count seen below = tt
+  ends-lease (Pooled q) lots pool first count false below = tt
+  ends-lease (Pooled q) lots pool first count true below = by_test (is_pool pool q)
+    where
+      by_test : (b : Bool) → KeepsEnds (if b then Begins w (lot_begun (length lots) pool first count) else Nothing) (holding_at (Pooled q) acts)
+      by_test true = below
+      by_test false = tt
+
+  ends-move : (p : Place) (move : Move) → MayDo acts w move → IsAnswered move → KeepsEnds (effect_of p (lots_at p acts) w move) (holding_at p acts)
   ends-move p (Calls call) may is = ends-call p call may is
   ends-move p (Uses q n) may is = ends-use p q n may
   ends-move p (Seals key) may is = ends-seal p (place_of key.name) key.iv may
+  ends-move p (Leases pool first count seen) may is = ends-lease p (lots_at p acts) pool first count seen may
   ends-move p Ends may is = tt
 
 -- so it is after these acts
@@ -156,10 +174,10 @@ record WithinEnds (p : Place) (acts : List Act) : Type 0 where
 moves-within : (p : Place) (w : Actor) (moves : List Move) (acts : List Act) → MayDoAll acts w moves → AllByRecursion IsAnswered moves → WithinEnds p acts → WithinEnds p (acts_onto w moves acts)
 moves-within p w [] acts may answered within = within
 moves-within p w (move ∷ moves) acts may answered within =
-    let keeps : KeepsEnds (effect_of p w move) (holding_at p acts) = ends-move acts w p move may.0 answered.0 in
+    let keeps : KeepsEnds (effect_of p (lots_at p acts) w move) (holding_at p acts) = ends-move acts w p move may.0 answered.0 in
     moves-within p w moves (record { by = w; move = move } ∷ acts) may.1 answered.1 (record {
-      highs = highs-after (holding_at p acts) (effect_of p w move) within.highs keeps;
-      uses = below-after (holding_at p acts) (uses_at p acts) (effect_of p w move) within.highs keeps within.uses;
+      highs = highs-after (holding_at p acts) (effect_of p (lots_at p acts) w move) within.highs keeps;
+      uses = below-after (holding_at p acts) (uses_at p acts) (effect_of p (lots_at p acts) w move) within.highs keeps within.uses;
     })
 
 -- the calls of a turn are answered so
@@ -171,13 +189,14 @@ use-answered : (move : Move) → IsUseOrEnd move → IsAnswered move
 use-answered (Calls call) is = absurd is
 use-answered (Uses place n) is = tt
 use-answered (Seals key) is = tt
+use-answered (Leases pool first count seen) is = absurd is
 use-answered Ends is = tt
 
 seals-answered : (seals : List Seal) → AllByRecursion IsAnswered (map (λ seal. Seals (key_iv seal)) seals)
 seals-answered [] = tt
 seals-answered (seal ∷ seals) = (tt, seals-answered seals)
 
-within-run : (boxes : ℕ) (past : List Turn) → Local boxes past → (p : Place) → WithinEnds p (acts_of past)
+within-run : (boxes : ℕ) (past : List Turn) → Explained boxes past → (p : Place) → WithinEnds p (acts_of past)
 within-run boxes [] local p = record { highs = λ w h is. absurd (none p w h is); uses = no_use p }
   where
     none : (p : Place) (w : Actor) (h : Holding) → holding_at p [] w ≡ Some h → ⊥
@@ -193,7 +212,7 @@ within-run boxes (turn ∷ past) local p = moves-within p (actor_of turn) (moves
     (within-run boxes past local.1 p)
 
 -- no number reaches its counter's end, as the record gives it under which the number was used
-pub uses-end : (boxes : ℕ) (past : List Turn) → Local boxes past → (p : Place) → AllByRecursion IsBelowEnd (uses_at p (acts_of past))
+pub uses-end : (boxes : ℕ) (past : List Turn) → Explained boxes past → (p : Place) → AllByRecursion IsBelowEnd (uses_at p (acts_of past))
 uses-end boxes past local p = (within-run boxes past local p).uses
 
 -- and an honest book gives the same end
@@ -201,10 +220,15 @@ numbers-below : (end : ℕ) (uses : List Use) → AllByRecursion (λ u. u.number
 numbers-below end [] all = tt
 numbers-below end (u ∷ us) all = (all.0, numbers-below end us all.1)
 
-pub numbers-end : (boxes : ℕ) (past : List Turn) (book : Book) → Local boxes past → Stands past book → (p : Place) → AllByRecursion (λ n. n < end_at p book) (numbers_at p (acts_of past))
+end-same : (p : Place) (lots : List ℕ) (book : Book) → (column p lots book).end ≡ end_at p book
+end-same (Ours spir c) lots book = refl
+end-same (Theirs spir c) lots book = refl
+end-same (Pooled q) lots book = refl
+
+pub numbers-end : (boxes : ℕ) (past : List Turn) (book : Book) → Explained boxes past → Stands past book → (p : Place) → AllByRecursion (λ n. n < end_at p book) (numbers_at p (acts_of past))
 numbers-end boxes past book local stands p = numbers-below (end_at p book) (uses_at p (acts_of past))
-    (all-both (uses_at p (acts_of past)) (λ u of below. let a : u.end ≡ (column p book).end = of.end in let b : u.number < u.end = below in let c : u.number < end_at p book = omega arith in c)
+    (all-both (uses_at p (acts_of past)) (λ u of below. let a : u.end ≡ end_at p book = of.end ∙ end-same p (lots_at p (acts_of past)) book in let b : u.number < u.end = below in let c : u.number < end_at p book = omega arith in c)
     ((owned-run boxes past book local stands).numbers p).within (uses-end boxes past local p))
 
-pub counters-end : (boxes : ℕ) (past : List Turn) (book : Book) → Local boxes past → Stands past book → (spir : ℕ) (c : Counter) → AllByRecursion (λ n. n < end_at (Ours spir c) book) (filter_map (number_of spir c) past)
+pub counters-end : (boxes : ℕ) (past : List Turn) (book : Book) → Explained boxes past → Stands past book → (spir : ℕ) (c : Counter) → AllByRecursion (λ n. n < end_at (Ours spir c) book) (filter_map (number_of spir c) past)
 counters-end boxes past book local stands spir c = counters-hold (λ ns. AllByRecursion (λ n. n < end_at (Ours spir c) book) ns) tt boxes past local spir c (numbers-end boxes past book local stands (Ours spir c))

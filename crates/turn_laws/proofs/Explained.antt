@@ -21,7 +21,7 @@ use Rattle.turn_laws.proofs.Sending.{peer_sends-deed, sends-deed}
 use Rattle.turn_rules.specs.Datagrams.{PlainDatagram, arrives}
 use Rattle.turn_rules.specs.Draws.{EntersRecord}
 use Rattle.turn_rules.specs.Ends.{Member, own}
-use Rattle.turn_rules.specs.Fits.{Does, DrawsOf, Performs, Quietly, Receives, Refuses, Refusing, SendsOf, run_refusal}
+use Rattle.turn_rules.specs.Fits.{Does, DrawsOf, Performs, Quietly, Receives, Refuses, Refusing, SendsOf, is_importable, refused_where, run_refusal}
 use Rattle.turn_rules.specs.Held.{Held, held_by, window_by}
 use Rattle.turn_rules.specs.Peers.{admits}
 use Rattle.turn_rules.specs.Slots.{records}
@@ -35,9 +35,9 @@ module _ (boxes : ℕ) (past : List Turn) (own_spir : (member spir : ℕ) (held 
   refused : (event : Event) (why : Refusal) → Refuses why calls step → Deed past event calls step
   refused event why r = refused-deed past step event calls why r
 
-  imported : (sa : Record) (b : Bool) → Refusing b refusal.SpiInUse calls step (Quietly (EntersRecord sa) calls step) → Deed past (event.Import sa) calls step
-  imported sa true r = refused (event.Import sa) refusal.SpiInUse r
-  imported sa false quietly = enters-deed past step sa calls quietly
+  imported : (sa : Record) → is_importable sa ≡ true → (b : Bool) → Refusing b refusal.SpiInUse calls step (Quietly (EntersRecord sa) calls step) → Deed past (event.Import sa) calls step
+  imported sa importable true r = refused (event.Import sa) refusal.SpiInUse r
+  imported sa importable false quietly = enters-deed past step sa calls importable quietly
 
   drawn : (member spir : ℕ) (x : Option Held) → state.held member spir ≡ x → DrawsOf x calls step → Deed past (event.Draw member spir) calls step
   drawn member spir None e r = refused (event.Draw member spir) refusal.NotOwner r
@@ -57,24 +57,32 @@ module _ (boxes : ℕ) (past : List Turn) (own_spir : (member spir : ℕ) (held 
   received event (parties.Member member) brings (Ok datagram) takes =
       member_takes-deed boxes past own_spir event calls step takes.quiet takes.answer takes.after takes.worded member brings datagram.octets takes.receives
 
-  performed : (event : Event) → Performs state event calls step → Deed past event calls step
-  performed (event.Cluster identity lifetime window ticket_key) y = yields-deed past step (event.Cluster identity lifetime window ticket_key) calls out.Configured tt refl y
-  performed (event.Import sa) p = imported sa (not (admits (records state.slots) sa)) p
-  performed (event.Join fresh) y = yields-deed past step (event.Join fresh) calls (out.Member _) tt refl y
-  performed (event.Own member spir) quietly = takes_over-deed past step member spir calls quietly
-  performed (event.Draw member spir) draws = drawn member spir (state.held member spir) refl draws
-  performed (event.Crash member) y = Ended member (let said : _ = y.says.said in rw said refl) y.no_calls y.says.said refl y.says.quiet
-  performed (event.Send parties.Peer spir payload) sends = peer_sends-deed past step spir payload calls sends.0 sends.1
-  performed (event.Send (parties.Member member) spir payload) sends = sent member spir payload (state.held member spir) refl sends
-  performed (event.Deliver which to) r = received (event.Deliver which to) to (record { performs = λ verdict. refl; receives = λ spir verdict. refl; uses_none = λ spir verdict. refl; sends_none = λ spir verdict. refl; no_entry = λ verdict. refl }) (arrives state.datagrams (event.Deliver which to)) r
-  performed (event.Alter which to place octet) r = received (event.Alter which to place octet) to (record { performs = λ verdict. refl; receives = λ spir verdict. refl; uses_none = λ spir verdict. refl; sends_none = λ spir verdict. refl; no_entry = λ verdict. refl }) (arrives state.datagrams (event.Alter which to place octet)) r
-  performed (event.Cut which to keep) r = received (event.Cut which to keep) to (record { performs = λ verdict. refl; receives = λ spir verdict. refl; uses_none = λ spir verdict. refl; sends_none = λ spir verdict. refl; no_entry = λ verdict. refl }) (arrives state.datagrams (event.Cut which to keep)) r
-  performed (event.Inject to medium octets) r = received (event.Inject to medium octets) to (record { performs = λ verdict. refl; receives = λ spir verdict. refl; uses_none = λ spir verdict. refl; sends_none = λ spir verdict. refl; no_entry = λ verdict. refl }) (arrives state.datagrams (event.Inject to medium octets)) r
+  -- the run does not refuse an import of these SPIs
+  importable : (sa : Record) → run_refusal state (event.Import sa) ≡ None → is_importable sa ≡ true
+  importable sa none = by_test (is_importable sa) none
+    where
+      by_test : (b : Bool) → refused_where (not b) refusal.SpiRange None ≡ None → b ≡ true
+      by_test true none = refl
+      by_test false none = absurd (cc)
+
+  performed : (event : Event) → run_refusal state event ≡ None → Performs state event calls step → Deed past event calls step
+  performed (event.Cluster identity lifetime window ticket_key) none y = yields-deed past step (event.Cluster identity lifetime window ticket_key) calls out.Configured tt refl y
+  performed (event.Import sa) none p = imported sa (importable sa none) (not (admits (records state.slots) sa)) p
+  performed (event.Join fresh) none y = yields-deed past step (event.Join fresh) calls (out.Member _) tt refl y
+  performed (event.Own member spir) none quietly = takes_over-deed past step member spir calls quietly
+  performed (event.Draw member spir) none draws = drawn member spir (state.held member spir) refl draws
+  performed (event.Crash member) none y = Ended member (let said : _ = y.says.said in rw said refl) y.no_calls y.says.said refl y.says.quiet
+  performed (event.Send parties.Peer spir payload) none sends = peer_sends-deed past step spir payload calls sends.0 sends.1
+  performed (event.Send (parties.Member member) spir payload) none sends = sent member spir payload (state.held member spir) refl sends
+  performed (event.Deliver which to) none r = received (event.Deliver which to) to (record { performs = λ verdict. refl; receives = λ spir verdict. refl; uses_none = λ spir verdict. refl; sends_none = λ spir verdict. refl; no_entry = λ verdict. refl }) (arrives state.datagrams (event.Deliver which to)) r
+  performed (event.Alter which to place octet) none r = received (event.Alter which to place octet) to (record { performs = λ verdict. refl; receives = λ spir verdict. refl; uses_none = λ spir verdict. refl; sends_none = λ spir verdict. refl; no_entry = λ verdict. refl }) (arrives state.datagrams (event.Alter which to place octet)) r
+  performed (event.Cut which to keep) none r = received (event.Cut which to keep) to (record { performs = λ verdict. refl; receives = λ spir verdict. refl; uses_none = λ spir verdict. refl; sends_none = λ spir verdict. refl; no_entry = λ verdict. refl }) (arrives state.datagrams (event.Cut which to keep)) r
+  performed (event.Inject to medium octets) none r = received (event.Inject to medium octets) to (record { performs = λ verdict. refl; receives = λ spir verdict. refl; uses_none = λ spir verdict. refl; sends_none = λ spir verdict. refl; no_entry = λ verdict. refl }) (arrives state.datagrams (event.Inject to medium octets)) r
 
   -- a turn that is explained is a deed
   pub fits-deed : (event : Event) → Does state event calls step → Deed past event calls step
-  fits-deed event does = go (run_refusal state event) does
+  fits-deed event does = go (run_refusal state event) refl does
     where
-      go : (x : Option Refusal) → MatchOption x (Performs state event calls step) (λ why. Refuses why calls step) → Deed past event calls step
-      go None p = performed event p
-      go (Some why) r = refused event why r
+      go : (x : Option Refusal) → run_refusal state event ≡ x → MatchOption x (Performs state event calls step) (λ why. Refuses why calls step) → Deed past event calls step
+      go None none p = performed event none p
+      go (Some why) is r = refused event why r

@@ -1,6 +1,9 @@
 -- A covered genuine packet that comes to an end is accepted at first delivery.
-use Rattle.std.proofs.Common.{◌≡◌, ℕ, ◌^◌, ◌<◌, Bool, true, false, Option, Some, None, MatchOption, Result, Ok, List, [], ◌∷◌, length, ⊎_elim, refl, ap, sym, ◌∙◌, subst, if◌then◌else◌}
-use Rattle.std.proofs.lemmas.Bool.{cases_lt}
+use Rattle.std.proofs.Common.{◌≡◌, ℕ, ◌^◌, ◌<◌, ◌&&◌, Bool, true, false, Option, Some, None, MatchOption, Result, Ok, List, [], ◌∷◌, length, ⊎_elim, refl, ap, sym, ◌∙◌, subst}
+use Rattle.std.proofs.lemmas.Bool.{cases_lt, le-leb, lt-leb, lt-ltb}
+use Rattle.std.proofs.lemmas.Option.{same_Some}
+use Rattle.std.specs.Prelude.{nat_le, nat_lt}
+use Rattle.events.specs.declared.verdict.Refusal.TheVariants as refusal
 use Rattle.esp_packets.specs.Laws.{Accepts, SealedPacketsOpen}
 use Rattle.esp_packets.specs.Packet.{spi_of}
 use Rattle.events.specs.declared.event.Event.{Event}
@@ -15,6 +18,7 @@ use Rattle.events.specs.declared.verdict.EspVerdict.TheVariants as esp
 use Rattle.events.specs.declared.verdict.Refusal.{Refusal}
 use Rattle.events.specs.declared.verdict.Verdict.{Verdict}
 use Rattle.events.specs.declared.verdict.Verdict.TheVariants as out
+use Rattle.ha_base.specs.declared.limits.TheConstants.{MAX_DATAGRAMS}
 use Rattle.ha_base.specs.declared.counter_names.CounterName.{CounterName}
 use Rattle.ha_base.specs.declared.esp_outcomes.EspDrop.{EspDrop}
 use Rattle.ha_base.specs.declared.esp_outcomes.EspDrop.TheVariants as drop
@@ -22,21 +26,20 @@ use Rattle.ha_base.specs.declared.esp_outcomes.EspOpened.{EspOpened}
 use Rattle.keeper_book.specs.declared.calls.Call.{Call}
 use Rattle.keeper_book.specs.declared.counters.Counter.TheVariants as counter
 use Rattle.turn_rules.proofs.GenuinePackets.{genuine-long, genuine-opens, ready-goes, same_receiver}
-use Rattle.turn_rules.proofs.Refusals.{named-present, refusal-of_run}
 use Rattle.turn_rules.proofs.SlotTies.{DoesTold}
 use Rattle.turn_rules.proofs.StateLaws.{does-told}
 use Rattle.turn_rules.proofs.KeySizes.{sized_to_cluster, sized_to_peer}
-use Rattle.turn_rules.specs.Datagrams.{PlainDatagram, arrives}
+use Rattle.turn_rules.specs.Datagrams.{PlainDatagram, arrives, datagrams_of, delivery_of}
 use Rattle.turn_rules.specs.Deliveries.{MemberTakes, PeerTakes}
 use Rattle.turn_rules.specs.Draws.{counter_name}
-use Rattle.turn_rules.specs.Ends.{Member, Peer, Performer, end_of_party, is_refused_by_run, own, performer_of}
-use Rattle.turn_rules.specs.Fits.{Does, Performs, Receives, Refuses, member_of, named_in, run_refusal}
-use Rattle.turn_rules.specs.Genuine.{AreAccepted, Came, IsAcceptedAs, IsAcknowledged, IsGenuine, MemberAccepts, PeerAccepts}
+use Rattle.turn_rules.specs.Ends.{Member, Peer, Performer, end_of_party, own, receiver_of}
+use Rattle.turn_rules.specs.Fits.{Does, Performs, Receives, Refuses, has_joined, is_of_datagrams, member_of, named_in, refused_absent, refused_arrival, refused_besides, refused_where, run_refusal}
+use Rattle.turn_rules.specs.Genuine.{AreAccepted, Came, IsAcceptedAs, IsAcknowledged, IsGenuine, IsUp, MemberAccepts, PeerAccepts}
 use Rattle.turn_rules.specs.Held.{Held, held_by, window_by}
-use Rattle.turn_rules.specs.Local.{Local}
+use Rattle.turn_rules.specs.Local.{Explained}
 use Rattle.turn_rules.specs.MemberPackets.{IsReceiver, ReceivesPacket, TakesPacket, inbound_of}
 use Rattle.turn_rules.specs.Packets.{Drops, IsVerdictOf}
-use Rattle.turn_rules.specs.States.{RunState, held_unless, told_state}
+use Rattle.turn_rules.specs.States.{RunState, held_unless, joins, told_state}
 use Rattle.turn_rules.specs.Slots.{Slot, SlotReceives, SlotTakes, first_slot, peer_counter, receives_at, slot_inbound, slots_by}
 
 -- what a packet that was opened is accepted as
@@ -90,60 +93,70 @@ module _ (law : SealedPacketsOpen) (number : ℕ) (payload octets : List ℕ) wh
       (subst (λ x. MatchOption x (Drops drop.WrongSpi octets takes.answer takes.after) (λ slot. SlotReceives slot octets takes.answer takes.after)) is (takes.receives.long long)) takes.worded)
       (cases_lt (length octets) 34)
 
--- the run did not refuse the event, so the end saw it
-seen_by_end : (state : RunState) (event : Event) (calls : List Call) (step : Step) → is_refused_by_run step.verdict ≡ false → Does state event calls step → (run_refusal state event ≡ None) × Performs state event calls step
-seen_by_end state event calls step seen does = go (run_refusal state event) refl does
-  where
-    go : (x : Option Refusal) → run_refusal state event ≡ x → MatchOption x (Performs state event calls step) (λ why. Refuses why calls step) → (x ≡ None) × Performs state event calls step
-    go None e p = (refl, p)
-    go (Some why) e refuses =
-        let both : true ≡ false = sym (refusal-of_run state event why e) ∙ sym (ap is_refused_by_run refuses.says.said) ∙ seen in
-        absurd (cc)
-
--- an end is there: the peer always, and a member that did not end
+-- an end is there: the peer always, and a member that joined and did not end
 abbrev IsThere : RunState → Party → Type 0
 IsThere state parties.Peer = Unit {0}
-IsThere state (parties.Member member) = state.ended member ≡ false
+IsThere state (parties.Member member) = (has_joined member state ≡ true) × (state.ended member ≡ false)
 
-there : (state : RunState) (event : Event) (to : Party) → run_refusal state event ≡ None → named_in event ≡ member_of to → IsThere state to
-there state event parties.Peer none named = tt
-there state event (parties.Member member) none named = (named-present state event member none named).1
+up-there : (boxes : ℕ) (past : List Turn) (to : Party) → IsUp past (end_of_party to) → IsThere (told_state boxes past) to
+up-there boxes past parties.Peer up = tt
+up-there boxes past (parties.Member member) up =
+    let some : nat_lt 0 member ≡ true = lt-ltb 0 member up.0 in
+    let few : nat_le member (joins past) ≡ true = le-leb member (joins past) up.1 in
+    (rw (some, few), up.2)
+
+absent-none : (state : RunState) (to : Party) → IsThere state to → refused_absent state (member_of to) None ≡ None
+absent-none state parties.Peer here = refl
+absent-none state (parties.Member member) here = let joined : _ = here.0 in let stays : _ = here.1 in rw (joined, stays)
+
+-- the run refuses no event that names an end that is there, and besides gives no reason, while it has room
+unrefused : (state : RunState) (gives full : Bool) (named member : Option ℕ) (besides : Option Refusal) → full ≡ false → named ≡ member → besides ≡ None → refused_absent state member None ≡ None
+    → refused_where (gives && full) refusal.DatagramsFull (refused_absent state named besides) ≡ None
+unrefused state gives full named member besides room same none here =
+    go gives ∙ (ap (λ m. refused_absent state m besides) same ∙ (ap (refused_absent state member) none ∙ here))
+  where
+    go : (gives : Bool) → refused_where (gives && full) refusal.DatagramsFull (refused_absent state named besides) ≡ refused_absent state named besides
+    go true = ap (λ b. refused_where b refusal.DatagramsFull (refused_absent state named besides)) room
+    go false = refl
 
 abbrev ReceivedBy : RunState → Performer → PlainDatagram → List Call → Step → Type 0
 ReceivedBy state end x calls step = (to : Party) × (Some (end_of_party to) ≡ Some end) × IsThere state to × Receives state to (Ok x) calls step
 
--- what arrives, the end receives
-delivered : (state : RunState) (event : Event) (to : Party) (end : Performer) (x : PlainDatagram) (calls : List Call) (step : Step) → run_refusal state event ≡ None → named_in event ≡ member_of to → Some (end_of_party to) ≡ Some end
-    → arrives state.datagrams event ≡ Ok x → Receives state to (arrives state.datagrams event) calls step → ReceivedBy state end x calls step
-delivered state event to end x calls step none named by arrived receives = (to, by, there state event to none named, subst (λ found. Receives state to found calls step) arrived receives)
+module _ (boxes : ℕ) (past : List Turn) (end : Performer) (octets : List ℕ) (calls : List Call) (step : Step) (up : IsUp past end) (room : length (datagrams_of past) < MAX_DATAGRAMS) where
+  abbrev x : PlainDatagram
+  x = record { medium = medium.Esp; octets = octets }
 
-received_by : (state : RunState) (at : Event) (end : Performer) (x : PlainDatagram) (calls : List Call) (step : Step) → is_refused_by_run step.verdict ≡ false → performer_of at step.verdict ≡ Some end
-    → arrives state.datagrams at ≡ Ok x → Does state at calls step → ReceivedBy state end x calls step
-received_by state at end x calls step seen by arrived does = let got = seen_by_end state at calls step seen does in go at got.0 by arrived got.1
-  where
-    go : (at : Event) → run_refusal state at ≡ None → performer_of at step.verdict ≡ Some end → arrives state.datagrams at ≡ Ok x → Performs state at calls step → ReceivedBy state end x calls step
-    go (event.Deliver which to) none by arrived p = delivered state (event.Deliver which to) to end x calls step none refl by arrived p
-    go (event.Alter which to place octet) none by arrived p = delivered state (event.Alter which to place octet) to end x calls step none refl by arrived p
-    go (event.Cut which to keep) none by arrived p = delivered state (event.Cut which to keep) to end x calls step none refl by arrived p
-    go (event.Inject to medium octets) none by arrived p = delivered state (event.Inject to medium octets) to end x calls step none refl by arrived p
-    go at none by arrived p = absurd (cc)
+  abbrev state : RunState
+  state = told_state boxes past
 
-performed : (refused : Bool) (x : Option Performer) (end : Performer) → (if refused then None else x) ≡ Some end → (refused ≡ false) × (x ≡ Some end)
-performed true x end e = absurd (cc)
-performed false x end e = (refl, e)
+  -- what a delivery brings, its end receives
+  delivered : (at : Event) (to : Party) → Some (end_of_party to) ≡ Some end → named_in at ≡ member_of to → refused_besides state at ≡ refused_arrival (arrives (datagrams_of past) at)
+      → (Performs state at calls step → Receives state to (arrives (datagrams_of past) at) calls step)
+      → arrives (datagrams_of past) at ≡ Ok x → Does state at calls step → ReceivedBy state end x calls step
+  delivered at to by named besides performs arrived does =
+      let here : IsThere state to = up-there boxes past to (subst (λ e. IsUp past e) (sym (same_Some (end_of_party to) end by)) up) in
+      let none : run_refusal state at ≡ None = unrefused state (is_of_datagrams at) (nat_le MAX_DATAGRAMS (length (datagrams_of past))) (named_in at) (member_of to) (refused_besides state at)
+      (lt-leb MAX_DATAGRAMS (length (datagrams_of past)) room) named (besides ∙ ap refused_arrival arrived) (absent-none state to here) in
+      let goes : Performs state at calls step = subst (λ r. MatchOption r (Performs state at calls step) (λ why. Refuses why calls step)) none does in
+      (to, by, here, subst (λ found. Receives state to found calls step) arrived (performs goes))
+
+  pub received_by : (at : Event) → receiver_of (delivery_of at) ≡ Some end → arrives (datagrams_of past) at ≡ Ok x → Does state at calls step → ReceivedBy state end x calls step
+  received_by (event.Deliver which to) by arrived does = delivered (event.Deliver which to) to by refl refl (λ p. p) arrived does
+  received_by (event.Alter which to place octet) by arrived does = delivered (event.Alter which to place octet) to by refl refl (λ p. p) arrived does
+  received_by (event.Cut which to keep) by arrived does = delivered (event.Cut which to keep) to by refl refl (λ p. p) arrived does
+  received_by (event.Inject to medium octets) by arrived does = delivered (event.Inject to medium octets) to by refl refl (λ p. p) arrived does
+  received_by at by arrived does = absurd (cc)
 
 -- octets that came to an end are received by it
 came-received : (boxes : ℕ) (past : List Turn) (turn : Turn) (end : Performer) (octets : List ℕ) → DoesTold boxes past turn → Came past turn end octets → ReceivedBy (told_state boxes past) end (record { medium = medium.Esp; octets = octets }) turn.calls turn.step
-came-received boxes past turn end octets does came =
-    let by = performed (is_refused_by_run turn.step.verdict) (performer_of turn.event turn.step.verdict) end came.by_it in
-    received_by (told_state boxes past) turn.event end (record { medium = medium.Esp; octets = octets }) turn.calls turn.step by.0 by.1 came.arrived does
+came-received boxes past turn end octets does came = received_by boxes past end octets turn.calls turn.step came.up came.room turn.event came.addressed came.arrived does
 
 module _ (law : SealedPacketsOpen) (boxes : ℕ) (past : List Turn) (turn : Turn) (does : DoesTold boxes past turn) where
   -- what a member that is there holds is what its own turns say
   abbrev held_of : ℕ → ℕ → Option Held
   held_of member = held_by (window_by past) (own (Member member) past)
 
-  member-accepts-it : MemberAccepts past turn
+  pub member-accepts-it : MemberAccepts past turn
   member-accepts-it member spir number held payload octets came is genuine allowed = by_party (came-received boxes past turn (Member member) octets does came)
     where
       by_party : ReceivedBy (told_state boxes past) (Member member) (record { medium = medium.Esp; octets = octets }) turn.calls turn.step → IsAcceptedAs (counter_name held.sa counter.EspIn) number payload turn.step.verdict
@@ -152,9 +165,9 @@ module _ (law : SealedPacketsOpen) (boxes : ℕ) (past : List Turn) (turn : Turn
           let same : other ≡ member = cc in
           member-takes law number payload octets (held_of member) spir held turn.calls turn.step is genuine allowed
           (subst (λ k. MemberTakes (held_of k) octets turn.calls turn.step) same
-          (subst (λ b. MemberTakes (λ s. held_unless b (held_of other s)) octets turn.calls turn.step) here does))
+          (subst (λ b. MemberTakes (λ s. held_unless b (held_of other s)) octets turn.calls turn.step) here.1 does))
 
-  peer-accepts-it : PeerAccepts past turn
+  pub peer-accepts-it : PeerAccepts past turn
   peer-accepts-it number slot payload octets came is genuine = by_party (came-received boxes past turn Peer octets does came)
     where
       by_party : ReceivedBy (told_state boxes past) Peer (record { medium = medium.Esp; octets = octets }) turn.calls turn.step → IsAcceptedAs (peer_counter slot.sa counter.EspIn) number payload turn.step.verdict
@@ -162,7 +175,7 @@ module _ (law : SealedPacketsOpen) (boxes : ℕ) (past : List Turn) (turn : Turn
       by_party (parties.Member other, by, here, does) = absurd (cc)
 
 -- where each turn is explained, covered genuine packets are accepted
-pub are-accepted : SealedPacketsOpen → (boxes : ℕ) (past : List Turn) → Local boxes past → AreAccepted past
+pub are-accepted : SealedPacketsOpen → (boxes : ℕ) (past : List Turn) → Explained boxes past → AreAccepted past
 are-accepted law boxes [] local = tt
 are-accepted law boxes (turn ∷ past) local = (
   member-accepts-it law boxes past turn (does-told boxes past turn local.0 local.1),

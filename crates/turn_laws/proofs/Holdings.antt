@@ -1,5 +1,5 @@
 -- Each move keeps the numbers of one counter apart.
-use Rattle.std.proofs.Common.{◌≡◌, ◌≢◌, ℕ, ◌+◌, ◌-◌, ◌<◌, ◌≤◌, Bool, true, false, Option, Some, None, List, [], ◌∷◌, length, map, ⊎_elim, refl, ap, sym, ◌∙◌, subst, arith, if◌then◌else◌}
+use Rattle.std.proofs.Common.{◌≡◌, ◌≢◌, ◌⊎◌, inl, inr, ℕ, ◌+◌, ◌-◌, ◌<◌, ◌≤◌, Bool, true, false, Option, Some, None, List, [], ◌∷◌, length, map, ⊎_elim, refl, ap, sym, ◌∙◌, subst, arith, if◌then◌else◌}
 use Rattle.std.proofs.lemmas.Bool.{cases_order, eqb-true, eq-eqb}
 use Rattle.std.proofs.lemmas.Option.{same_Some}
 use Rattle.std.specs.List.{AllByRecursion}
@@ -7,7 +7,7 @@ use Rattle.std.specs.Option.{option_map}
 use Rattle.turn_laws.proofs.Columns.{mark-goes_on}
 use Rattle.turn_laws.proofs.Lists.{all-each}
 use Rattle.turn_laws.specs.Columns.{Column, ColumnGoesOn, column_mark}
-use Rattle.turn_laws.specs.Holdings.{Actor, Begins, Draws, Effect, End, Holding, IsHoldingOf, IsNew, IsNotIn, IsOwned, IsUseOf, MayUse, Nothing, Rises, Run, Use, drawn, epoch_of, use_end, holding_after, is_actor, raised_to, uses_after}
+use Rattle.turn_laws.specs.Holdings.{Actor, Begins, Draws, Effect, End, Half, Passes, Holding, IsHoldingOf, IsNew, IsNotIn, IsOwned, IsUseOf, MayUse, Nothing, Rises, Run, Use, drawn, epoch_of, use_end, holding_after, is_actor, raised_to, uses_after}
 use Rattle.turn_rules.specs.Ends.{Member, Peer, Performer, is_performer}
 
 pub is_performer-same : (a : Performer) → is_performer a a ≡ true
@@ -23,12 +23,13 @@ is_performer-true (Member a) (Member b) e = ap Member (eqb-true a b e)
 pub is_actor-same : (w : Actor) → is_actor w w ≡ true
 is_actor-same Run = refl
 is_actor-same (End a) = is_performer-same a
+is_actor-same (Half a) = eq-eqb a a refl
 
 pub is_actor-true : (w v : Actor) → is_actor w v ≡ true → w ≡ v
 is_actor-true Run Run e = refl
-is_actor-true Run (End b) e = absurd (cc)
-is_actor-true (End a) Run e = absurd (cc)
 is_actor-true (End a) (End b) e = ap End (is_performer-true a b e)
+is_actor-true (Half a) (Half b) e = ap Half (eqb-true a b e)
+is_actor-true w v e = absurd (cc)
 
 -- what is held of a column, once it goes on
 pub holding-goes_on : (old new : Column) (h : Holding) → ColumnGoesOn old new → IsHoldingOf old h → IsHoldingOf new h
@@ -226,17 +227,57 @@ module _ (held : Actor → Option Holding) (uses : List Use) (column : Column) (
                   let d : n < h.high = may.below_high in
                   absurd (omega arith)
 
+-- What one holds passes to another one.
+module _ (held : Actor → Option Holding) (w v : Actor) where
+  -- whose holding it was
+  record Source (u : Actor) (g : Holding) : Type 0 where
+    pub from : Actor
+    pub holds : held from ≡ Some g
+    pub is : ((v ≡ u) × (from ≡ w)) ⊎ ((w ≢ u) × (from ≡ u))
+
+  differ : (a b : Actor) → is_actor a b ≡ false → a ≢ b
+  differ a b other same = let here : is_actor a b ≡ true = subst (λ x. is_actor a x ≡ true) same (is_actor-same a) in absurd (cc)
+
+  source : (u : Actor) (g : Holding) → holding_after (Passes w v) held u ≡ Some g → Source u g
+  source u g e = by_test (is_actor v u) (is_actor w u) refl refl e
+    where
+      by_test : (b c : Bool) → is_actor v u ≡ b → is_actor w u ≡ c → (if b then held w else (if c then None else held u)) ≡ Some g → Source u g
+      by_test true c t s e = record { from = w; holds = e; is = inl (is_actor-true v u t, refl) }
+      by_test false true t s e = absurd (cc)
+      by_test false false t s e = record { from = u; holds = e; is = inr (differ w u s, refl) }
+
+  pub owned-passes : (uses : List Use) (column : Column) → IsOwned held uses column → IsOwned (holding_after (Passes w v) held) uses column
+  owned-passes uses column owned = record {
+    rising = owned.rising;
+    holdings = λ u g e. let s = source u g e in owned.holdings s.from g s.holds;
+    alone = λ a b g k eg ek same. go a b g k (source a g eg) (source b k ek) same;
+    within = owned.within;
+    known = λ u g e. let s = source u g e in owned.known s.from g s.holds;
+    once = owned.once;
+  }
+    where
+      go : (a b : Actor) (g k : Holding) (s : Source a g) (t : Source b k) → g.epoch ≡ k.epoch → a ≡ b
+      go a b g k s t same = ⊎_elim
+          (λ here. ⊎_elim (λ there. sym here.0 ∙ there.0) (λ there. absurd (there.0 (sym here.1 ∙ (one ∙ there.1)))) t.is)
+          (λ here. ⊎_elim (λ there. absurd (here.0 (sym there.1 ∙ (sym one ∙ here.1)))) (λ there. sym here.1 ∙ (one ∙ there.1)) t.is)
+          s.is
+        where
+          one : s.from ≡ t.from
+          one = owned.alone s.from t.from g k s.holds t.holds same
+
 -- what an effect needs of the column before it, and of the one after it
 abbrev pub Keeps : Effect → (Actor → Option Holding) → Column → Column → Type 0
 Keeps Nothing held old new = ColumnGoesOn old new
 Keeps (Begins w h) held old new = ColumnGoesOn old new × IsNew old new h
 Keeps (Rises w upto) held old new = ColumnGoesOn old new × ((h : Holding) → held w ≡ Some h → upto ≤ column_mark new h.epoch)
+Keeps (Passes w v) held old new = ColumnGoesOn old new
 Keeps (Draws w n) held old new = ColumnGoesOn old new × (h : Holding) × (held w ≡ Some h) × MayUse h n
 
 -- every effect keeps the numbers of a counter apart
 pub owned-after : (held : Actor → Option Holding) (uses : List Use) (old new : Column) (effect : Effect) → IsOwned held uses old → Keeps effect held old new → IsOwned (holding_after effect held) (uses_after effect held uses) new
 owned-after held uses old new Nothing owned keeps = owned-goes_on held uses old new owned keeps
 owned-after held uses old new (Begins w h) owned keeps = owned-begins held uses old new w h owned keeps.0 keeps.1
+owned-after held uses old new (Passes w v) owned keeps = owned-passes held w v uses new (owned-goes_on held uses old new owned keeps)
 owned-after held uses old new (Rises w upto) owned keeps = by_held (held w) refl
   where
     later : IsOwned held uses new

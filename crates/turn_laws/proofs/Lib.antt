@@ -2,6 +2,9 @@ mod Lists
 mod Columns
 mod Entries
 mod Books
+mod BookRecords
+mod Pools
+mod Lots
 mod Holdings
 mod Safety
 mod Runs
@@ -29,6 +32,7 @@ pub mod All
 mod Sealed
 mod Accepted
 mod Genuine
+mod FirstDelivery
 mod Safe
 mod Ends
 mod Listed

@@ -11,7 +11,8 @@ use Rattle.events.specs.declared.verdict.Verdict.{Verdict}
 use Rattle.events.specs.declared.verdict.Verdict.TheVariants as out
 use Rattle.keeper_book.specs.declared.calls.Call.{Call}
 use Rattle.turn_laws.proofs.Numbers.{call-uses}
-use Rattle.turn_laws.specs.Acts.{Act, Calls, Ends, Move, Seals, Uses, acts_onto, effect_of_use, holding_at, numbers_at, uses_at}
+use Rattle.turn_laws.proofs.Pools.{lease-uses}
+use Rattle.turn_laws.specs.Acts.{Leases, lots_at, Act, Calls, Ends, Move, Seals, Uses, acts_onto, effect_of_use, holding_at, numbers_at, uses_at}
 use Rattle.turn_laws.specs.Holdings.{Actor, Draws, Nothing, uses_after}
 use Rattle.turn_laws.specs.Listed.{drawn_at, drew, ivs_at, listed_at, number_where, packet_at}
 use Rattle.turn_laws.specs.Places.{Place, is_place, place_of}
@@ -25,6 +26,7 @@ module _ (p : Place) where
   number_moved (Calls call) = None
   number_moved (Uses q n) = number_where p (Some q) n
   number_moved (Seals key) = number_where p (place_of key.name) key.iv
+  number_moved (Leases pool first count seen) = None
   number_moved Ends = None
 
   abbrev moved : List Move → List ℕ
@@ -42,6 +44,7 @@ module _ (p : Place) where
   move-number w (Calls call) acts = ap (λ us. map (λ u. u.number) us) (call-uses w (holding_at p acts) (uses_at p acts) p call)
   move-number w (Uses q n) acts = use-number w acts (Some q) n
   move-number w (Seals key) acts = use-number w acts (place_of key.name) key.iv
+  move-number w (Leases pool first count seen) acts = ap (λ us. map (λ u. u.number) us) (lease-uses p (lots_at p acts) w pool first count seen (holding_at p acts) (uses_at p acts))
   move-number w Ends acts = refl
 
   moves-numbers : (w : Actor) (moves : List Move) (acts : List Act) → numbers_at p (acts_onto w moves acts) ≡ reverse (moved moves) ++ numbers_at p acts

@@ -5,7 +5,7 @@ use Rattle.events.specs.declared.event.Event.{Event}
 use Rattle.events.specs.declared.event.Event.TheVariants as event
 use Rattle.events.specs.declared.verdict.Verdict.{Verdict}
 use Rattle.events.specs.declared.verdict.Verdict.TheVariants as out
-use Rattle.turn_laws.specs.Acts.{Calls, Ends, Move, Seals, Uses}
+use Rattle.turn_laws.specs.Acts.{Leases, Calls, Ends, Move, Seals, Uses}
 use Rattle.turn_laws.specs.Places.{Place, place_of}
 use Rattle.turn_laws.specs.Turns.{drawn_by, end_moves, received_at, uses_of}
 use Rattle.turn_rules.specs.States.{ended_by}
@@ -14,6 +14,7 @@ abbrev pub IsUseOrEnd : Move → Type 0
 IsUseOrEnd (Calls call) = ⊥
 IsUseOrEnd (Uses place number) = Unit {0}
 IsUseOrEnd (Seals key) = ⊥
+IsUseOrEnd (Leases pool first count seen) = ⊥
 IsUseOrEnd Ends = Unit {0}
 
 drawn-uses : (event : Event) (n : ℕ) → AllByRecursion IsUseOrEnd (drawn_by event n)

@@ -6,7 +6,8 @@ use Rattle.keeper_book.specs.declared.counters.Counter.{Counter}
 use Rattle.keeper_book.specs.declared.counters.Counter.TheVariants as counter
 use Rattle.keeper_book.specs.declared.records.Record.{Record}
 use Rattle.turn_laws.proofs.Entries.{is_counter-same}
-use Rattle.turn_laws.specs.Places.{Ours, Place, Theirs, is_place, place_of}
+use Rattle.turn_laws.proofs.Pools.{is_pool-same}
+use Rattle.turn_laws.specs.Places.{Ours, Place, Pooled, Theirs, is_place, place_of}
 use Rattle.turn_rules.specs.Draws.{child_of, counter_name, counter_kind}
 use Rattle.turn_rules.specs.Slots.{peer_counter}
 
@@ -35,4 +36,5 @@ number-failed false n = refl
 
 pub is_place-same : (p : Place) → is_place p p ≡ true
 is_place-same (Ours spir c) = let a : (spir == spir) ≡ true = eq-eqb spir spir refl in let b : _ = is_counter-same c in rw (a, b)
+is_place-same (Pooled q) = is_pool-same q
 is_place-same (Theirs spir c) = let a : (spir == spir) ≡ true = eq-eqb spir spir refl in let b : _ = is_counter-same c in rw (a, b)

@@ -16,12 +16,12 @@ use Rattle.turn_laws.proofs.Outcomes.{Idle, Ours_used, Outcome, Over, Theirs_use
 use Rattle.turn_laws.proofs.Records.{deed-of}
 use Rattle.turn_laws.proofs.Runs.{onto-append}
 use Rattle.turn_laws.proofs.Uses.{number_at, uses-use}
-use Rattle.turn_laws.specs.Acts.{Act, Calls, effect_of, effect_ours, effect_theirs, entered_at, holding_at, numbers_at, acts_onto, uses_at}
+use Rattle.turn_laws.specs.Acts.{effect_of_call, Act, Calls, effect_ours, effect_theirs, entered_at, holding_at, numbers_at, acts_onto, uses_at}
 use Rattle.turn_laws.specs.Holdings.{Actor, Draws, Holding, Nothing, Use, uses_after}
-use Rattle.turn_laws.specs.Places.{Ours, Place, Theirs, is_place}
+use Rattle.turn_laws.specs.Places.{Ours, Place, Pooled, Theirs, is_place}
 use Rattle.turn_laws.specs.Turns.{actor_of, acts_of, number_taken}
 use Rattle.turn_rules.specs.Held.{covered, granted, number_of, used}
-use Rattle.turn_rules.specs.Local.{Local}
+use Rattle.turn_rules.specs.Local.{Explained}
 
 -- a call uses no number
 module _ (w : Actor) (held : Actor → Option Holding) (us : List Use) where
@@ -34,8 +34,9 @@ module _ (w : Actor) (held : Actor → Option Holding) (us : List Use) where
   theirs-uses c None = refl
   theirs-uses c (Some sa) = refl
 
-  pub call-uses : (p : Place) (call : Call) → uses_after (effect_of p w (Calls call)) held us ≡ us
+  pub call-uses : (p : Place) (call : Call) → uses_after (effect_of_call p w call.asked (seen call)) held us ≡ us
   call-uses (Ours spir c) call = ours-uses c (granted spir call.asked (seen call)) (covered spir c call.asked (seen call))
+  call-uses (Pooled q) call = refl
   call-uses (Theirs spir c) call = theirs-uses c (entered_at spir call.asked (seen call))
 
 calls-use : (p : Place) (w : Actor) (calls : List Call) (acts : List Act) → uses_at p (acts_onto w (map Calls calls) acts) ≡ uses_at p acts
@@ -81,7 +82,7 @@ module _ (spir : ℕ) (c : Counter) (told_used : IsToldUsed spir c) where
   spent-used past event calls step (Ours_used u it) = sym (it.told spir c) ∙ told_used event step.verdict
   spent-used past event calls step (Theirs_used u) = sym (u.not_ours spir c)
 
-  run-numbers : (boxes : ℕ) (past : List Turn) → Local boxes past → numbers_at (Ours spir c) (acts_of past) ≡ filter_map (number_of spir c) past
+  run-numbers : (boxes : ℕ) (past : List Turn) → Explained boxes past → numbers_at (Ours spir c) (acts_of past) ≡ filter_map (number_of spir c) past
   run-numbers boxes [] local = refl
   run-numbers boxes (turn ∷ past) local =
       let o : Outcome past turn.event turn.calls turn.step = outcome-of past turn.event turn.calls turn.step (deed-of boxes past turn local.0 local.1) in
@@ -90,7 +91,7 @@ module _ (spir : ℕ) (c : Counter) (told_used : IsToldUsed spir c) where
       ∙ ap (λ number. cons_option number (filter_map (number_of spir c) past)) (spent-used past turn.event turn.calls turn.step o))
 
 -- the numbers by which members send
-pub sent-numbers : (boxes : ℕ) (past : List Turn) → Local boxes past → (spir : ℕ) (c : Counter) → c ≢ counter.EspIn → numbers_at (Ours spir c) (acts_of past) ≡ filter_map (number_of spir c) past
+pub sent-numbers : (boxes : ℕ) (past : List Turn) → Explained boxes past → (spir : ℕ) (c : Counter) → c ≢ counter.EspIn → numbers_at (Ours spir c) (acts_of past) ≡ filter_map (number_of spir c) past
 sent-numbers boxes past local spir counter.EspOut sent = run-numbers spir counter.EspOut (λ event verdict. refl) boxes past local
 sent-numbers boxes past local spir counter.EspIn sent = absurd (sent refl)
 sent-numbers boxes past local spir counter.Iv sent = run-numbers spir counter.Iv (λ event verdict. refl) boxes past local
@@ -102,7 +103,7 @@ none-received spir [] = refl
 none-received spir (turn ∷ past) = none-received spir past
 
 -- what holds of the numbers of a counter holds of those that members used
-pub counters-hold : (P : List ℕ → Type 0) → P [] → (boxes : ℕ) (past : List Turn) → Local boxes past → (spir : ℕ) (c : Counter) → P (numbers_at (Ours spir c) (acts_of past)) → P (filter_map (number_of spir c) past)
+pub counters-hold : (P : List ℕ → Type 0) → P [] → (boxes : ℕ) (past : List Turn) → Explained boxes past → (spir : ℕ) (c : Counter) → P (numbers_at (Ours spir c) (acts_of past)) → P (filter_map (number_of spir c) past)
 counters-hold P none boxes past local spir counter.EspOut holds = subst P (run-numbers spir counter.EspOut (λ event verdict. refl) boxes past local) holds
 counters-hold P none boxes past local spir counter.EspIn holds = subst P (sym (none-received spir past)) none
 counters-hold P none boxes past local spir counter.Iv holds = subst P (run-numbers spir counter.Iv (λ event verdict. refl) boxes past local) holds

@@ -24,7 +24,7 @@ use Rattle.turn_rules.proofs.SlotTies.{first-has, records-slots_by}
 use Rattle.turn_rules.proofs.StateLaws.{associations-apart}
 use Rattle.turn_rules.specs.Ends.{Peer, own}
 use Rattle.turn_rules.specs.Held.{first_some, found, greatest, window_by}
-use Rattle.turn_rules.specs.Local.{Local}
+use Rattle.turn_rules.specs.Local.{Explained}
 use Rattle.turn_rules.specs.Peers.{AreDistinct, Differ, associations_by, entered_in}
 use Rattle.turn_rules.specs.Slots.{Slot, first_slot, since_entered, slot_by, slots_by}
 
@@ -75,10 +75,10 @@ slot-among size past test slot (sa ∷ more) is = by_test (slot-among size past 
     by_test later false t = later (ap (λ b. if b then Some (slot_by size past sa) else first_slot test (map (slot_by size past) more)) (sym t) ∙ is)
 
 -- a slot is what the peer's own turns say of its association
-slot-told : (size : ℕ) (past : List Turn) (test : Slot → Bool) (slot : Slot) → first_slot test (slots_by size past) ≡ Some slot → slot ≡ slot_by size past slot.sa
+pub slot-told : (size : ℕ) (past : List Turn) (test : Slot → Bool) (slot : Slot) → first_slot test (slots_by size past) ≡ Some slot → slot ≡ slot_by size past slot.sa
 slot-told size past test slot found = slot-among size past test slot (associations_by past) found
 
-module _ (boxes : ℕ) (past : List Turn) (local : Local boxes past) (test : Slot → Bool) (slot : Slot) (is : first_slot test (slots_by (window_by past) (own Peer past)) ≡ Some slot) where
+module _ (boxes : ℕ) (past : List Turn) (local : Explained boxes past) (test : Slot → Bool) (slot : Slot) (is : first_slot test (slots_by (window_by past) (own Peer past)) ≡ Some slot) where
   abbrev numbers : Counter → List ℕ
   numbers c = filter_map (number_theirs_of slot.sa.spir c) (since_entered slot.sa.spir (own Peer past))
 
@@ -126,7 +126,7 @@ module _ (boxes : ℕ) (past : List Turn) (local : Local boxes past) (test : Slo
       }
 
 -- the peer may use the numbers that are open to it
-pub peer-may : (boxes : ℕ) (past : List Turn) → Local boxes past → PeerMayUse past (acts_of past)
+pub peer-may : (boxes : ℕ) (past : List Turn) → Explained boxes past → PeerMayUse past (acts_of past)
 peer-may boxes past local test slot is_first counter.EspOut n is_open =
     subst (λ k. HoldsFor (holding_at (Theirs slot.sa.spir counter.EspOut) (acts_of past) (End Peer)) k) (sym is_open.0)
     (peer-may-send boxes past local test slot is_first (subst (λ k. k < end_of slot.sa counter.EspOut) is_open.0 is_open.1))

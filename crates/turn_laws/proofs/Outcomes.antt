@@ -108,7 +108,7 @@ pub over-used : (spir : ℕ) (c : Counter) (event : Event) → used spir c event
 over-used spir counter.EspOut (event.Send (parties.Member member) asked payload) = refl
 over-used spir c event = refl
 
-over-received : (spir : ℕ) (event : Event) → received spir event out.Down ≡ None
+pub over-received : (spir : ℕ) (event : Event) → received spir event out.Down ≡ None
 over-received spir event = go (delivery_of event)
   where
     go : (x : Option Delivery) → received_in spir (receipt x) out.Down ≡ None

@@ -1,5 +1,5 @@
 -- Where the book is honest, no two associations that members hold receive at one SPI.
-use Rattle.std.proofs.Common.{◌≡◌, ◌≢◌, ℕ, ◌==◌, Bool, true, false, Option, Some, None, List, [], ◌∷◌, length, ⊎_elim, refl, ap, sym, ◌∙◌, subst, if◌then◌else◌}
+use Rattle.std.proofs.Common.{◌≡◌, ◌≢◌, ℕ, ◌+◌, ◌==◌, Bool, true, false, Option, Some, None, List, [], ◌∷◌, length, ⊎_elim, refl, ap, sym, ◌∙◌, subst, if◌then◌else◌}
 use Rattle.std.proofs.lemmas.Bool.{eqb-false, eqb-true, or_parts}
 use Rattle.std.proofs.lemmas.Option.{same_Some}
 use Rattle.std.specs.List.{AllByRecursion, list_any}
@@ -7,65 +7,30 @@ use Rattle.std.specs.Prelude.{nat_le}
 use Rattle.keeper_book.specs.declared.TheConstants.{MAX_ASSOCIATIONS}
 use Rattle.std.specs.Option.{option_map}
 use Rattle.events.specs.declared.turn.Turn.{Turn}
-use Rattle.keeper_book.specs.Book.{Answers, Book, Enters, Entry, book_entered, enter_refusal, entry_of, fresh, raised_at, refusal, shares_spi, taken_over, when}
-use Rattle.keeper_book.specs.Counters.{counter_named}
+use Rattle.keeper_book.specs.Book.{Answers, Book, Enters, Entry, enter_refusal, entry_of, refusal, shares_spi, when}
 use Rattle.keeper_book.specs.Told.{seen}
 use Rattle.keeper_book.specs.declared.calls.Call.{Call}
 use Rattle.keeper_book.specs.declared.calls.KeeperAnswer.{KeeperAnswer}
 use Rattle.keeper_book.specs.declared.calls.KeeperAnswer.TheVariants as answer
 use Rattle.keeper_book.specs.declared.calls.KeeperAsk.{KeeperAsk}
 use Rattle.keeper_book.specs.declared.calls.KeeperAsk.TheVariants as ask
-use Rattle.keeper_book.specs.declared.counters.Counter.{Counter}
 use Rattle.keeper_book.specs.declared.faults.KeeperFault.{KeeperFault}
 use Rattle.keeper_book.specs.declared.faults.KeeperFault.TheVariants as fault
 use Rattle.keeper_book.specs.declared.records.Record.{Record}
 use Rattle.keeper_book.specs.declared.records.Taken.{Taken}
 use Rattle.turn_laws.proofs.All.{lawful-run}
+use Rattle.turn_laws.proofs.BookRecords.{IsNow, IsRecordOf, Was, entered-is, record_after, record_in, record_of, records-after, records-kept}
 use Rattle.turn_laws.proofs.Books.{ShowsTaken, answers-entry, shows-taken}
 use Rattle.turn_laws.proofs.Called.{HoldOfCalls, IfCall, calls-hold}
-use Rattle.turn_laws.proofs.Entries.{entry-entered, entry_after}
 use Rattle.turn_laws.proofs.Lists.{all-each, all-filter}
 use Rattle.turn_laws.proofs.Records.{found-holds}
-use Rattle.turn_laws.specs.Acts.{Act, Calls, Ends, Move, Seals, Uses}
+use Rattle.turn_laws.proofs.Pools.{lease-entries}
+use Rattle.turn_laws.specs.Acts.{Leases, Act, Calls, Ends, Move, Seals, Uses}
 use Rattle.turn_laws.specs.Owned.{Lawful, Writes}
 use Rattle.turn_laws.specs.Turns.{acts_of}
 use Rattle.turn_rules.specs.Ends.{Member, is_by, own}
-use Rattle.turn_rules.specs.Held.{Held, first_some, found, grant_of, granted, held_by, holding, window_by}
-use Rattle.turn_rules.specs.Local.{Local, Stands}
-
--- the record that the book has of an association
-abbrev record_in : Option Entry → Option Record
-record_in x = option_map (λ (e : Entry). e.sa) x
-
-abbrev record_of : Book → ℕ → Option Record
-record_of book spir = record_in (entry_of spir book.entries)
-
--- and what a call that is not refused makes of it
-abbrev record_after : ℕ → KeeperAsk → Option Record → Option Record
-record_after spir (ask.Enter sa) old = first_some old (if sa.spir == spir then Some sa else None)
-record_after spir (ask.TakeOver asked member) old = old
-record_after spir (ask.Cover asked kind child epoch upto) old = old
-
-record-entered : (spir : ℕ) (asked : KeeperAsk) (x : Option Entry) → record_in (entry_after spir asked x) ≡ record_after spir asked (record_in x)
-record-entered spir (ask.Enter sa) (Some e) = refl
-record-entered spir (ask.Enter sa) None = by_test (sa.spir == spir)
-  where
-    by_test : (b : Bool) → record_in (if b then Some (fresh sa) else None) ≡ (if b then Some sa else None)
-    by_test true = refl
-    by_test false = refl
-record-entered spir (ask.TakeOver asked member) x = by_test (asked == spir) x
-  where
-    by_test : (b : Bool) (x : Option Entry) → record_in (if b then option_map (taken_over member) x else x) ≡ record_in x
-    by_test true None = refl
-    by_test true (Some e) = refl
-    by_test false x = refl
-record-entered spir (ask.Cover asked kind child epoch upto) x = by_test (asked == spir) (counter_named kind child) x
-  where
-    by_test : (b : Bool) (named : Option Counter) (x : Option Entry) → record_in (if b then option_map (raised_at named upto) x else x) ≡ record_in x
-    by_test true named None = refl
-    by_test true None (Some e) = refl
-    by_test true (Some c) (Some e) = refl
-    by_test false named x = refl
+use Rattle.turn_rules.specs.Held.{Held, found, grant_of, granted, held_by, holding, window_by}
+use Rattle.turn_rules.specs.Local.{Explained, Stands}
 
 -- the record of an association stays, and no two are found at one SPI
 abbrev AreApart : (ℕ → Option Record) → Type 0
@@ -94,26 +59,13 @@ enters-free sa es none = by_test (list_any (shares_spi sa) es) (when (nat_le MAX
     by_test false later none = refl
 
 module _ (old : Book) where
-  -- the record that was there, or the new one
-  data IsRecordOf (sa : Record) (spir : ℕ) (r : Record) : Type 0 where
-    Was : record_of old spir ≡ Some r → IsRecordOf sa spir r
-    IsNow : sa.spir ≡ spir → sa ≡ r → IsRecordOf sa spir r
-
-  entered-is : (sa : Record) (spir : ℕ) (r : Record) (x : Option Record) → record_of old spir ≡ x → first_some x (if sa.spir == spir then Some sa else None) ≡ Some r → IsRecordOf sa spir r
-  entered-is sa spir r (Some s) e is = Was (e ∙ is)
-  entered-is sa spir r None e is = by_test (sa.spir == spir) refl is
-    where
-      by_test : (b : Bool) → (sa.spir == spir) ≡ b → (if b then Some sa else None) ≡ Some r → IsRecordOf sa spir r
-      by_test true t is = IsNow (eqb-true sa.spir spir t) (same_Some sa r is)
-      by_test false t is = absurd (cc)
-
   apart-after : (asked : KeeperAsk) → refusal old asked ≡ None → AreApart (record_of old) → AreApart (λ spir. record_after spir asked (record_of old spir))
-  apart-after (ask.Enter sa) none apart = λ a b r s ra sb same. go a b r s same (entered-is sa a r (record_of old a) refl ra) (entered-is sa b s (record_of old b) refl sb)
+  apart-after (ask.Enter sa) none apart = λ a b r s ra sb same. go a b r s same (entered-is old sa a r (record_of old a) refl ra) (entered-is old sa b s (record_of old b) refl sb)
     where
       free : (spir : ℕ) (x : Record) → record_of old spir ≡ Some x → sa.spi_in ≢ x.spi_in
       free = none-shares sa old.entries (enters-free sa old.entries none)
 
-      go : (a b : ℕ) (r s : Record) → r.spi_in ≡ s.spi_in → IsRecordOf sa a r → IsRecordOf sa b s → a ≡ b
+      go : (a b : ℕ) (r s : Record) → r.spi_in ≡ s.spi_in → IsRecordOf old sa a r → IsRecordOf old sa b s → a ≡ b
       go a b r s same (Was wa) (Was wb) = apart a b r s wa wb same
       go a b r s same (Was wa) (IsNow at is) = absurd (free a r wa (ap (λ (x : Record). x.spi_in) is ∙ sym same))
       go a b r s same (IsNow at is) (Was wb) = absurd (free b s wb (ap (λ (x : Record). x.spi_in) is ∙ same))
@@ -121,25 +73,11 @@ module _ (old : Book) where
   apart-after (ask.TakeOver asked member) none apart = apart
   apart-after (ask.Cover asked kind child epoch upto) none apart = apart
 
-  kept-after : (asked : KeeperAsk) (spir : ℕ) (r : Record) → record_of old spir ≡ Some r → record_after spir asked (record_of old spir) ≡ Some r
-  kept-after (ask.Enter sa) spir r is = ap (λ x. first_some x (if sa.spir == spir then Some sa else None)) is
-  kept-after (ask.TakeOver asked member) spir r is = is
-  kept-after (ask.Cover asked kind child epoch upto) spir r is = is
-
   module _ (new : Book) (asked : KeeperAsk) (answered : KeeperAnswer) (answers : Answers old asked answered new) where
-    records-after : new ≡ book_entered old asked → (spir : ℕ) → record_of new spir ≡ record_after spir asked (record_of old spir)
-    records-after is spir = ap (λ (b : Book). record_of b spir) is ∙ (ap record_in (entry-entered spir old asked) ∙ record-entered spir asked (entry_of spir old.entries))
-
-    pub records-kept : (spir : ℕ) (r : Record) → record_of old spir ≡ Some r → record_of new spir ≡ Some r
-    records-kept spir r is = ⊎_elim
-        (λ same. ap (λ (b : Book). record_of b spir) same ∙ is)
-        (λ has. records-after has.is spir ∙ kept-after asked spir r is)
-        (answers-entry old new asked answered answers)
-
     pub records-apart : AreApart (record_of old) → AreApart (record_of new)
     records-apart apart = ⊎_elim
         (λ same. subst (λ (b : Book). AreApart (record_of b)) (sym same) apart)
-        (λ has a b r s ra sb. apart-after asked has.granted apart a b r s (sym (records-after has.is a) ∙ ra) (sym (records-after has.is b) ∙ sb))
+        (λ has a b r s ra sb. apart-after asked has.granted apart a b r s (sym (records-after old new asked answered answers has.is a) ∙ ra) (sym (records-after old new asked answered answers has.is b) ∙ sb))
         (answers-entry old new asked answered answers)
 
   -- what a call granted is the record that the book has
@@ -191,12 +129,13 @@ lawful-recorded (act ∷ acts) book lawful = by_move act.move refl lawful.3 (law
         by_act (Calls call) has = λ spir taken is. keeps spir taken.sa (has spir taken is)
         by_act (Uses q n) has = tt
         by_act (Seals key) has = tt
+        by_act (Leases pool first count seen) has = tt
         by_act Ends has = tt
 
-    still : (move : Move) → act.move ≡ move → IfCall (IsInBook book) move → book ≡ lawful.0 → Recorded acts lawful.0 → Recorded (act ∷ acts) book
+    still : (move : Move) → act.move ≡ move → IfCall (IsInBook book) move → ((spir : ℕ) → record_of book spir ≡ record_of lawful.0 spir) → Recorded acts lawful.0 → Recorded (act ∷ acts) book
     still move is one same before = record {
-      apart = subst (λ (b : Book). AreApart (record_of b)) (sym same) before.apart;
-      grants = (subst (λ move. IfCall (IsInBook book) move) (sym is) one, kept (λ spir r has. ap (λ (b : Book). record_of b spir) same ∙ has) before.grants);
+      apart = λ a b r s ra sb e. before.apart a b r s (sym (same a) ∙ ra) (sym (same b) ∙ sb) e;
+      grants = (subst (λ move. IfCall (IsInBook book) move) (sym is) one, kept (λ spir r has. same spir ∙ has) before.grants);
     }
 
     by_move : (move : Move) → act.move ≡ move → Writes lawful.0 act.move book → Recorded acts lawful.0 → Recorded (act ∷ acts) book
@@ -209,11 +148,14 @@ lawful-recorded (act ∷ acts) book lawful = by_move act.move refl lawful.3 (law
             kept (records-kept lawful.0 book call.asked call.answer enters) before.grants,
           );
         }
-    by_move (Uses q n) is writes before = still (Uses q n) is tt (subst (λ move. Writes lawful.0 move book) is writes) before
-    by_move (Seals key) is writes before = still (Seals key) is tt (subst (λ move. Writes lawful.0 move book) is writes) before
-    by_move Ends is writes before = still Ends is tt (subst (λ move. Writes lawful.0 move book) is writes) before
+    by_move (Uses q n) is writes before = still (Uses q n) is tt (λ spir. ap (λ (b : Book). record_of b spir) (subst (λ move. Writes lawful.0 move book) is writes)) before
+    by_move (Seals key) is writes before = still (Seals key) is tt (λ spir. ap (λ (b : Book). record_of b spir) (subst (λ move. Writes lawful.0 move book) is writes)) before
+    by_move (Leases pool first count seen) is writes before =
+        let leases : Writes lawful.0 (Leases pool first count seen) book = subst (λ move. Writes lawful.0 move book) is writes in
+        still (Leases pool first count seen) is tt (λ spir. ap (λ es. record_in (entry_of spir es)) (ap (λ (b : Book). b.entries) leases.1 ∙ lease-entries pool (first + count) lawful.0)) before
+    by_move Ends is writes before = still Ends is tt (λ spir. ap (λ (b : Book). record_of b spir) (subst (λ move. Writes lawful.0 move book) is writes)) before
 
-module _ (boxes : ℕ) (past : List Turn) (book : Book) (local : Local boxes past) (stands : Stands past book) where
+module _ (boxes : ℕ) (past : List Turn) (book : Book) (local : Explained boxes past) (stands : Stands past book) where
   recorded : Recorded (acts_of past) book
   recorded = lawful-recorded (acts_of past) book (lawful-run boxes past book local stands)
 

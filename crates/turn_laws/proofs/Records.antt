@@ -17,7 +17,7 @@ use Rattle.turn_rules.proofs.StateLaws.{does-told}
 use Rattle.turn_rules.specs.Draws.{reach_of}
 use Rattle.turn_rules.specs.Ends.{Member, is_by, own}
 use Rattle.turn_rules.specs.Held.{Held, first_some, found, grant_of, granted, held_by, holding, window_by}
-use Rattle.turn_rules.specs.Local.{IsExplained, Local}
+use Rattle.turn_rules.specs.Local.{IsByRule, Explained}
 
 abbrev pub HaveTheirRecords : List Turn → Type 0
 HaveTheirRecords past = AllByRecursion (λ turn. AllByRecursion HasItsRecord turn.calls) past
@@ -62,15 +62,15 @@ module _ (past : List Turn) (event : Event) (step : Step) where
   deed-records calls (Used u) = covers-records calls u
   deed-records calls (Used_theirs u) = subst (λ calls. AllByRecursion HasItsRecord calls) (sym u.no_calls) tt
 
-deed-with : (boxes : ℕ) (past : List Turn) (turn : Turn) → HaveTheirRecords past → IsExplained boxes past turn → Local boxes past → Deed past turn.event turn.calls turn.step
+deed-with : (boxes : ℕ) (past : List Turn) (turn : Turn) → HaveTheirRecords past → IsByRule boxes past turn → Explained boxes past → Deed past turn.event turn.calls turn.step
 deed-with boxes past turn records explained local = fits-deed boxes past (own-spir (window_by past) past records) turn.calls turn.step turn.event (does-told boxes past turn explained local)
 
-local-records : (boxes : ℕ) (past : List Turn) → Local boxes past → HaveTheirRecords past
+local-records : (boxes : ℕ) (past : List Turn) → Explained boxes past → HaveTheirRecords past
 local-records boxes [] local = tt
 local-records boxes (turn ∷ past) local =
     let records : HaveTheirRecords past = local-records boxes past local.1 in
     (deed-records past turn.event turn.step turn.calls (deed-with boxes past turn records local.0 local.1), records)
 
 -- a turn that is explained is a deed
-pub deed-of : (boxes : ℕ) (past : List Turn) (turn : Turn) → IsExplained boxes past turn → Local boxes past → Deed past turn.event turn.calls turn.step
+pub deed-of : (boxes : ℕ) (past : List Turn) (turn : Turn) → IsByRule boxes past turn → Explained boxes past → Deed past turn.event turn.calls turn.step
 deed-of boxes past turn explained local = deed-with boxes past turn (local-records boxes past local) explained local

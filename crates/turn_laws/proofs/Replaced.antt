@@ -19,13 +19,13 @@ use Rattle.keeper_book.specs.declared.faults.KeeperFault.TheVariants as fault
 use Rattle.turn_laws.proofs.All.{lawful-run}
 use Rattle.turn_laws.proofs.Called.{HoldOfCalls, IfCall, calls-hold}
 use Rattle.turn_laws.proofs.Safety.{owned-lawful}
-use Rattle.turn_laws.specs.Acts.{Act, Calls, Ends, MayAsk, MayCover, MayDo, Move, Seals, Uses, holding_at}
+use Rattle.turn_laws.specs.Acts.{Leases, Act, Calls, Ends, MayAsk, MayCover, MayDo, Move, Seals, Uses, holding_at}
 use Rattle.turn_laws.specs.Holdings.{Actor, Holding}
 use Rattle.turn_laws.specs.Owned.{Lawful, Owned, Writes}
 use Rattle.turn_laws.specs.Places.{Ours, column, column_ours}
 use Rattle.turn_laws.specs.Replaced.{AreReplacedLater, IsReplacedLater}
 use Rattle.turn_laws.specs.Turns.{acts_of}
-use Rattle.turn_rules.specs.Local.{Local, Stands}
+use Rattle.turn_rules.specs.Local.{Explained, Stands}
 
 record ShowsLater (x : Option Entry) (epoch later : ℕ) : Type 0 where
   pub entry : Entry
@@ -56,8 +56,8 @@ module _ (acts : List Act) (w : Actor) (old new : Book) (owned : Owned acts old)
   cover-later spir kind child epoch upto later c may answers =
       let shows : ShowsLater (entry_of spir old.entries) epoch later =
       shows-later (entry_of spir old.entries) (counter_named kind child) epoch later (shows-refused (cover_refusal (entry_of spir old.entries) (counter_named kind child) epoch) (fault.Replaced later) answers.0) in
-      let begun : may.holding.epoch ≤ length (column (Ours spir c) old).bases = ((owned.numbers (Ours spir c)).holdings w may.holding may.holds).begun in
-      let count : length (column (Ours spir c) old).bases ≡ length shows.entry.bases = ap (λ x. length (column_ours c x).bases) shows.found ∙ length-map shows.entry.bases (λ (five : Five). five_at five c) in
+      let begun : may.holding.epoch ≤ length (column (Ours spir c) [] old).bases = ((owned.numbers (Ours spir c)).holdings w may.holding may.holds).begun in
+      let count : length (column (Ours spir c) [] old).bases ≡ length shows.entry.bases = ap (λ x. length (column_ours c x).bases) shows.found ∙ length-map shows.entry.bases (λ (five : Five). five_at five c) in
       go begun count may.in_epoch shows.later_is shows.other
     where
       go : {held bases entries : ℕ} → held ≤ bases → bases ≡ entries → held ≡ epoch → later ≡ entries → epoch ≢ entries → epoch < later
@@ -92,7 +92,8 @@ lawful-later (act ∷ acts) book lawful = (by_move act.move lawful.2 lawful.3, l
     by_move (Calls call) may writes = answered-later acts act.by lawful.0 book (owned-lawful acts lawful.0 lawful.1) call.asked call.answer may writes
     by_move (Uses q n) may writes = tt
     by_move (Seals key) may writes = tt
+    by_move (Leases pool first count seen) may writes = tt
     by_move Ends may writes = tt
 
-pub calls-later : (boxes : ℕ) (past : List Turn) (book : Book) → Local boxes past → Stands past book → AreReplacedLater past
+pub calls-later : (boxes : ℕ) (past : List Turn) (book : Book) → Explained boxes past → Stands past book → AreReplacedLater past
 calls-later boxes past book local stands = calls-hold IsLater past (lawful-later (acts_of past) book (lawful-run boxes past book local stands))

@@ -1,5 +1,5 @@
 -- What the moves of one end do to what it holds, and that they leave what others hold.
-use Rattle.std.proofs.Common.{◌≡◌, ℕ, ◌≤◌, max, Bool, true, false, Option, Some, None, List, [], ◌∷◌, ◌++◌, map, ⊎_elim, refl, ap, sym, ◌∙◌, subst, arith, if◌then◌else◌}
+use Rattle.std.proofs.Common.{◌≡◌, ℕ, ◌≤◌, max, Bool, true, false, Option, Some, None, List, [], ◌∷◌, ◌++◌, length, map, ⊎_elim, refl, ap, sym, ◌∙◌, subst, arith, if◌then◌else◌}
 use Rattle.std.proofs.lemmas.Bool.Decides.{eqb_tells}
 use Rattle.std.specs.List.{AllByRecursion, cons_option}
 use Rattle.std.specs.Option.{option_map}
@@ -10,10 +10,10 @@ use Rattle.keeper_book.specs.declared.counters.Counter.{Counter}
 use Rattle.keeper_book.specs.declared.records.Record.{Record}
 use Rattle.keeper_book.specs.declared.records.Taken.{Taken}
 use Rattle.turn_laws.proofs.Holdings.{is_actor-same}
-use Rattle.turn_laws.specs.Acts.{Act, Calls, Ends, MayDoAll, Move, Seals, Uses, holding_begun, effect_of, effect_of_use, effect_ours, effect_theirs, entered_at, holding_at, acts_onto}
-use Rattle.turn_laws.specs.Holdings.{Actor, Begins, Draws, Effect, Holding, Nothing, Rises, holding_after, is_actor, raised_to}
+use Rattle.turn_laws.specs.Acts.{Act, Calls, Ends, MayDoAll, Move, Seals, Uses, holding_begun, Leases, effect_of, effect_of_lease, effect_of_use, lot_begun, lots_at, effect_ours, effect_theirs, entered_at, holding_at, acts_onto}
+use Rattle.turn_laws.specs.Holdings.{Passes, Actor, Begins, Draws, Effect, Holding, Nothing, Rises, holding_after, is_actor, raised_to}
 use Rattle.turn_laws.specs.Owned.{Lawful, Writes}
-use Rattle.turn_laws.specs.Places.{Ours, Place, Theirs, is_place, place_of}
+use Rattle.turn_laws.specs.Places.{NumberPool, Ours, Place, Pooled, Theirs, is_place, is_pool, place_of}
 use Rattle.turn_rules.specs.Ends.{Member, Peer, Performer, is_performer}
 use Rattle.turn_rules.specs.Held.{covered, covers_in, first_some, grant_in, granted, greatest}
 
@@ -23,6 +23,7 @@ IsBy w Nothing = Unit {0}
 IsBy w (Begins v h) = v ≡ w
 IsBy w (Rises v n) = v ≡ w
 IsBy w (Draws v n) = v ≡ w
+IsBy w (Passes u v) = ⊥
 
 module _ (w : Actor) where
   by-ours : (c : Counter) (grant : Option Taken) (upto : Option ℕ) → IsBy w (effect_ours w c grant upto)
@@ -42,18 +43,31 @@ module _ (w : Actor) where
       by_test true = refl
       by_test false = tt
 
-  by-move : (p : Place) (move : Move) → IsBy w (effect_of p w move)
-  by-move (Ours spir c) (Calls call) = by-ours c (granted spir call.asked (seen call)) (covered spir c call.asked (seen call))
-  by-move (Theirs spir c) (Calls call) = by-theirs c (entered_at spir call.asked (seen call))
-  by-move p (Uses q n) = by-use p (Some q) n
-  by-move p (Seals key) = by-use p (place_of key.name) key.iv
-  by-move p Ends = tt
+  by-lease : (p : Place) (lots : List ℕ) (pool : NumberPool) (first count : ℕ) (seen : Bool) → IsBy w (effect_of_lease p lots w pool first count seen)
+  by-lease (Ours spir c) lots pool first count seen = tt
+  by-lease (Theirs spir c) lots pool first count seen = tt
+  by-lease (Pooled q) lots pool first count false = tt
+  by-lease (Pooled q) lots pool first count true = by_test (is_pool pool q)
+    where
+      by_test : (b : Bool) → IsBy w (if b then Begins w (lot_begun (length lots) pool first count) else Nothing)
+      by_test true = refl
+      by_test false = tt
+
+  by-move : (p : Place) (lots : List ℕ) (move : Move) → IsBy w (effect_of p lots w move)
+  by-move (Ours spir c) lots (Calls call) = by-ours c (granted spir call.asked (seen call)) (covered spir c call.asked (seen call))
+  by-move (Pooled q) lots (Calls call) = tt
+  by-move (Theirs spir c) lots (Calls call) = by-theirs c (entered_at spir call.asked (seen call))
+  by-move p lots (Uses q n) = by-use p (Some q) n
+  by-move p lots (Leases pool first count seen) = by-lease p lots pool first count seen
+  by-move p lots (Seals key) = by-use p (place_of key.name) key.iv
+  by-move p lots Ends = tt
 
 -- an effect of one end leaves what another one holds
 other-effect : (w v : Actor) → is_actor w v ≡ false → (held : Actor → Option Holding) (e : Effect) → IsBy w e → holding_after e held v ≡ held v
 other-effect w v differs held Nothing by = refl
 other-effect w v differs held (Begins u h) by = let no : is_actor u v ≡ false = subst (λ x. is_actor x v ≡ false) (sym by) differs in rw no
 other-effect w v differs held (Rises u n) by = let no : is_actor u v ≡ false = subst (λ x. is_actor x v ≡ false) (sym by) differs in rw no
+other-effect w v differs held (Passes u x) by = absurd by
 other-effect w v differs held (Draws u n) by = let no : is_actor u v ≡ false = subst (λ x. is_actor x v ≡ false) (sym by) differs in rw no
 
 -- moves of one end leave what another one holds
@@ -61,7 +75,7 @@ pub others-hold : (p : Place) (w v : Actor) → is_actor w v ≡ false → (move
 others-hold p w v differs [] acts = refl
 others-hold p w v differs (move ∷ moves) acts =
     others-hold p w v differs moves (record { by = w; move = move } ∷ acts)
-    ∙ other-effect w v differs (holding_at p acts) (effect_of p w move) (by-move w p move)
+    ∙ other-effect w v differs (holding_at p acts) (effect_of p (lots_at p acts) w move) (by-move w p (lots_at p acts) move)
 
 -- one list of moves, and then another one
 pub onto-append : (w : Actor) (xs ys : List Move) (acts : List Act) → acts_onto w (xs ++ ys) acts ≡ acts_onto w ys (acts_onto w xs acts)

@@ -15,7 +15,7 @@ use Rattle.turn_laws.proofs.Sealed.{no-nonce-reuse}
 use Rattle.turn_laws.specs.Acts.{Act, Move, holding_at, acts_onto}
 use Rattle.turn_laws.specs.Holdings.{Actor, is_actor}
 use Rattle.turn_laws.specs.Places.{Place}
-use Rattle.turn_rules.specs.Local.{Local, Stands}
+use Rattle.turn_rules.specs.Local.{Explained, Stands}
 use Rattle.turn_rules.specs.Genuine.{AreAccepted}
 use Rattle.turn_rules.specs.Safe.{Safe, TakesWhereServed, taken_in}
 
@@ -24,7 +24,7 @@ none_taken [] = refl
 none_taken (turn ∷ past) = none_taken past
 
 -- no event is executed by a service
-pub none-served : (boxes : ℕ) (past : List Turn) → Local boxes past → AllByRecursion (λ turn. turn.step.served ≡ None) past
+pub none-served : (boxes : ℕ) (past : List Turn) → Explained boxes past → AllByRecursion (λ turn. turn.step.served ≡ None) past
 none-served boxes [] local = tt
 none-served boxes (turn ∷ past) local =
     (outcome-served past turn.event turn.calls turn.step (outcome-of past turn.event turn.calls turn.step (deed-of boxes past turn local.0 local.1)), none-served boxes past local.1)
@@ -33,7 +33,7 @@ takes-where_served : (turn : Turn) → turn.step.served ≡ None → TakesWhereS
 takes-where_served turn none some = let no : is_some {T = Served} None ≡ true = subst (λ o. is_some o ≡ true) none some in absurd (cc)
 
 -- a run is safe where covered genuine packets are accepted at first delivery: no event takes a request yet
-pub safe-run : (boxes : ℕ) (past : List Turn) (book : Book) → Local boxes past → Stands past book → AreAccepted past → Safe past
+pub safe-run : (boxes : ℕ) (past : List Turn) (book : Book) → Explained boxes past → Stands past book → AreAccepted past → Safe past
 safe-run boxes past book local stands accepted = record {
   no_nonce_reuse = no-nonce-reuse boxes past book local stands;
   packets_once = packets-once boxes past book local stands;

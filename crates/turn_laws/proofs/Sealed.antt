@@ -10,12 +10,12 @@ use Rattle.turn_laws.proofs.Lists.{all-each}
 use Rattle.turn_laws.proofs.Moves.{IsUseOrEnd, are-uses}
 use Rattle.turn_laws.proofs.Names.{is_place-same}
 use Rattle.turn_laws.proofs.Safety.{owned-lawful}
-use Rattle.turn_laws.specs.Acts.{Act, Calls, Ends, HoldsFor, MayDo, Move, Seals, Uses, effect_of, effect_of_use, holding_at, numbers_at, acts_onto, uses_at}
-use Rattle.turn_laws.specs.Holdings.{Actor, Begins, Draws, Effect, Holding, IsNotIn, Nothing, Rises, Use, uses_after}
+use Rattle.turn_laws.specs.Acts.{Leases, lots_at, Act, Calls, Ends, HoldsFor, MayDo, Move, Seals, Uses, effect_of, effect_of_use, holding_at, numbers_at, acts_onto, uses_at}
+use Rattle.turn_laws.specs.Holdings.{Passes, Actor, Begins, Draws, Effect, Holding, IsNotIn, Nothing, Rises, Use, uses_after}
 use Rattle.turn_laws.specs.Owned.{Lawful, Owned}
 use Rattle.turn_laws.specs.Places.{Place, is_place, place_of}
 use Rattle.turn_laws.specs.Turns.{actor_of, acts_of, key_iv, uses_of}
-use Rattle.turn_rules.specs.Local.{Local, Stands}
+use Rattle.turn_rules.specs.Local.{Explained, Stands}
 use Rattle.turn_rules.specs.Safe.{IsEachOnce, KeyIv, key_ivs}
 
 -- the keys and IVs that a move, and that acts, sealed under
@@ -37,6 +37,7 @@ module _ (p : Place) (n : ℕ) where
   fewer Nothing held us none = none
   fewer (Begins w h) held us none = none
   fewer (Rises w k) held us none = none
+  fewer (Passes w v) held us none = none
   fewer (Draws w k) held us none = none.1
 
   seal-used : (w : Actor) (key : KeyIv) (held : Actor → Option Holding) (us : List Use) → IsNotIn n (map (λ u. u.number) (uses_after (effect_of_use p (place_of key.name) w key.iv) held us)) → IsOther key
@@ -47,9 +48,9 @@ module _ (p : Place) (n : ℕ) where
 
   pub not-sealed : (acts : List Act) → IsNotIn n (numbers_at p acts) → AllByRecursion IsOther (sealed_in acts)
   not-sealed [] none = tt
-  not-sealed (act ∷ acts) none = by_move act.move none (not-sealed acts (fewer (effect_of p act.by act.move) (holding_at p acts) (uses_at p acts) none))
+  not-sealed (act ∷ acts) none = by_move act.move none (not-sealed acts (fewer (effect_of p (lots_at p acts) act.by act.move) (holding_at p acts) (uses_at p acts) none))
     where
-      by_move : (move : Move) → IsNotIn n (map (λ u. u.number) (uses_after (effect_of p act.by move) (holding_at p acts) (uses_at p acts))) → AllByRecursion IsOther (sealed_in acts) → AllByRecursion IsOther (sealed_by move (sealed_in acts))
+      by_move : (move : Move) → IsNotIn n (map (λ u. u.number) (uses_after (effect_of p (lots_at p acts) act.by move) (holding_at p acts) (uses_at p acts))) → AllByRecursion IsOther (sealed_in acts) → AllByRecursion IsOther (sealed_by move (sealed_in acts))
       by_move (Seals key) none rest = (seal-used act.by key (holding_at p acts) (uses_at p acts) none, rest)
       by_move move none rest = rest
 
@@ -64,6 +65,7 @@ sealed-once (act ∷ acts) book lawful = by_move act.move refl (sealed-once acts
     by_move : (move : Move) → act.move ≡ move → IsEachOnce (sealed_in acts) → IsEachOnce (sealed_by move (sealed_in acts))
     by_move (Calls call) is rest = rest
     by_move (Uses q n) is rest = rest
+    by_move (Leases pool first count seen) is rest = rest
     by_move Ends is rest = rest
     by_move (Seals key) is rest = (new-key key (place_of key.name) refl (subst (λ move. MayDo acts act.by move) is lawful.2) is, rest)
       where
@@ -71,8 +73,8 @@ sealed-once (act ∷ acts) book lawful = by_move act.move refl (sealed-once acts
         new-key key None e may is = absurd (rw e at may)
         new-key key (Some p) e may is =
             let here : is_place p p ≡ true = is_place-same p in
-            let effect : effect_of p act.by act.move ≡ Draws act.by key.iv =
-            ap (effect_of p act.by) is ∙ (ap (λ q. effect_of_use p q act.by key.iv) e ∙ ap (λ b. if b then Draws act.by key.iv else Nothing) here) in
+            let effect : effect_of p (lots_at p acts) act.by act.move ≡ Draws act.by key.iv =
+            ap (effect_of p (lots_at p acts) act.by) is ∙ (ap (λ q. effect_of_use p q act.by key.iv) e ∙ ap (λ b. if b then Draws act.by key.iv else Nothing) here) in
             let once : IsEachOnce (map (λ u. u.number) (uses_after (Draws act.by key.iv) (holding_at p acts) (uses_at p acts))) =
             subst (λ x. IsEachOnce (map (λ u. u.number) (uses_after x (holding_at p acts) (uses_at p acts)))) effect (owned.numbers p).once in
             all-each (sealed_in acts)
@@ -110,6 +112,7 @@ module _ (w : Actor) where
   sealed-uses (Calls call ∷ moves) uses rest acts = absurd uses.0
   sealed-uses (Uses place n ∷ moves) uses rest acts = sealed-uses moves uses.1 rest (record { by = w; move = Uses place n } ∷ acts)
   sealed-uses (Seals key ∷ moves) uses rest acts = absurd uses.0
+  sealed-uses (Leases pool first count seen ∷ moves) uses rest acts = absurd uses.0
   sealed-uses (Ends ∷ moves) uses rest acts = sealed-uses moves uses.1 rest (record { by = w; move = Ends } ∷ acts)
 
   -- seals of a turn stand before those of earlier turns
@@ -137,5 +140,5 @@ key_ivs-once (turn ∷ past) before once =
     (key_ivs-once past (before ++ map key_iv turn.step.seals) apart)
 
 -- no key and IV seals two plaintexts
-pub no-nonce-reuse : (boxes : ℕ) (past : List Turn) (book : Book) → Local boxes past → Stands past book → IsEachOnce (key_ivs past)
+pub no-nonce-reuse : (boxes : ℕ) (past : List Turn) (book : Book) → Explained boxes past → Stands past book → IsEachOnce (key_ivs past)
 no-nonce-reuse boxes past book local stands = key_ivs-once past [] (sealed-once (acts_of past) book (lawful-run boxes past book local stands))

@@ -25,7 +25,7 @@ use Rattle.turn_laws.specs.Places.{Theirs, is_place, start_of}
 use Rattle.turn_laws.specs.Turns.{actor_as, actor_of, acts_of, moves_of}
 use Rattle.turn_rules.specs.Ends.{Member, Peer, Performer, is_by, is_end, own, performer, performer_at}
 use Rattle.turn_rules.specs.Held.{first_some, found}
-use Rattle.turn_rules.specs.Local.{Local}
+use Rattle.turn_rules.specs.Local.{Explained}
 use Rattle.turn_rules.specs.Peers.{record_entered, entered_in}
 use Rattle.turn_rules.specs.Slots.{is_entered, since_entered}
 
@@ -70,7 +70,7 @@ idle-theirs spir counter.EspIn event verdict idle = idle-received spir event ver
 idle-theirs spir c event verdict idle = refl
 
 -- a turn of the peer is no turn of a member
-not-both : {X : Type 0} (member : ℕ) (x : Option Performer) → x ≡ Some (Member member) → x ≡ Some Peer → X
+pub not-both : {X : Type 0} (member : ℕ) (x : Option Performer) → x ≡ Some (Member member) → x ≡ Some Peer → X
 not-both member x by_member by_peer = absurd (cc)
 
 module _ (spir : ℕ) (c : Counter) (w : Actor) where
@@ -133,7 +133,7 @@ other-actor (Some Peer) e = absurd (cc)
 other-actor (Some (Member member)) e = refl
 
 -- what the peer's own turns say that it holds is what the acts of all turns make of it
-pub told_theirs-held : (boxes : ℕ) (past : List Turn) → Local boxes past → (spir : ℕ) (c : Counter) → told_theirs spir c (own Peer past) ≡ holding_at (Theirs spir c) (acts_of past) (End Peer)
+pub told_theirs-held : (boxes : ℕ) (past : List Turn) → Explained boxes past → (spir : ℕ) (c : Counter) → told_theirs spir c (own Peer past) ≡ holding_at (Theirs spir c) (acts_of past) (End Peer)
 told_theirs-held boxes [] local spir c = refl
 told_theirs-held boxes (turn ∷ past) local spir c = by_test (told_theirs-held boxes past local.1 spir c) (is_by Peer turn) refl
   where

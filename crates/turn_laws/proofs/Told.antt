@@ -29,7 +29,7 @@ use Rattle.turn_rules.proofs.Ties.{greatest-append}
 use Rattle.turn_rules.specs.Draws.{reach_of}
 use Rattle.turn_rules.specs.Ends.{Member, Peer, Performer, is_by, is_end, own, performer, performer_at}
 use Rattle.turn_rules.specs.Held.{covers_in, covers_of, first_some, found, grant_in, grant_of, granted, greatest, since}
-use Rattle.turn_rules.specs.Local.{Local}
+use Rattle.turn_rules.specs.Local.{Explained}
 use Rattle.turn_rules.specs.States.{ended_by}
 use Rattle.turn_rules.specs.Steps.{IsQuiet}
 
@@ -179,7 +179,7 @@ module _ (spir : ℕ) (c : Counter) (w : Actor) (event : Event) (calls : List Ca
           (subst (λ cs. holding_at (Ours spir c) (acts_onto w (map Calls cs) acts) w ≡ first_some (option_map (holding_begun c) (grant_in spir cs)) (option_map (covered_by spir c w cs) (holding_at (Ours spir c) acts w))) (sym is.1) (held-call spir c w is.0 acts))
           ∙ told_once (holding_at (Ours spir c) acts w) is.2
 
-is_end-true : (end : Performer) (x : Option Performer) → is_end end x ≡ true → x ≡ Some end
+pub is_end-true : (end : Performer) (x : Option Performer) → is_end end x ≡ true → x ≡ Some end
 is_end-true end None e = absurd (cc)
 is_end-true end (Some other) e = ap Some (sym (is_performer-true end other e))
 
@@ -188,7 +188,7 @@ is_end-false end None e = refl
 is_end-false end (Some other) e = is_performer-sym other end ∙ e
 
 -- what a member's own turns say that it holds is what the acts of all turns make of it
-pub told-held : (boxes : ℕ) (past : List Turn) → Local boxes past → (member spir : ℕ) (c : Counter) → told spir c (own (Member member) past) ≡ holding_at (Ours spir c) (acts_of past) (End (Member member))
+pub told-held : (boxes : ℕ) (past : List Turn) → Explained boxes past → (member spir : ℕ) (c : Counter) → told spir c (own (Member member) past) ≡ holding_at (Ours spir c) (acts_of past) (End (Member member))
 told-held boxes [] local member spir c = refl
 told-held boxes (turn ∷ past) local member spir c = by_test (told-held boxes past local.1 member spir c) (is_by (Member member) turn) refl
   where

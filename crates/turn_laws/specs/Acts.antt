@@ -1,5 +1,7 @@
--- What ends do, as data, and what it does to the numbers of each counter. A list of acts has the newest first.
-use Rattle.std.specs.Prelude.{ℕ, ◌≡◌, ◌≤◌, ◌==◌, Option, Some, None, MatchOption, List, [], ◌∷◌, map, if◌then◌else◌}
+-- What ends do, as data, and what it does to the numbers of each counter. A list of acts has the
+-- newest first.
+use Rattle.std.specs.Prelude.{ℕ, ◌+◌, ◌≡◌, ◌≤◌, ◌==◌, Bool, true, Option, Some, None, MatchOption, List, [], ◌∷◌, ◌++◌, length, map, if◌then◌else◌}
+use Rattle.ha_base.specs.declared.limits.TheConstants.{LEAST_ESP_SPI, LEAST_SPI}
 use Rattle.keeper_book.specs.CounterEnds.{end_of}
 use Rattle.keeper_book.specs.Counters.{counter_named, five_at}
 use Rattle.keeper_book.specs.Told.{seen}
@@ -12,7 +14,7 @@ use Rattle.keeper_book.specs.declared.counters.Counter.{Counter}
 use Rattle.keeper_book.specs.declared.records.Record.{Record}
 use Rattle.keeper_book.specs.declared.records.Taken.{Taken}
 use Rattle.turn_laws.specs.Holdings.{Actor, Begins, Draws, Effect, Holding, MayUse, Nothing, Rises, Use, holding_after, uses_after}
-use Rattle.turn_laws.specs.Places.{Place, Ours, Theirs, is_place, place_of, start_of}
+use Rattle.turn_laws.specs.Places.{NumberPool, Place, Ours, Pooled, Theirs, is_place, is_pool, place_of, pool_end, start_of}
 use Rattle.turn_rules.specs.Held.{covered, granted}
 use Rattle.turn_rules.specs.Safe.{KeyIv}
 
@@ -23,6 +25,9 @@ pub data Move : Type 0 where
   Uses : (place : Place) → (number : ℕ) → Move
   -- something is sealed under a key and an IV, which is a number of the key's counter
   Seals : (key : KeyIv) → Move
+  -- The book leases a range of a pool, from a number on and so many. Where the caller saw it, the
+  -- range is its lot, in place of an earlier one.
+  Leases : (pool : NumberPool) → (first count : ℕ) → (seen : Bool) → Move
   -- a member ends
   Ends : Move
 
@@ -57,27 +62,52 @@ entered_at spir asked answered = None
 abbrev pub effect_of_call : Place → Actor → KeeperAsk → KeeperAnswer → Effect
 effect_of_call (Ours spir c) w asked answered = effect_ours w c (granted spir asked answered) (covered spir c asked answered)
 effect_of_call (Theirs spir c) w asked answered = effect_theirs w c (entered_at spir asked answered)
+effect_of_call (Pooled pool) w asked answered = Nothing
 
 abbrev pub effect_of_use : Place → Option Place → Actor → ℕ → Effect
 effect_of_use p None w n = Nothing
 effect_of_use p (Some q) w n = if is_place q p then Draws w n else Nothing
 
--- what a move does at a place
-abbrev pub effect_of : Place → Actor → Move → Effect
-effect_of p w (Calls call) = effect_of_call p w call.asked (seen call)
-effect_of p w (Uses q n) = effect_of_use p (Some q) w n
-effect_of p w (Seals key) = effect_of_use p (place_of key.name) w key.iv
-effect_of p w Ends = Nothing
+-- a lot that was leased after so many: all its numbers may be used
+abbrev pub lot_begun : ℕ → NumberPool → ℕ → ℕ → Holding
+lot_begun before pool first count = record { epoch = before + 1; base = first; high = first + count; end = pool_end pool; numbers = [] }
+
+-- what a lease does at a place, after these lots
+abbrev pub effect_of_lease : Place → List ℕ → Actor → NumberPool → ℕ → ℕ → Bool → Effect
+effect_of_lease (Pooled q) lots w pool first count true = if is_pool pool q then Begins w (lot_begun (length lots) pool first count) else Nothing
+effect_of_lease p lots w pool first count seen = Nothing
+
+-- what a move does at a place, after these lots
+abbrev pub effect_of : Place → List ℕ → Actor → Move → Effect
+effect_of p lots w (Calls call) = effect_of_call p w call.asked (seen call)
+effect_of p lots w (Uses q n) = effect_of_use p (Some q) w n
+effect_of p lots w (Seals key) = effect_of_use p (place_of key.name) w key.iv
+effect_of p lots w (Leases pool first count seen) = effect_of_lease p lots w pool first count seen
+effect_of p lots w Ends = Nothing
+
+-- where the lots of a pool begin that were seen, once one more is leased
+abbrev pub lots_leased : Place → NumberPool → ℕ → Bool → List ℕ → List ℕ
+lots_leased (Pooled q) pool first true lots = if is_pool pool q then lots ++ first ∷ [] else lots
+lots_leased p pool first seen lots = lots
+
+abbrev pub lots_after : Move → Place → List ℕ → List ℕ
+lots_after (Leases pool first count seen) p lots = lots_leased p pool first seen lots
+lots_after move p lots = lots
+
+-- and after these acts
+abbrev pub lots_at : Place → List Act → List ℕ
+lots_at p [] = []
+lots_at p (act ∷ acts) = lots_after act.move p (lots_at p acts)
 
 -- what each end holds at a place
 abbrev pub holding_at : Place → List Act → Actor → Option Holding
 holding_at p [] = λ w. None
-holding_at p (act ∷ acts) = holding_after (effect_of p act.by act.move) (holding_at p acts)
+holding_at p (act ∷ acts) = holding_after (effect_of p (lots_at p acts) act.by act.move) (holding_at p acts)
 
 -- the numbers of a place that were used
 abbrev pub uses_at : Place → List Act → List Use
 uses_at p [] = []
-uses_at p (act ∷ acts) = uses_after (effect_of p act.by act.move) (holding_at p acts) (uses_at p acts)
+uses_at p (act ∷ acts) = uses_after (effect_of p (lots_at p acts) act.by act.move) (holding_at p acts) (uses_at p acts)
 
 abbrev pub numbers_at : Place → List Act → List ℕ
 numbers_at p acts = map (λ u. u.number) (uses_at p acts)
@@ -95,9 +125,16 @@ pub record MayCover (held : Option Holding) (epoch upto : ℕ) : Type 0 where
   pub in_epoch : holding.epoch ≡ epoch
   pub within_end : upto ≤ holding.end
 
+-- Imports have these SPIs: lower ones are for what the cluster draws itself, the responder's of a
+-- resumed association and, above it, the one at which the cluster receives in it.
+pub record IsImport (sa : Record) : Type 0 where
+  pub spir : LEAST_SPI ≤ sa.spir
+  pub spi_in : LEAST_ESP_SPI ≤ sa.spi_in
+
 -- what a call needs beside the book
 abbrev pub MayAsk : List Act → Actor → KeeperAsk → Type 0
 MayAsk acts w (ask.Cover spir kind child epoch upto) = MatchOption (counter_named kind child) ⊥ (λ c. MayCover (holding_at (Ours spir c) acts w) epoch upto)
+MayAsk acts w (ask.Enter sa) = IsImport sa
 MayAsk acts w asked = Unit {0}
 
 -- what a move needs beside the book
@@ -105,6 +142,7 @@ abbrev pub MayDo : List Act → Actor → Move → Type 0
 MayDo acts w (Calls call) = MayAsk acts w call.asked
 MayDo acts w (Uses p n) = HoldsFor (holding_at p acts w) n
 MayDo acts w (Seals key) = MatchOption (place_of key.name) ⊥ (λ p. HoldsFor (holding_at p acts w) key.iv)
+MayDo acts w (Leases pool first count seen) = first + count ≤ pool_end pool
 MayDo acts w Ends = Unit {0}
 
 -- each of these moves of one end may come after those before it

@@ -11,7 +11,8 @@ pub record Column : Type 0 where
 abbrev pub nothing : Column
 nothing = record { bases = []; high = 0; end = 0 }
 
--- where an epoch begins, counted from 0: its base, or the high where it did not begin yet. It is where the one before ends.
+-- where an epoch begins, counted from 0: its base, or the high where it did not begin yet. It is
+-- where the one before ends.
 abbrev pub column_mark : Column → ℕ → ℕ
 column_mark column i = slice_index_or column.bases i column.high
 

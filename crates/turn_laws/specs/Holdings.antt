@@ -1,24 +1,27 @@
 -- Who holds which numbers of one counter, and what one move makes of it.
-use Rattle.std.specs.Prelude.{ℕ, ◌+◌, ◌-◌, ◌<◌, ◌≤◌, ◌≡◌, ◌≢◌, max, Bool, true, false, Option, Some, None, List, [], ◌∷◌, length, map, if◌then◌else◌}
+use Rattle.std.specs.Prelude.{ℕ, ◌+◌, ◌-◌, ◌<◌, ◌≤◌, ◌≡◌, ◌≢◌, ◌==◌, max, Bool, true, false, Option, Some, None, List, [], ◌∷◌, length, map, if◌then◌else◌}
 use Rattle.std.specs.List.{AllByRecursion}
 use Rattle.std.specs.Option.{option_map}
 use Rattle.turn_laws.specs.Columns.{Column, IsRising, column_mark}
 use Rattle.turn_rules.specs.Ends.{Performer, is_performer}
 use Rattle.turn_rules.specs.Safe.{IsEachOnce}
 
--- who makes a move: the run itself, or one of its ends
+-- Who makes a move, or holds numbers: the run itself, one of its ends, or what is half open: a
+-- resumption under this responder's SPI, which holds the first numbers of what it will be until a
+-- member has settled it.
 pub data Actor : Type 0 where
   Run : Actor
   End : (end : Performer) → Actor
+  Half : (spir : ℕ) → Actor
 
 abbrev pub is_actor : Actor → Actor → Bool
 is_actor Run Run = true
-is_actor Run (End b) = false
-is_actor (End a) Run = false
 is_actor (End a) (End b) = is_performer a b
+is_actor (Half a) (Half b) = a == b
+is_actor w v = false
 
--- The numbers that an end may use: those of an epoch from its base on, below the high that was acknowledged, but for those
--- that it used. No number reaches the end.
+-- The numbers that an end may use: those of an epoch from its base on, below the high that was
+-- acknowledged, but for those that it used. No number reaches the end.
 pub record Holding : Type 0 where
   pub epoch : ℕ
   pub base : ℕ
@@ -34,7 +37,8 @@ pub record MayUse (h : Holding) (n : ℕ) : Type 0 where
   pub below_high : n < h.high
   pub unused : IsNotIn n h.numbers
 
--- a number that was used, in which epoch, and the end of its counter, as the record of what was held gave it
+-- a number that was used, in which epoch, and the end of its counter, as the record of what was
+-- held gave it
 pub record Use : Type 0 where
   pub epoch : ℕ
   pub number : ℕ
@@ -49,6 +53,8 @@ pub data Effect : Type 0 where
   Rises : Actor → ℕ → Effect
   -- a number is used
   Draws : Actor → ℕ → Effect
+  -- what one holds passes to another one, in place of what that one held
+  Passes : Actor → Actor → Effect
 
 abbrev pub raised_to : ℕ → Holding → Holding
 raised_to upto h = record h { high = max upto h.high }
@@ -61,6 +67,7 @@ holding_after Nothing held v = held v
 holding_after (Begins w h) held v = if is_actor w v then Some h else held v
 holding_after (Rises w upto) held v = if is_actor w v then option_map (raised_to upto) (held v) else held v
 holding_after (Draws w n) held v = if is_actor w v then option_map (drawn n) (held v) else held v
+holding_after (Passes w u) held v = if is_actor u v then held w else (if is_actor w v then None else held v)
 
 -- 0 is no epoch: nothing is held
 abbrev pub epoch_of : Option Holding → ℕ
@@ -93,23 +100,28 @@ pub record IsUseOf (column : Column) (u : Use) : Type 0 where
   pub below : u.number < column_mark column u.epoch
   pub end : u.end ≡ column.end
 
--- a holding of the epoch that begins as the column goes on: nobody holds it yet, and no number of it was used
+-- a holding of the epoch that begins as the column goes on: nobody holds it yet, and no number of
+-- it was used
 pub record IsNew (old new : Column) (h : Holding) : Type 0 where
   pub next_epoch : h.epoch ≡ length old.bases + 1
   pub of_column : IsHoldingOf new h
   pub unused : h.numbers ≡ []
 
--- The numbers of one counter belong to one end each: what each end holds of it, and the numbers that were used.
-pub record IsOwned (held : Actor → Option Holding) (uses : List Use) (column : Column) : Type 0 where
+-- The numbers of one counter belong to one end each: what each end holds of it, and the numbers
+-- that were used.
+pub record IsOwned (held : Actor
+    → Option Holding) (uses : List Use) (column : Column) : Type 0 where
   -- the bases do not fall, and the last is at most the high
   pub rising : IsRising column
   -- each holding is of an epoch that began, has its base, and ends where the next epoch begins
   pub holdings : (w : Actor) (h : Holding) → held w ≡ Some h → IsHoldingOf column h
   -- each epoch has at most one holding
-  pub alone : (w v : Actor) (h g : Holding) → held w ≡ Some h → held v ≡ Some g → h.epoch ≡ g.epoch → w ≡ v
+  pub alone : (w v : Actor) (h g : Holding) → held w ≡ Some h → held v ≡ Some g → h.epoch ≡ g.epoch
+      → w ≡ v
   -- each number was used within its epoch
   pub within : AllByRecursion (IsUseOf column) uses
   -- what is not among a holder's own numbers was not used in its epoch
-  pub known : (w : Actor) (h : Holding) → held w ≡ Some h → (n : ℕ) → IsNotIn n h.numbers → AllByRecursion (λ u. u.epoch ≡ h.epoch → u.number ≢ n) uses
+  pub known : (w : Actor) (h : Holding) → held w ≡ Some h → (n : ℕ) → IsNotIn n h.numbers
+      → AllByRecursion (λ u. u.epoch ≡ h.epoch → u.number ≢ n) uses
   -- no number was used twice
   pub once : IsEachOnce (map (λ u. u.number) uses)

@@ -1,5 +1,6 @@
 pub mod Acts
 pub mod Columns
+pub mod FirstDelivery
 pub mod Holdings
 pub mod Listed
 pub mod OwnTurns

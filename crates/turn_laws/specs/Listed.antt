@@ -1,4 +1,5 @@
--- The numbers that the lists of a trace have: those that were drawn, those of accepted packets, and the IVs of seals.
+-- The numbers that the lists of a trace have: those that were drawn, those of accepted packets, and
+-- the IVs of seals.
 use Rattle.std.specs.Prelude.{ℕ, Option, Some, None, option_to_list, List, ◌++◌, map, reverse, if◌then◌else◌}
 use Rattle.std.specs.List.{filter_map}
 use Rattle.events.specs.declared.event.Event.{Event}

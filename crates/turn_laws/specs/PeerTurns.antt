@@ -32,7 +32,8 @@ number_theirs spir c event verdict = None
 abbrev pub number_theirs_of : ℕ → Counter → Turn → Option ℕ
 number_theirs_of spir c turn = number_theirs spir c turn.event turn.step.verdict
 
--- what the peer, with these turns of its own, holds of a counter of the association, and what it used of it
+-- what the peer, with these turns of its own, holds of a counter of the association, and what it
+-- used of it
 abbrev pub told_theirs : ℕ → Counter → List Turn → Option Holding
 told_theirs spir c past = option_map (λ sa. record {
   epoch = 1;

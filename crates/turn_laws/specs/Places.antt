@@ -1,8 +1,12 @@
 -- The counters of a run, each with its numbers.
-use Rattle.std.specs.Prelude.{ℕ, ◌==◌, ◌&&◌, Bool, false, Option, Some, None, [], ◌∷◌, map}
+use Rattle.std.specs.Prelude.{ℕ, ◌^◌, ◌==◌, ◌&&◌, Bool, true, false, Option, Some, None, List, [], ◌∷◌, map}
 use Rattle.ha_base.specs.declared.counter_names.CounterName.{CounterName}
 use Rattle.ha_base.specs.declared.counter_names.End.{End}
 use Rattle.ha_base.specs.declared.counter_names.End.TheVariants as end
+use Rattle.ha_base.specs.declared.counter_names.Kind.{Kind}
+use Rattle.ha_base.specs.declared.counter_names.Kind.TheVariants as kind
+use Rattle.ha_base.specs.declared.counter_names.Origin.{Origin}
+use Rattle.ha_base.specs.declared.counter_names.Origin.TheVariants as origin
 use Rattle.keeper_book.specs.Book.{Book, Entry, entry_of}
 use Rattle.keeper_book.specs.CounterEnds.{end_of}
 use Rattle.keeper_book.specs.Counters.{counter_named, five_at}
@@ -11,16 +15,29 @@ use Rattle.keeper_book.specs.declared.counters.Counter.{Counter}
 use Rattle.keeper_book.specs.declared.counters.Counter.TheVariants as counter
 use Rattle.keeper_book.specs.declared.records.Record.{Record}
 use Rattle.turn_laws.specs.Columns.{Column, nothing}
-use Rattle.turn_rules.specs.Held.{is_counter}
+use Rattle.turn_rules.specs.Held.{first_some, is_counter}
 
--- A counter of the association with this responder's SPI: the cluster's, or the peer's.
+-- The numbers that members draw from ranges that they lease: those under a ticket key, and those in
+-- the nonces of resumptions.
+pub data NumberPool : Type 0 where
+  TicketNumbers : NumberPool
+  NonceNumbers : NumberPool
+
+-- A counter of the association with this responder's SPI, the cluster's or the peer's, or a pool.
 pub data Place : Type 0 where
   Ours : (spir : ℕ) → (counter : Counter) → Place
   Theirs : (spir : ℕ) → (counter : Counter) → Place
+  Pooled : (pool : NumberPool) → Place
+
+abbrev pub is_pool : NumberPool → NumberPool → Bool
+is_pool TicketNumbers TicketNumbers = true
+is_pool NonceNumbers NonceNumbers = true
+is_pool p q = false
 
 abbrev pub is_place : Place → Place → Bool
 is_place (Ours a c) (Ours b d) = (a == b) && is_counter c d
 is_place (Theirs a c) (Theirs b d) = (a == b) && is_counter c d
+is_place (Pooled p) (Pooled q) = is_pool p q
 is_place p q = false
 
 abbrev pub place_by : End → ℕ → Counter → Place
@@ -31,9 +48,16 @@ abbrev pub place_named : End → Option ℕ → Option Counter → Option Place
 place_named end (Some spir) (Some c) = Some (place_by end spir c)
 place_named end spir c = None
 
+-- the numbers under a ticket key, of whatever generation
+abbrev pub place_pooled : Origin → Kind → Option Place
+place_pooled (origin.TicketKey generation) kind.TicketIv = Some (Pooled TicketNumbers)
+place_pooled origin kind = None
+
 -- where the numbers of a name are
 abbrev pub place_of : CounterName → Option Place
-place_of name = place_named name.end (spir_of_origin name.origin) (counter_named name.kind name.child)
+place_of name =
+    first_some (place_named name.end (spir_of_origin name.origin) (counter_named name.kind name.child))
+    (place_pooled name.origin name.kind)
 
 -- the counter of the other end that counts the same: what one sends, the other receives
 abbrev pub mirrored : Counter → Counter
@@ -57,11 +81,29 @@ abbrev pub column_theirs : Counter → Option Entry → Column
 column_theirs c None = nothing
 column_theirs c (Some e) = record { bases = start_of e.sa c ∷ []; high = end_of e.sa c; end = end_of e.sa c }
 
--- the numbers of a counter, by the book
-abbrev pub column : Place → Book → Column
-column (Ours spir c) book = column_ours c (entry_of spir book.entries)
-column (Theirs spir c) book = column_theirs c (entry_of spir book.entries)
+-- the next number of a pool, by the book
+abbrev pub pool_next : NumberPool → Book → ℕ
+pool_next TicketNumbers book = book.next_ticket
+pool_next NonceNumbers book = book.next_nonce
+
+abbrev pub with_pool_next : NumberPool → ℕ → Book → Book
+with_pool_next TicketNumbers n book = record book { next_ticket = n }
+with_pool_next NonceNumbers n book = record book { next_nonce = n }
+
+-- No number of a pool reaches its end. A number of a nonce is the responder's SPI of what is
+-- resumed, and 256 more than it the SPI at which the cluster receives in it, so it stays below
+-- those of imports.
+abbrev pub pool_end : NumberPool → ℕ
+pool_end TicketNumbers = 2 ^ 32
+pool_end NonceNumbers = 65280
+
+-- The numbers of a place, by the book; of a pool also by where the ranges begin that were leased,
+-- the first one first.
+abbrev pub column : Place → List ℕ → Book → Column
+column (Ours spir c) lots book = column_ours c (entry_of spir book.entries)
+column (Theirs spir c) lots book = column_theirs c (entry_of spir book.entries)
+column (Pooled pool) lots book = record { bases = lots; high = pool_next pool book; end = pool_end pool }
 
 -- no number of a place reaches this end, which the record of the association gives
 abbrev pub end_at : Place → Book → ℕ
-end_at p book = (column p book).end
+end_at p book = (column p [] book).end

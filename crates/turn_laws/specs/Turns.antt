@@ -74,7 +74,8 @@ number_taken spir c event verdict = used spir c event verdict
 abbrev pub turn_taken : ℕ → Counter → Turn → Option ℕ
 turn_taken spir c turn = number_taken spir c turn.event turn.step.verdict
 
--- what an end with these turns of its own holds of a counter of the association, and what it used of it
+-- what an end with these turns of its own holds of a counter of the association, and what it used
+-- of it
 abbrev pub told : ℕ → Counter → List Turn → Option Holding
 told spir c past = option_map (λ taken. record {
   epoch = taken.epoch;

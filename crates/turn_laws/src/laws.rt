@@ -1,6 +1,6 @@
 //! The laws. Each is the contract of a function that does nothing.
 
-ghost use Rattle.std.specs.Prelude.{◌≡◌, ◌≢◌, ◌<◌, ◌≤◌, ◌⊎◌, ℕ, Option, Some, None, List, [], ◌∷◌};
+ghost use Rattle.std.specs.Prelude.{◌+◌, ◌≡◌, ◌≢◌, ◌<◌, ◌≤◌, ◌⊎◌, ℕ, Bool, Option, Some, None, List, [], ◌∷◌};
 ghost use Rattle.std.specs.List.{AllByRecursion, filter_map, flat_map};
 ghost use Rattle.events.specs.declared.turn.Turn.{Turn};
 ghost use Rattle.keeper_book.specs.Book.{Answers, Book, Enters, book_after};
@@ -12,177 +12,265 @@ ghost use Rattle.keeper_book.specs.declared.calls.KeeperAsk.TheVariants as ask;
 ghost use Rattle.keeper_book.specs.declared.counters.Counter.{Counter};
 ghost use Rattle.keeper_book.specs.declared.counters.Counter.TheVariants as counter;
 ghost use Rattle.keeper_book.specs.declared.faults.KeeperFault.TheVariants as fault;
-ghost use Rattle.turn_laws.specs.Acts.{Act, Calls, Ends, MayAsk, MayDo, MayDoAll, Move, holding_at, numbers_at, acts_onto, uses_at};
+ghost use Rattle.turn_laws.specs.Acts.{Act, Calls, Ends, Leases, MayAsk, MayDo, MayDoAll, Move, holding_at, numbers_at, acts_onto, uses_at};
 ghost use Rattle.turn_laws.specs.Columns.{Column, ColumnGoesOn, column_mark};
-ghost use Rattle.turn_laws.specs.Holdings.{Actor, Begins, Draws, End, Holding, IsNew, IsOwned, MayUse, Rises, Use, holding_after, uses_after};
+ghost use Rattle.turn_laws.specs.FirstDelivery.{MemberAcceptsFirst, PeerAcceptsFirst};
+ghost use Rattle.turn_laws.specs.Holdings.{Actor, Begins, Draws, End, Holding, IsNew, IsOwned, MayUse, Passes, Rises, Use, holding_after, uses_after};
 ghost use Rattle.turn_laws.specs.Listed.{listed_at};
 ghost use Rattle.turn_laws.specs.OwnTurns.{OwnTurnsTell};
 ghost use Rattle.turn_laws.specs.Owned.{Owned, Writes};
 ghost use Rattle.turn_laws.specs.PeerTurns.{told_theirs};
-ghost use Rattle.turn_laws.specs.Places.{Ours, Place, Theirs, end_at};
+ghost use Rattle.turn_laws.specs.Places.{NumberPool, Ours, Place, Pooled, Theirs, end_at, pool_end, pool_next, with_pool_next};
 ghost use Rattle.turn_laws.specs.Replaced.{AreReplacedLater};
 ghost use Rattle.turn_laws.specs.Turns.{AreOwned, actor_of, acts_of, moves_of, told};
 ghost use Rattle.turn_rules.specs.Ends.{Member, Peer, own};
 ghost use Rattle.turn_rules.specs.Genuine.{AreAccepted};
 ghost use Rattle.turn_rules.specs.Held.{Held, held_by, number_of, window_by};
-ghost use Rattle.turn_rules.specs.Local.{Local, Stands};
+ghost use Rattle.turn_rules.specs.Local.{Explained, Stands};
 ghost use Rattle.turn_rules.specs.Safe.{IsEachOnce, Safe, accepted_in, key_ivs};
 
 use esp_packets::sealed_packets_open;
 
-/// A call of the keeper keeps what is owned: one that is answered or refused by name, its answer seen or hidden, and one
-/// that failed, whether the book took its entry or was left.
+/// A call of the keeper keeps what is owned: one that is answered or refused by name, its answer
+/// seen or hidden, and one that failed, whether the book took its entry or was left.
 pub fn calls_keep_owned()
-    ensures answered { (acts : List Act) (w : Actor) (call : Call) (old new : Book) → Owned acts old → MayAsk acts w call.asked
-        → call.answer ≢ answer.Refused fault.Failed → Enters old call new → Owned (acts_onto w (Calls call ∷ []) acts) new }
-    ensures failed { (acts : List Act) (w : Actor) (call : Call) (old new : Book) → Owned acts old → MayAsk acts w call.asked
-        → call.answer ≡ answer.Refused fault.Failed → (new ≡ old) ⊎ (new ≡ book_after old call.asked) → Owned (acts_onto w (Calls call ∷ []) acts) new }
+    ensures answered { (acts : List Act) (w : Actor) (call : Call) (old new : Book) → Owned acts old
+        → MayAsk acts w call.asked
+        → call.answer ≢ answer.Refused fault.Failed → Enters old call new
+        → Owned (acts_onto w (Calls call ∷ []) acts) new }
+    ensures failed { (acts : List Act) (w : Actor) (call : Call) (old new : Book) → Owned acts old
+        → MayAsk acts w call.asked
+        → call.answer ≡ answer.Refused fault.Failed
+        → (new ≡ old) ⊎ (new ≡ book_after old call.asked)
+        → Owned (acts_onto w (Calls call ∷ []) acts) new }
 {}
 
-/// The beginning of a holding of a new epoch keeps the numbers of a counter apart, also in place of an earlier holding of the
-/// same end.
+/// The beginning of a holding of a new epoch keeps the numbers of a counter apart, also in place of
+/// an earlier holding of the same end.
 pub fn beginnings_keep_owned()
-    ensures { (held : Actor → Option Holding) (uses : List Use) (old new : Column) (w : Actor) (h : Holding)
-        → IsOwned held uses old → ColumnGoesOn old new → IsNew old new h → IsOwned (holding_after (Begins w h) held) uses new }
+    ensures { (held : Actor → Option Holding) (uses : List Use) (old new : Column) (w : Actor)
+        (h : Holding)
+        → IsOwned held uses old → ColumnGoesOn old new → IsNew old new h
+        → IsOwned (holding_after (Begins w h) held) uses new }
 {}
 
 /// The rise of a holding's high, as far as its epoch goes, keeps the numbers of a counter apart.
 pub fn rises_keep_owned()
-    ensures { (held : Actor → Option Holding) (uses : List Use) (column : Column) (w : Actor) (upto : ℕ) → IsOwned held uses column
-        → ((h : Holding) → held w ≡ Some h → upto ≤ column_mark column h.epoch) → IsOwned (holding_after (Rises w upto) held) uses column }
+    ensures { (held : Actor → Option Holding) (uses : List Use) (column : Column) (w : Actor)
+        (upto : ℕ)
+        → IsOwned held uses column
+        → ((h : Holding) → held w ≡ Some h → upto ≤ column_mark column h.epoch)
+        → IsOwned (holding_after (Rises w upto) held) uses column }
 {}
 
-/// The use of a number from a holding's base on and below its high, which the holder did not use, keeps the numbers of a
-/// counter apart.
+/// The use of a number from a holding's base on and below its high, which the holder did not use,
+/// keeps the numbers of a counter apart.
 pub fn uses_keep_owned()
-    ensures { (held : Actor → Option Holding) (uses : List Use) (column : Column) (w : Actor) (h : Holding) (n : ℕ)
+    ensures { (held : Actor → Option Holding) (uses : List Use) (column : Column) (w : Actor)
+        (h : Holding) (n : ℕ)
         → IsOwned held uses column → held w ≡ Some h → MayUse h n
         → IsOwned (holding_after (Draws w n) held) (uses_after (Draws w n) held uses) column }
 {}
 
+/// The passing of a holding to another one, in place of what that one held, keeps the numbers of a
+/// counter apart.
+pub fn passes_keep_owned()
+    ensures { (held : Actor → Option Holding) (uses : List Use) (old new : Column) (w v : Actor)
+        → IsOwned held uses old → ColumnGoesOn old new
+        → IsOwned (holding_after (Passes w v) held) uses new }
+{}
+
 /// The end of a member keeps what is owned: what it holds is used by nobody any more.
 pub fn ends_keep_owned()
-    ensures { (acts : List Act) (w : Actor) (book : Book) → Owned acts book → Owned (acts_onto w (Ends ∷ []) acts) book }
+    ensures { (acts : List Act) (w : Actor) (book : Book) → Owned acts book
+        → Owned (acts_onto w (Ends ∷ []) acts) book }
 {}
 
 /// A move that may be made, whatever it is, keeps what is owned.
 pub fn moves_keep_owned()
-    ensures { (acts : List Act) (w : Actor) (move : Move) (old new : Book) → Owned acts old → MayDo acts w move → Writes old move new
+    ensures { (acts : List Act) (w : Actor) (move : Move) (old new : Book) → Owned acts old
+        → MayDo acts w move → Writes old move new
         → Owned (acts_onto w (move ∷ []) acts) new }
 {}
 
 /// Moves leave what every other end holds.
 pub fn others_change_nothing()
-    ensures { (p : Place) (w v : Actor) → w ≢ v → (moves : List Move) (acts : List Act) → holding_at p (acts_onto w moves acts) v ≡ holding_at p acts v }
+    ensures { (p : Place) (w v : Actor) → w ≢ v → (moves : List Move) (acts : List Act)
+        → holding_at p (acts_onto w moves acts) v ≡ holding_at p acts v }
 {}
 
-/// What an end's own turns say that it holds of a counter is what the moves of all turns make of it.
+/// A range that is leased of a pool keeps what is owned, whether its caller saw it, and has it as
+/// its lot, or not.
+pub fn leases_keep_owned()
+    ensures { (acts : List Act) (w : Actor) (pool : NumberPool) (first count : ℕ) (seen : Bool)
+        (old new : Book)
+        → Owned acts old
+        → first + count ≤ pool_end pool → first ≡ pool_next pool old
+        → new ≡ with_pool_next pool (first + count) old
+        → Owned (acts_onto w (Leases pool first count seen ∷ []) acts) new }
+{}
+
+/// Lots of a pool lie below its next number and do not meet, a lot belongs to one end, and each
+/// number that was drawn lies below the next number and was drawn once.
+pub fn lots_are_apart()
+    ensures below { (acts : List Act) (book : Book) → Owned acts book
+        → (q : NumberPool) (w : Actor) (h : Holding) → holding_at (Pooled q) acts w ≡ Some h
+        → h.high ≤ pool_next q book }
+    ensures apart { (acts : List Act) (book : Book) → Owned acts book
+        → (q : NumberPool) (w v : Actor) (h g : Holding)
+        → holding_at (Pooled q) acts w ≡ Some h → holding_at (Pooled q) acts v ≡ Some g
+        → h.epoch < g.epoch → h.high ≤ g.base }
+    ensures alone { (acts : List Act) (book : Book) → Owned acts book
+        → (q : NumberPool) (w v : Actor) (h g : Holding)
+        → holding_at (Pooled q) acts w ≡ Some h → holding_at (Pooled q) acts v ≡ Some g
+        → h.epoch ≡ g.epoch → w ≡ v }
+    ensures drawn { (acts : List Act) (book : Book) → Owned acts book → (q : NumberPool)
+        → AllByRecursion (λ n. n < pool_next q book) (numbers_at (Pooled q) acts) }
+    ensures once { (acts : List Act) (book : Book) → Owned acts book → (q : NumberPool)
+        → IsEachOnce (numbers_at (Pooled q) acts) }
+{}
+
+/// What an end's own turns say that it holds of a counter is what the moves of all turns make of
+/// it.
 pub fn own_turns_tell_holdings()
-    ensures members { (boxes : ℕ) (past : List Turn) → Local boxes past → (member spir : ℕ) (c : Counter)
-        → told spir c (own (Member member) past) ≡ holding_at (Ours spir c) (acts_of past) (End (Member member)) }
-    ensures peer { (boxes : ℕ) (past : List Turn) → Local boxes past → (spir : ℕ) (c : Counter)
-        → told_theirs spir c (own Peer past) ≡ holding_at (Theirs spir c) (acts_of past) (End Peer) }
+    ensures members { (boxes : ℕ) (past : List Turn) → Explained boxes past
+        → (member spir : ℕ) (c : Counter)
+        → told spir c (own (Member member) past)
+        ≡ holding_at (Ours spir c) (acts_of past) (End (Member member)) }
+    ensures peer { (boxes : ℕ) (past : List Turn) → Explained boxes past → (spir : ℕ) (c : Counter)
+        → told_theirs spir c (own Peer past)
+        ≡ holding_at (Theirs spir c) (acts_of past) (End Peer) }
 {}
 
 /// What the turns of a run make of what its ends hold, each end's own turns tell.
 pub fn own_turns_tell_states()
-    ensures { (boxes : ℕ) (past : List Turn) → Local boxes past → OwnTurnsTell boxes past }
+    ensures { (boxes : ℕ) (past : List Turn) → Explained boxes past → OwnTurnsTell boxes past }
 {}
 
 /// What each event does is a list of moves that may be made one after another.
 pub fn turns_are_moves()
-    ensures { (boxes : ℕ) (past : List Turn) (turn : Turn) → Local boxes (turn ∷ past)
+    ensures { (boxes : ℕ) (past : List Turn) (turn : Turn) → Explained boxes (turn ∷ past)
         → MayDoAll (acts_of past) (actor_of turn) (moves_of turn) }
 {}
 
-/// Where each turn is explained by its end's own turns, and the book is the one that the calls lead to, the numbers of the
-/// book's epochs belong to one end each.
+/// Where each turn is explained by its end's own turns, and the book is the one that the calls lead
+/// to, the numbers of the book's epochs belong to one end each.
 pub fn all_is_owned()
-    ensures { (boxes : ℕ) (past : List Turn) (book : Book) → Local boxes past → Stands past book → AreOwned past book }
+    ensures { (boxes : ℕ) (past : List Turn) (book : Book) → Explained boxes past → Stands past book
+        → AreOwned past book }
 {}
 
-/// The numbers of a counter that the laws speak of are exactly those that the lists of the trace have: the numbers that were
-/// drawn, those of accepted packets, and the IVs of seals. Of a counter that members send by they are those from which the
-/// next number is told.
+/// The numbers of a counter that the laws speak of are exactly those that the lists of the trace
+/// have: the numbers that were drawn, those of accepted packets, and the IVs of seals. Of a counter
+/// that members send by they are those from which the next number is told.
 pub fn uses_are_told()
-    ensures listed { (past : List Turn) (p : Place) → numbers_at p (acts_of past) ≡ flat_map (listed_at p) past }
-    ensures sent { (boxes : ℕ) (past : List Turn) → Local boxes past → (spir : ℕ) (c : Counter) → c ≢ counter.EspIn
+    ensures listed { (past : List Turn) (p : Place)
+        → numbers_at p (acts_of past) ≡ flat_map (listed_at p) past }
+    ensures sent { (boxes : ℕ) (past : List Turn) → Explained boxes past → (spir : ℕ) (c : Counter)
+        → c ≢ counter.EspIn
         → numbers_at (Ours spir c) (acts_of past) ≡ filter_map (number_of spir c) past }
 {}
 
-/// No number of a counter is used twice, by whatever ends: of no counter of the cluster or the peer, and in particular of no
-/// counter that events of members used.
+/// No number of a counter is used twice, by whatever ends: of no counter of the cluster or the
+/// peer, and in particular of no counter that events of members used.
 pub fn no_number_twice()
-    ensures places { (boxes : ℕ) (past : List Turn) (book : Book) → Local boxes past → Stands past book
+    ensures places { (boxes : ℕ) (past : List Turn) (book : Book) → Explained boxes past
+        → Stands past book
         → (p : Place) → IsEachOnce (numbers_at p (acts_of past)) }
-    ensures counters { (boxes : ℕ) (past : List Turn) (book : Book) → Local boxes past → Stands past book
+    ensures counters { (boxes : ℕ) (past : List Turn) (book : Book) → Explained boxes past
+        → Stands past book
         → (spir : ℕ) (c : Counter) → IsEachOnce (filter_map (number_of spir c) past) }
 {}
 
-/// No number reaches its counter's end, as the record of what was held gives it, whatever the keeper's book is. An honest
-/// book gives the same end.
+/// No number reaches its counter's end, as the record of what was held gives it, whatever the
+/// keeper's book is. An honest book gives the same end.
 pub fn no_number_past_its_end()
-    ensures uses { (boxes : ℕ) (past : List Turn) → Local boxes past → (p : Place) → AllByRecursion (λ u. u.number < u.end) (uses_at p (acts_of past)) }
-    ensures places { (boxes : ℕ) (past : List Turn) (book : Book) → Local boxes past → Stands past book
+    ensures uses { (boxes : ℕ) (past : List Turn) → Explained boxes past → (p : Place)
+        → AllByRecursion (λ u. u.number < u.end) (uses_at p (acts_of past)) }
+    ensures places { (boxes : ℕ) (past : List Turn) (book : Book) → Explained boxes past
+        → Stands past book
         → (p : Place) → AllByRecursion (λ n. n < end_at p book) (numbers_at p (acts_of past)) }
-    ensures counters { (boxes : ℕ) (past : List Turn) (book : Book) → Local boxes past → Stands past book
-        → (spir : ℕ) (c : Counter) → AllByRecursion (λ n. n < end_at (Ours spir c) book) (filter_map (number_of spir c) past) }
+    ensures counters { (boxes : ℕ) (past : List Turn) (book : Book) → Explained boxes past
+        → Stands past book
+        → (spir : ℕ) (c : Counter)
+        → AllByRecursion (λ n. n < end_at (Ours spir c) book) (filter_map (number_of spir c) past) }
 {}
 
-/// Two members that hold an association, the replaced ones too, hold different epochs, and where an earlier epoch's highs
-/// end, the later one's bases have not begun.
+/// Two members that hold an association, the replaced ones too, hold different epochs, and where an
+/// earlier epoch's highs end, the later one's bases have not begun.
 pub fn holdings_are_apart()
-    ensures epochs { (boxes : ℕ) (past : List Turn) (book : Book) → Local boxes past → Stands past book
-        → (m k spir : ℕ) (h g : Held) → held_by (window_by past) (own (Member m) past) spir ≡ Some h → held_by (window_by past) (own (Member k) past) spir ≡ Some g
+    ensures epochs { (boxes : ℕ) (past : List Turn) (book : Book) → Explained boxes past
+        → Stands past book
+        → (m k spir : ℕ) (h g : Held) → held_by (window_by past) (own (Member m) past) spir ≡ Some h
+        → held_by (window_by past) (own (Member k) past) spir ≡ Some g
         → h.epoch ≡ g.epoch → m ≡ k }
-    ensures highs { (boxes : ℕ) (past : List Turn) (book : Book) → Local boxes past → Stands past book
-        → (m k spir : ℕ) (h g : Held) → held_by (window_by past) (own (Member m) past) spir ≡ Some h → held_by (window_by past) (own (Member k) past) spir ≡ Some g
+    ensures highs { (boxes : ℕ) (past : List Turn) (book : Book) → Explained boxes past
+        → Stands past book
+        → (m k spir : ℕ) (h g : Held) → held_by (window_by past) (own (Member m) past) spir ≡ Some h
+        → held_by (window_by past) (own (Member k) past) spir ≡ Some g
         → h.epoch < g.epoch → (c : Counter) → five_at h.highs c ≤ five_at g.bases c }
 {}
 
-/// With an honest book a cover that is answered `Replaced` is one of an earlier epoch than the answer names: that of the
-/// holding of the end that asked.
+/// With an honest book a cover that is answered `Replaced` is one of an earlier epoch than the
+/// answer names: that of the holding of the end that asked.
 pub fn replaced_by_later_epochs()
-    ensures holdings { (acts : List Act) (w : Actor) (old new : Book) (spir : ℕ) (kind : Kind) (child epoch upto later : ℕ) → Owned acts old
+    ensures holdings { (acts : List Act) (w : Actor) (old new : Book) (spir : ℕ) (kind : Kind)
+        (child epoch upto later : ℕ)
+        → Owned acts old
         → MayAsk acts w (ask.Cover spir kind child epoch upto)
-        → Answers old (ask.Cover spir kind child epoch upto) (answer.Refused (fault.Replaced later)) new
-        → (c : Counter) (h : Holding) → counter_named kind child ≡ Some c → holding_at (Ours spir c) acts w ≡ Some h → h.epoch < later }
-    ensures calls { (boxes : ℕ) (past : List Turn) (book : Book) → Local boxes past → Stands past book → AreReplacedLater past }
+        → Answers old (ask.Cover spir kind child epoch upto)
+        (answer.Refused (fault.Replaced later)) new
+        → (c : Counter) (h : Holding) → counter_named kind child ≡ Some c
+        → holding_at (Ours spir c) acts w ≡ Some h → h.epoch < later }
+    ensures calls { (boxes : ℕ) (past : List Turn) (book : Book) → Explained boxes past
+        → Stands past book → AreReplacedLater past }
 {}
 
 /// With an honest book no two associations that members hold receive at one SPI.
 pub fn one_receives_at_an_spi()
-    ensures { (boxes : ℕ) (past : List Turn) (book : Book) → Local boxes past → Stands past book
-        → (m k a b : ℕ) (h g : Held) → held_by (window_by past) (own (Member m) past) a ≡ Some h → held_by (window_by past) (own (Member k) past) b ≡ Some g
+    ensures { (boxes : ℕ) (past : List Turn) (book : Book) → Explained boxes past → Stands past book
+        → (m k a b : ℕ) (h g : Held) → held_by (window_by past) (own (Member m) past) a ≡ Some h
+        → held_by (window_by past) (own (Member k) past) b ≡ Some g
         → h.sa.spi_in ≡ g.sa.spi_in → a ≡ b }
 {}
 
 /// No key and IV seals two plaintexts, whatever ends seal: an IV is a number of its key's counter.
 pub fn no_nonce_reuse()
-    ensures { (boxes : ℕ) (past : List Turn) (book : Book) → Local boxes past → Stands past book → IsEachOnce (key_ivs past) }
+    ensures { (boxes : ℕ) (past : List Turn) (book : Book) → Explained boxes past → Stands past book
+        → IsEachOnce (key_ivs past) }
 {}
 
-/// No packet is accepted twice, by whatever ends: its number is one of the counter that receives it.
+/// No packet is accepted twice, by whatever ends: its number is one of the counter that receives
+/// it.
 pub fn packets_once()
-    ensures { (boxes : ℕ) (past : List Turn) (book : Book) → Local boxes past → Stands past book → IsEachOnce (filter_map accepted_in past) }
+    ensures { (boxes : ℕ) (past : List Turn) (book : Book) → Explained boxes past → Stands past book
+        → IsEachOnce (filter_map accepted_in past) }
 {}
 
 /// No event is executed by a service.
 pub fn nothing_is_executed()
-    ensures { (boxes : ℕ) (past : List Turn) → Local boxes past → AllByRecursion (λ turn. turn.step.served ≡ None) past }
+    ensures { (boxes : ℕ) (past : List Turn) → Explained boxes past
+        → AllByRecursion (λ turn. turn.step.served ≡ None) past }
 {}
 
-/// A covered genuine packet that comes to an end is accepted at first delivery, by a member where its number is acknowledged.
+/// A covered genuine packet that comes to an end that is up is accepted at first delivery, by a
+/// member where its number is acknowledged to it. Genuine are octets that open, whoever sealed
+/// them, and new is what no earlier turn accepted.
 pub fn genuine_are_accepted()
-    ensures { (boxes : ℕ) (past : List Turn) → Local boxes past → AreAccepted past }
+    ensures runs { (boxes : ℕ) (past : List Turn) → Explained boxes past → AreAccepted past }
+    ensures members { (boxes : ℕ) (past : List Turn) (turn : Turn) → Explained boxes (turn ∷ past)
+        → MemberAcceptsFirst past turn }
+    ensures peer { (boxes : ℕ) (past : List Turn) (turn : Turn) → Explained boxes (turn ∷ past)
+        → PeerAcceptsFirst past turn }
 {
     sealed_packets_open();
 }
 
-/// What holds across the ends: no key and IV seals two plaintexts, no packet is accepted twice, and covered genuine packets
-/// are accepted at first delivery.
+/// What holds across the ends: no key and IV seals two plaintexts, no packet is accepted twice, and
+/// covered genuine packets are accepted at first delivery.
 pub fn runs_are_safe()
-    ensures { (boxes : ℕ) (past : List Turn) (book : Book) → Local boxes past → Stands past book → Safe past }
+    ensures { (boxes : ℕ) (past : List Turn) (book : Book) → Explained boxes past → Stands past book
+        → Safe past }
 {
     genuine_are_accepted();
 }

@@ -1,6 +1,8 @@
 -- What an end does with a covered genuine packet: it opens, and where its number is acknowledged it is taken.
-use Rattle.std.proofs.Common.{◌≡◌, ℕ, ◌<◌, ◌⊎◌, List, [], ◌∷◌, length, Option, Some, Result, Err, ⊎_elim, refl, ap, sym, ◌∙◌, arith, subst}
+use Rattle.std.proofs.Common.{◌≡◌, ℕ, ◌/◌, ◌%◌, ◌^◌, ◌<◌, ◌⊎◌, List, [], ◌∷◌, length, take, Option, Some, Result, Err, ⊎_elim, refl, ap, sym, ◌∙◌, arith, subst}
 use Rattle.std.proofs.lemmas.Bool.{cases_lt}
+use Rattle.std.proofs.lemmas.Nat.{from_be_bytes-to_be_bytes_4}
+use Rattle.std.specs.Int.{w32, from_be_bytes, to_be_bytes}
 use Rattle.std.specs.List.{AllByRecursion}
 use Rattle.esp_packets.specs.Laws.{Accepts, SealedPacketsOpen}
 use Rattle.ha_base.specs.declared.esp_outcomes.EspDrop.{EspDrop}
@@ -25,10 +27,24 @@ use Rattle.turn_rules.specs.Packets.{Inbound, OpensEsp}
 abbrev pub IsSized : Inbound → Type 0
 IsSized inbound = (length inbound.key ≡ 20) ⊎ (length inbound.key ≡ 36)
 
+-- four octets name an SPI of four octets
+spi-small : (spi : ℕ) → from_be_bytes w32 (to_be_bytes w32 spi) < 2 ^ 32
+spi-small spi =
+    let third : spi / 16777216 % 256 ≡ spi % 4294967296 / 16777216 % 256 = omega arith in
+    let second : spi / 65536 % 256 ≡ spi % 4294967296 / 65536 % 256 = omega arith in
+    let first : spi / 256 % 256 ≡ spi % 4294967296 / 256 % 256 = omega arith in
+    let last : spi % 256 ≡ spi % 4294967296 % 256 = omega arith in
+    let same : to_be_bytes w32 spi ≡ to_be_bytes w32 (spi % 2 ^ 32) = λ i. third i ∷ second i ∷ first i ∷ last i ∷ [] in
+    let small : spi % 2 ^ 32 < 2 ^ 32 = omega arith in
+    subst (λ n. n < 2 ^ 32) (sym (ap (from_be_bytes w32) same ∙ from_be_bytes-to_be_bytes_4 (spi % 2 ^ 32) small)) small
+
 module _ (law : SealedPacketsOpen) (inbound : Inbound) (sized : IsSized inbound) (number : ℕ) (payload octets : List ℕ) (genuine : IsGenuine inbound number payload octets) where
+  genuine-spi : inbound.spi < 2 ^ 32
+  genuine-spi = subst (λ n. n < 2 ^ 32) (sym (ap (from_be_bytes w32) (ap (take 4) genuine.sealed.sealed)) ∙ genuine.named) (spi-small inbound.spi)
+
   -- a genuine packet opens, with its number and its payload
   pub genuine-opens : (opened : Result EspOpened EspDrop) (after : List ℕ) → OpensEsp inbound octets opened after → Accepts number payload 4 opened after
-  genuine-opens opened after opens = law inbound.key inbound.spi number payload 4 octets inbound.window opened after sized genuine.spi genuine.sealed genuine.covered genuine.first opens
+  genuine-opens opened after opens = law inbound.key inbound.spi number payload 4 octets inbound.window opened after sized genuine-spi genuine.sealed genuine.covered genuine.first opens
 
   -- and is not too short
   pub genuine-long : length octets < 34 → ⊥

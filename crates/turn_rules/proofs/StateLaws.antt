@@ -12,7 +12,7 @@ use Rattle.turn_rules.specs.Datagrams.{datagrams_of}
 use Rattle.turn_rules.specs.Ends.{Member, Peer, is_by, own}
 use Rattle.turn_rules.specs.Fits.{Does}
 use Rattle.turn_rules.specs.Held.{Held, config_by, configured_at, first_some, found, held_after, held_by, window_by}
-use Rattle.turn_rules.specs.Local.{IsExplained, Local}
+use Rattle.turn_rules.specs.Local.{Explained, IsByRule, Local}
 use Rattle.turn_rules.specs.Peers.{AreDistinct, associations_by, entered_in}
 use Rattle.turn_rules.specs.Slots.{slots_after, slots_by}
 use Rattle.turn_rules.specs.States.{ends, fresh_at, gateway_after, has_ended, held_unless, is_join, joined_after, joins, state_after, state_by, told_state}
@@ -118,20 +118,28 @@ module _ (boxes : ℕ) (past : List Turn) (turn : Turn) (does : DoesTold boxes p
     held = λ member spir. held-more member spir (ends member turn.event turn.step.verdict || has_ended member past) refl i;
   }
 
--- where each turn is explained, each end's own turns tell what it holds
-pub states-told : (boxes : ℕ) (past : List Turn) → Local boxes past → state_by boxes past ≡ told_state boxes past
-states-told boxes [] local = refl
-states-told boxes (turn ∷ past) local =
-    let before : state_by boxes past ≡ told_state boxes past = states-told boxes past local.1 in
+-- where each turn follows its rule, each end's own turns tell what it holds
+pub states-explained : (boxes : ℕ) (past : List Turn) → Explained boxes past → state_by boxes past ≡ told_state boxes past
+states-explained boxes [] local = refl
+states-explained boxes (turn ∷ past) local =
+    let before : state_by boxes past ≡ told_state boxes past = states-explained boxes past local.1 in
     let does : DoesTold boxes past turn = subst (λ state. Does state turn.event turn.calls turn.step) before local.0.fits in
     ap (state_after turn.event turn.calls turn.step) before ∙ sym (told-cons boxes past turn does)
 
+-- where no answer was hidden besides, each turn follows its rule
+pub local-explained : (boxes : ℕ) (past : List Turn) → Local boxes past → Explained boxes past
+local-explained boxes [] local = tt
+local-explained boxes (turn ∷ past) local = (record { fits = local.0.fits; answers = local.0.answers }, local-explained boxes past local.1)
+
+pub states-told : (boxes : ℕ) (past : List Turn) → Local boxes past → state_by boxes past ≡ told_state boxes past
+states-told boxes past local = states-explained boxes past (local-explained boxes past local)
+
 -- and each turn is explained by what they tell
-pub does-told : (boxes : ℕ) (past : List Turn) (turn : Turn) → IsExplained boxes past turn → Local boxes past → DoesTold boxes past turn
-does-told boxes past turn explained local = subst (λ state. Does state turn.event turn.calls turn.step) (states-told boxes past local) explained.fits
+pub does-told : (boxes : ℕ) (past : List Turn) (turn : Turn) → IsByRule boxes past turn → Explained boxes past → DoesTold boxes past turn
+does-told boxes past turn explained local = subst (λ state. Does state turn.event turn.calls turn.step) (states-explained boxes past local) explained.fits
 
 -- the associations that came to the peer differ
-pub associations-apart : (boxes : ℕ) (past : List Turn) → Local boxes past → AreDistinct (associations_by (own Peer past))
+pub associations-apart : (boxes : ℕ) (past : List Turn) → Explained boxes past → AreDistinct (associations_by (own Peer past))
 associations-apart boxes [] local = tt
 associations-apart boxes (turn ∷ past) local = by_test (associations-apart boxes past local.1) (is_by Peer turn) refl
   where

@@ -1,5 +1,5 @@
 -- Packets that the other end sealed, and what becomes of them.
-use Rattle.std.specs.Prelude.{ℕ, ◌^◌, ◌≡◌, ◌<◌, ◌⊎◌, Some, List, [], ◌∷◌, Ok}
+use Rattle.std.specs.Prelude.{ℕ, ◌≡◌, ◌<◌, ◌≤◌, ◌⊎◌, false, Some, List, [], ◌∷◌, length, Ok}
 use Rattle.std.specs.List.{AllByRecursion}
 use Rattle.esp_packets.specs.Laws.{WindowCovers}
 use Rattle.esp_packets.specs.Packet.{IsEspDatagram, payload_in, spi_of}
@@ -10,6 +10,7 @@ use Rattle.events.specs.declared.verdict.EspVerdict.TheVariants as esp
 use Rattle.events.specs.declared.verdict.Verdict.{Verdict}
 use Rattle.events.specs.declared.verdict.Verdict.TheVariants as out
 use Rattle.ha_base.specs.Octets.{WithRoom}
+use Rattle.ha_base.specs.declared.limits.TheConstants.{MAX_DATAGRAMS}
 use Rattle.ha_base.specs.declared.counter_names.CounterName.{CounterName}
 use Rattle.ha_base.specs.declared.esp_outcomes.EspOpened.{EspOpened}
 use Rattle.keeper_book.specs.Told.{seen}
@@ -18,18 +19,19 @@ use Rattle.keeper_book.specs.declared.calls.KeeperAnswer.TheVariants as answers
 use Rattle.keeper_book.specs.declared.counters.Counter.TheVariants as counter
 use Rattle.replay_set.specs.Window.{judged}
 use Rattle.replay_set.specs.declared.judgement.Judgement.TheVariants as judgement
-use Rattle.turn_rules.specs.Datagrams.{arrives, datagrams_of}
+use Rattle.turn_rules.specs.Datagrams.{arrives, datagrams_of, delivery_of}
 use Rattle.turn_rules.specs.Draws.{counter_name}
-use Rattle.turn_rules.specs.Ends.{Member, Peer, Performer, own, performer}
+use Rattle.turn_rules.specs.Ends.{Member, Peer, Performer, own, receiver_of}
 use Rattle.turn_rules.specs.Held.{Held, held_by, window_by}
 use Rattle.turn_rules.specs.MemberPackets.{IsReceiver, inbound_of}
 use Rattle.turn_rules.specs.Packets.{Inbound}
+use Rattle.turn_rules.specs.States.{has_ended, joins}
 use Rattle.turn_rules.specs.Slots.{Slot, first_slot, peer_counter, receives_at, slot_inbound, slots_by}
 
--- The octets are the packet of this payload, under the key and the SPI at which it is received, and its number is covered
--- by the window and was not accepted before.
+-- The octets name the SPI at which is received, and are the packet of this payload under its key; the number is covered by
+-- the window and was not accepted before.
 pub record IsGenuine (inbound : Inbound) (number : ℕ) (payload octets : List ℕ) : Type 0 where
-  pub spi : inbound.spi < 2 ^ 32
+  pub named : spi_of octets ≡ inbound.spi
   pub sealed : IsEspDatagram inbound.key inbound.spi number payload 4 octets
   pub covered : WindowCovers inbound.window number
   pub first : judged inbound.window number ≡ judgement.Fresh
@@ -52,9 +54,17 @@ pub record IsTakenAs (name : CounterName) (number : ℕ) (payload : List ℕ) (a
   pub next_header_is : packet.next_header ≡ 4
   pub payload_is : payload_in packet after ≡ payload
 
--- these octets came to an end in the turn, unchanged or not
+-- an end is up: the peer always, and a member that joined and did not end
+abbrev pub IsUp : List Turn → Performer → Type 0
+IsUp past Peer = Unit {0}
+IsUp past (Member member) = (1 ≤ member) × (member ≤ joins past) × (has_ended member past ≡ false)
+
+-- The event of the turn delivers these octets, unchanged or not, to an end that is up, while the run has room for one more
+-- datagram.
 pub record Came (past : List Turn) (turn : Turn) (to : Performer) (octets : List ℕ) : Type 0 where
-  pub by_it : performer turn ≡ Some to
+  pub addressed : receiver_of (delivery_of turn.event) ≡ Some to
+  pub up : IsUp past to
+  pub room : length (datagrams_of past) < MAX_DATAGRAMS
   pub arrived : arrives (datagrams_of past) turn.event ≡ Ok (record { medium = medium.Esp; octets = octets })
 
 -- a covered genuine packet that comes to a member is accepted at first delivery, where its number is acknowledged

@@ -11,6 +11,17 @@ use Rattle.turn_rules.specs.Fits.{FitsTurns}
 abbrev pub AreShown : List Call → Type 0
 AreShown calls = AllByRecursion (λ call. call.hidden ≡ false) calls
 
+-- a turn follows its rule: it is what the turns before it make of its event and the answers to its calls, and each answer is
+-- one that its call has, whatever the keeper's book is
+pub record IsByRule (boxes : ℕ) (past : List Turn) (turn : Turn) : Type 0 where
+  pub fits : FitsTurns boxes past turn.event turn.calls turn.step
+  pub answers : AreAnswers turn.calls
+
+-- each turn does, whether or not answers were hidden; the newest turn comes first
+abbrev pub Explained : ℕ → List Turn → Type 0
+Explained boxes [] = Unit {0}
+Explained boxes (turn ∷ past) = IsByRule boxes past turn × Explained boxes past
+
 -- a turn is explained by the turns before it
 pub record IsExplained (boxes : ℕ) (past : List Turn) (turn : Turn) : Type 0 where
   pub fits : FitsTurns boxes past turn.event turn.calls turn.step

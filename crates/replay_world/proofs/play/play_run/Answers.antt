@@ -1,7 +1,7 @@
 -- A run begins with no turn, and what holds of it follows from the laws of whole runs.
 use Rattle.std.proofs.Common.{ap, subst, ◌∙◌}
 use Rattle.run_ends.specs.Runs.{Run}
-use Rattle.turn_rules.proofs.StateLaws.{states-told}
+use Rattle.turn_rules.proofs.StateLaws.{local-explained, states-told}
 use Rattle.turn_rules.specs.Local.{Local}
 use Rattle.replay_world.proofs.AskedLaws.{asks-nothing}
 use Rattle.replay_world.proofs.OwnedLaws.{owned_told, safe_told}
@@ -19,7 +19,7 @@ returns-clause-played g c =
       written = p.text;
       local = subst (λ n. Local n past) boxes p.local;
       own_turns = states-told _ past (subst (λ n. Local n past) boxes p.local);
-      serves = none_given _ _ past (c.nothing_is_executed.ensures c.play.new.world.ends.boxes past p.local);
+      serves = none_given _ _ past (c.nothing_is_executed.ensures c.play.new.world.ends.boxes past (local-explained c.play.new.world.ends.boxes past p.local));
       asks = p.asks _ (asks-nothing _ _);
       stands = p.stands;
       owned = λ before. owned_told c.play.new.world.ends.boxes past _ p.local (p.stands before);

@@ -1,0 +1,143 @@
+-- A range that is leased keeps the numbers of its pool apart, whether or not its caller saw it.
+use Rattle.std.proofs.Common.{◌≡◌, ℕ, ◌+◌, ◌-◌, ◌<◌, ◌≤◌, Bool, true, false, Option, List, [], ◌∷◌, ◌++◌, length, refl, ap, sym, ◌∙◌, subst, arith, if◌then◌else◌}
+use Rattle.keeper_book.specs.Book.{Book, Entry, book_entered}
+use Rattle.keeper_book.specs.declared.calls.KeeperAsk.{KeeperAsk}
+use Rattle.keeper_book.specs.declared.calls.KeeperAsk.TheVariants as ask
+use Rattle.turn_laws.proofs.Columns.{goes_on-epoch, goes_on-higher, goes_on-refl, length-append_one, mark-high, mark-with_epoch, with_epoch}
+use Rattle.turn_laws.proofs.Holdings.{Keeps}
+use Rattle.turn_laws.specs.Acts.{effect_of_lease, lot_begun, lots_leased}
+use Rattle.turn_laws.specs.Columns.{Column, ColumnGoesOn, IsRising, column_mark}
+use Rattle.turn_laws.specs.Holdings.{Actor, Begins, Holding, IsNew, Nothing, Use, uses_after}
+use Rattle.turn_laws.specs.Places.{NonceNumbers, NumberPool, Ours, Place, Pooled, Theirs, TicketNumbers, column, is_pool, pool_end, pool_next, with_pool_next}
+
+pub is_pool-same : (p : NumberPool) → is_pool p p ≡ true
+is_pool-same TicketNumbers = refl
+is_pool-same NonceNumbers = refl
+
+pub is_pool-true : (p q : NumberPool) → is_pool p q ≡ true → p ≡ q
+is_pool-true TicketNumbers TicketNumbers e = refl
+is_pool-true NonceNumbers NonceNumbers e = refl
+is_pool-true TicketNumbers NonceNumbers e = absurd (cc)
+is_pool-true NonceNumbers TicketNumbers e = absurd (cc)
+
+-- calls leave the pools
+pub pool-entered : (q : NumberPool) (book : Book) (asked : KeeperAsk) → pool_next q (book_entered book asked) ≡ pool_next q book
+pool-entered TicketNumbers book (ask.Enter sa) = refl
+pool-entered TicketNumbers book (ask.TakeOver spir member) = refl
+pool-entered TicketNumbers book (ask.Cover spir kind child epoch upto) = refl
+pool-entered NonceNumbers book (ask.Enter sa) = refl
+pool-entered NonceNumbers book (ask.TakeOver spir member) = refl
+pool-entered NonceNumbers book (ask.Cover spir kind child epoch upto) = refl
+
+-- a lease changes the next number of its pool alone
+pub lease-entries : (pool : NumberPool) (n : ℕ) (book : Book) → (with_pool_next pool n book).entries ≡ book.entries
+lease-entries TicketNumbers n book = refl
+lease-entries NonceNumbers n book = refl
+
+next-leased : (pool : NumberPool) (n : ℕ) (book : Book) → pool_next pool (with_pool_next pool n book) ≡ n
+next-leased TicketNumbers n book = refl
+next-leased NonceNumbers n book = refl
+
+next-other : (pool q : NumberPool) (n : ℕ) (book : Book) → is_pool pool q ≡ false → pool_next q (with_pool_next pool n book) ≡ pool_next q book
+next-other TicketNumbers TicketNumbers n book e = absurd (cc)
+next-other TicketNumbers NonceNumbers n book e = refl
+next-other NonceNumbers TicketNumbers n book e = refl
+next-other NonceNumbers NonceNumbers n book e = absurd (cc)
+
+module _ (lots : List ℕ) (high end count : ℕ) (rising : IsRising (record { bases = lots; high = high; end = end })) where
+  abbrev was : Column
+  was = record { bases = lots; high = high; end = end }
+
+  abbrev now : Column
+  now = record { bases = lots ++ high ∷ []; high = high + count; end = end }
+
+  longer : length (lots ++ high ∷ []) ≡ length lots + 1
+  longer = length-append_one lots high
+
+  begun : ColumnGoesOn was (with_epoch was)
+  begun = goes_on-epoch was rising
+
+  raised : ColumnGoesOn (with_epoch was) now
+  raised = goes_on-higher (with_epoch was) (high + count) begun.rising (omega arith)
+
+  marks : (i : ℕ) → i < length lots + 1 → column_mark now i ≡ column_mark was i
+  marks i l = raised.same_bases i (let e : length (lots ++ high ∷ []) ≡ length lots + 1 = longer in omega arith) ∙ mark-with_epoch was i
+
+  top : column_mark now (length lots) ≡ high
+  top = marks (length lots) (omega arith) ∙ mark-high was (length lots) (omega arith)
+
+  pub lot-goes_on : ColumnGoesOn was now
+  lot-goes_on = record {
+    no_shorter = let e : length (lots ++ high ∷ []) ≡ length lots + 1 = longer in omega arith;
+    same_bases = λ i l. marks i (omega (arith, l));
+    no_lower = let e : column_mark now (length lots) ≡ high = top in omega arith;
+    rising = raised.rising;
+    same_end = λ some. refl;
+  }
+
+  pub lot-new : IsNew was now (record { epoch = length lots + 1; base = high; high = high + count; end = end; numbers = [] })
+  lot-new = record {
+    next_epoch = refl;
+    of_column = record {
+      some = omega arith;
+      begun = let e : length (lots ++ high ∷ []) ≡ length lots + 1 = longer in omega arith;
+      base = let place : length lots + 1 - 1 ≡ length lots = omega arith in ap (column_mark now) place ∙ top;
+      high =
+          let above : column_mark now (length lots + 1) ≡ high + count = mark-high now (length lots + 1) (let e : length (lots ++ high ∷ []) ≡ length lots + 1 = longer in omega arith) in
+          omega arith;
+      end = refl;
+    };
+    unused = refl;
+  }
+
+module _ (held : Actor → Option Holding) (w : Actor) (lots : List ℕ) (old new : Book) (pool : NumberPool) (first count : ℕ) (is_next : first ≡ pool_next pool old) (is : new ≡ with_pool_next pool (first + count) old) where
+  -- the pool's next number afterwards
+  next-is : pool_next pool new ≡ first + count
+  next-is = ap (pool_next pool) is ∙ next-leased pool (first + count) old
+
+  lot-begins : IsRising (column (Pooled pool) lots old) → Keeps (Begins w (lot_begun (length lots) pool first count)) held (column (Pooled pool) lots old) (column (Pooled pool) (lots ++ first ∷ []) new)
+  lot-begins rising =
+      subst (λ next. ColumnGoesOn (column (Pooled pool) lots old) (record { bases = lots ++ first ∷ []; high = next; end = pool_end pool })
+      × IsNew (column (Pooled pool) lots old) (record { bases = lots ++ first ∷ []; high = next; end = pool_end pool }) (lot_begun (length lots) pool first count)) (sym next-is)
+      (subst (λ n. ColumnGoesOn (column (Pooled pool) lots old) (record { bases = lots ++ n ∷ []; high = n + count; end = pool_end pool })
+      × IsNew (column (Pooled pool) lots old) (record { bases = lots ++ n ∷ []; high = n + count; end = pool_end pool }) (lot_begun (length lots) pool n count)) (sym is_next)
+      (lot-goes_on lots (pool_next pool old) (pool_end pool) count rising, lot-new lots (pool_next pool old) (pool_end pool) count rising))
+
+  -- what its caller did not see leaves a gap, and other pools stay
+  goes-higher : (q : NumberPool) → IsRising (column (Pooled q) lots old) → pool_next q old ≤ pool_next q new → ColumnGoesOn (column (Pooled q) lots old) (column (Pooled q) lots new)
+  goes-higher q rising above = goes_on-higher (column (Pooled q) lots old) (pool_next q new) rising above
+
+  no-lower : (q : NumberPool) → pool_next q old ≤ pool_next q new
+  no-lower q = by_test (is_pool pool q) refl
+    where
+      by_test : (b : Bool) → is_pool pool q ≡ b → pool_next q old ≤ pool_next q new
+      by_test true t =
+          subst (λ r. pool_next r old ≤ pool_next r new) (is_pool-true pool q t)
+          (let a : pool_next pool new ≡ first + count = next-is in let b : first ≡ pool_next pool old = is_next in omega arith)
+      by_test false t = let e : pool_next q new ≡ pool_next q old = ap (pool_next q) is ∙ next-other pool q (first + count) old t in omega arith
+
+  same-entries : new.entries ≡ old.entries
+  same-entries = ap (λ (b : Book). b.entries) is ∙ lease-entries pool (first + count) old
+
+  pub keeps-lease : (p : Place) (seen : Bool) → IsRising (column p lots old) → Keeps (effect_of_lease p lots w pool first count seen) held (column p lots old) (column p (lots_leased p pool first seen lots) new)
+  keeps-lease (Ours spir c) seen rising = subst (λ (es : List Entry). ColumnGoesOn (column (Ours spir c) lots old) (column (Ours spir c) lots (record old { entries = es }))) (sym same-entries) (goes_on-refl (column (Ours spir c) lots old) rising)
+  keeps-lease (Theirs spir c) seen rising = subst (λ (es : List Entry). ColumnGoesOn (column (Theirs spir c) lots old) (column (Theirs spir c) lots (record old { entries = es }))) (sym same-entries) (goes_on-refl (column (Theirs spir c) lots old) rising)
+  keeps-lease (Pooled q) false rising = goes-higher q rising (no-lower q)
+  keeps-lease (Pooled q) true rising = by_test (is_pool pool q) refl
+    where
+      by_test : (b : Bool) → is_pool pool q ≡ b
+          → Keeps (if b then Begins w (lot_begun (length lots) pool first count) else Nothing) held (column (Pooled q) lots old) (column (Pooled q) (if b then lots ++ first ∷ [] else lots) new)
+      by_test true t =
+          subst (λ r. IsRising (column (Pooled r) lots old) → Keeps (Begins w (lot_begun (length lots) pool first count)) held (column (Pooled r) lots old) (column (Pooled r) (lots ++ first ∷ []) new)) (is_pool-true pool q t) lot-begins rising
+      by_test false t = goes-higher q rising (no-lower q)
+
+-- a lease uses no number
+pub lease-uses : (p : Place) (lots : List ℕ) (w : Actor) (pool : NumberPool) (first count : ℕ) (seen : Bool) (held : Actor → Option Holding) (us : List Use) → uses_after (effect_of_lease p lots w pool first count seen) held us ≡ us
+lease-uses (Ours spir c) lots w pool first count seen held us = refl
+lease-uses (Theirs spir c) lots w pool first count seen held us = refl
+lease-uses (Pooled q) lots w pool first count false held us = refl
+lease-uses (Pooled q) lots w pool first count true held us = by_test (is_pool pool q)
+  where
+    by_test : (b : Bool) → uses_after (if b then Begins w (lot_begun (length lots) pool first count) else Nothing) held us ≡ us
+    by_test true = refl
+    by_test false = refl
