@@ -17,7 +17,7 @@ use Rattle.line_fields.specs.Words.{Cursor, line_of, words_of}
 use Rattle.line_fields.specs.Numbers.{number_in_word}
 use Rattle.events.specs.Events.{PlainEvent, Cluster, Import, Join, Own, Draw, Crash, Send, Deliver, Alter, Cut, Inject}
 use Rattle.line_fields.specs.Fields.{◌>>=◌, behind_field, ended_at, end_in, fault_at, word_at, word_in}
-use Rattle.event_text.specs.Reading.{alter_at, child_keys_at, cluster_at, crash_at, cut_at, deliver_at, draw_at, event_at, event_readers, import_at, inject_at, join_at, line_at, moment_at, reader_named, own_at, sa_keys_at, send_at, starts_at, told_at}
+use Rattle.event_text.specs.Reading.{alter_at, child_keys_at, cluster_at, crash_at, cut_at, deliver_at, draw_at, event_at, event_readers, import_at, inject_at, join_at, line_at, moment_at, reader_named, own_at, sa_keys_at, send_at, starts_at, moment_and_event_at}
 use Rattle.event_text.specs.Grammar.{EventLine, child_key_words, event_words, five_words, line_words, sa_key_words}
 use Rattle.events.specs.Ranges.{AreChildKeys, AreSaKeys, AreStarts, Fits}
 use Rattle.line_fields.proofs.WordLaws.{line-words, words-line}
@@ -275,9 +275,9 @@ ended_is : (c : ℕ) (ws : List (List ℕ)) (x : Unit {0}) → end_in c ws ≡ O
 ended_is c [] x e = refl
 ended_is c (w ∷ ws) x e = absurd cc
 
-told_takes : (last : ℕ) (s : Cursor) (y : Moment × PlainEvent) → told_at last s ≡ Ok y → (s.words ≡ line_words y.0 y.1) × (last ≤ y.0.0) × (y.0.0 < 2 ^ 63) × Fits y.1
-unfolding told_at
-told_takes last s y e =
+moment_and_event_takes : (last : ℕ) (s : Cursor) (y : Moment × PlainEvent) → moment_and_event_at last s ≡ Ok y → (s.words ≡ line_words y.0 y.1) × (last ≤ y.0.0) × (y.0.0 < 2 ^ 63) × Fits y.1
+unfolding moment_and_event_at
+moment_and_event_takes last s y e =
     after (moment_at last s) _ y e (λ m is_m e1.
     after (event_at m.1) _ y e1 (λ v is_v e2.
     after (ended_at v.1) _ y e2 (λ x is_x e3.
@@ -293,19 +293,19 @@ told_takes last s y e =
 pub line_takes : (last : ℕ) (line : List ℕ) (y : Moment × PlainEvent) → line_at last line ≡ Ok y → EventLine last line y.0 y.1
 unfolding line_at
 line_takes last line y e =
-    pick (ltb 16384 (length line)) (Err (fault_at 16385 reasons.LineTooLong)) (told_at last (record { column = 1; words = words_of line })) (Ok y) e
+    pick (ltb 16384 (length line)) (Err (fault_at 16385 reasons.LineTooLong)) (moment_and_event_at last (record { column = 1; words = words_of line })) (Ok y) e
     (λ hit same. absurd cc)
     (λ miss same.
-    let told = told_takes last (record { column = 1; words = words_of line }) y same in
+    let told = moment_and_event_takes last (record { column = 1; words = words_of line }) y same in
     record { text = sym (line-words line) ∙ ap line_of told.0; short = ltb-false 16384 (length line) miss; in_order = told.1; in_range = told.2; fits = told.3 })
 
-told_again : (last : ℕ) (m : Moment) (e : PlainEvent) → last ≤ m.0 → m.0 < 2 ^ 63 → Fits e → told_at last (record { column = 1; words = line_words m e }) ≡ Ok (m, e)
-unfolding told_at
-told_again last m e late lt fits = rw (moment_again last m.0 lt late 1 (event_words e), event_again e fits (1 + length (decimal m.0) + 1)) refl
+moment_and_event_again : (last : ℕ) (m : Moment) (e : PlainEvent) → last ≤ m.0 → m.0 < 2 ^ 63 → Fits e → moment_and_event_at last (record { column = 1; words = line_words m e }) ≡ Ok (m, e)
+unfolding moment_and_event_at
+moment_and_event_again last m e late lt fits = rw (moment_again last m.0 lt late 1 (event_words e), event_again e fits (1 + length (decimal m.0) + 1)) refl
 
 -- what a line says is read of it
 pub line_again : (last : ℕ) (line : List ℕ) (m : Moment) (e : PlainEvent) → EventLine last line m e → line_at last line ≡ Ok (m, e)
 unfolding line_at
 line_again last line m e h =
     let words : words_of line ≡ line_words m e = ap words_of h.text ∙ words-line (decimal m.0) (event_words e) (line_spaceless m e h.in_range h.fits) in
-    rw (le-ltb 16384 (length line) h.short, words) (told_again last m e h.in_order h.in_range h.fits)
+    rw (le-ltb 16384 (length line) h.short, words) (moment_and_event_again last m e h.in_order h.in_range h.fits)

@@ -1,6 +1,6 @@
 pub mod EventFields
 pub mod Reading
-pub mod InMemory
 pub mod Grammar
 pub mod Input
+pub mod InMemory
 pub mod EventFile

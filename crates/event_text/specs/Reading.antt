@@ -1,10 +1,11 @@
 -- Reading a line from left to right, with the first fault that is met.
-use Rattle.std.specs.Prelude.{ℕ, ◌-◌, ◌^◌, nat_lt, List, [], ◌∷◌, length, codes, Result, Ok, Err, if◌then◌else◌}
+use Rattle.std.specs.Prelude.{ℕ, ◌+◌, ◌^◌, nat_lt, List, [], ◌∷◌, length, codes, Result, Ok, Err, if◌then◌else◌}
 use Rattle.std.specs.Str.{bytes_eq}
 use Rattle.ha_base.specs.declared.counter_names.Origin.TheVariants.{Imported}
 use Rattle.ha_base.specs.declared.key_material.KeySize.{KeySize}
 use Rattle.ha_base.specs.declared.key_material.SaKeys.{SaKeys}
 use Rattle.ha_base.specs.declared.key_material.ChildKeys.{ChildKeys}
+use Rattle.ha_base.specs.declared.limits.TheConstants.{DATAGRAM_OCTETS, IV_END, LINE_OCTETS, MESSAGE_ID_END, NUMBER_END, PAYLOAD_OCTETS, SEQUENCE_END}
 use Rattle.ha_base.specs.declared.outside.Moment.{Moment}
 use Rattle.keeper_book.specs.declared.counters.Five.{Five}
 use Rattle.keeper_book.specs.Records.{sealing_key_octets}
@@ -40,11 +41,11 @@ child_keys_at size s = do
 
 unfoldable pub starts_at : Cursor → Result (Five × Cursor) LineFault
 starts_at s = do
-  esp_out ← field (number_in_word 0 (2 ^ 63)) s
-  esp_in ← field (number_in_word 0 (2 ^ 63)) esp_out.1
-  iv ← field (number_in_word 0 (2 ^ 63)) esp_in.1
-  ask ← field (number_in_word 0 (2 ^ 32 - 1)) iv.1
-  answer ← field (number_in_word 0 (2 ^ 32 - 1)) ask.1
+  esp_out ← field (number_in_word 0 SEQUENCE_END) s
+  esp_in ← field (number_in_word 0 SEQUENCE_END) esp_out.1
+  iv ← field (number_in_word 0 IV_END) esp_in.1
+  ask ← field (number_in_word 0 MESSAGE_ID_END) iv.1
+  answer ← field (number_in_word 0 MESSAGE_ID_END) ask.1
   Ok (record { esp_out = esp_out.0; esp_in = esp_in.0; iv = iv.0; ask = ask.0; answer = answer.0 }, answer.1)
 
 -- ---- the fields of each event
@@ -110,7 +111,7 @@ unfoldable pub send_at : Cursor → Result (PlainEvent × Cursor) LineFault
 send_at s = do
   from ← field party_of s
   spir ← field spi_in_word from.1
-  payload ← field (sized 0 1400) spir.1
+  payload ← field (sized 0 PAYLOAD_OCTETS) spir.1
   Ok (Send from.0 spir.0 payload.0, payload.1)
 
 unfoldable pub deliver_at : Cursor → Result (PlainEvent × Cursor) LineFault
@@ -138,7 +139,7 @@ unfoldable pub inject_at : Cursor → Result (PlainEvent × Cursor) LineFault
 inject_at s = do
   to ← field party_of s
   medium ← field medium_of to.1
-  octets ← field (sized 0 2048) medium.1
+  octets ← field (sized 0 DATAGRAM_OCTETS) medium.1
   Ok (Inject to.0 medium.0 octets.0, octets.1)
 
 -- the events: the word of each, and how its fields are read
@@ -175,11 +176,11 @@ not_before c last n = if nat_lt n.0 last then Err (fault_at c reasons.ClockBack)
 -- a moment in seconds, which is not before the last one
 unfoldable pub moment_at : ℕ → Cursor → Result (ℕ × Cursor) LineFault
 moment_at last s = do
-  n ← field (number_in_word 0 (2 ^ 63)) s
+  n ← field (number_in_word 0 NUMBER_END) s
   not_before s.column last n
 
-unfoldable pub told_at : ℕ → Cursor → Result (Moment × PlainEvent) LineFault
-told_at last s = do
+unfoldable pub moment_and_event_at : ℕ → Cursor → Result (Moment × PlainEvent) LineFault
+moment_and_event_at last s = do
   seconds ← moment_at last s
   event ← event_at seconds.1
   ended ← ended_at event.1
@@ -187,4 +188,6 @@ told_at last s = do
 
 -- What a line says after an event of the moment `last`, or its first fault.
 unfoldable pub line_at : ℕ → List ℕ → Result (Moment × PlainEvent) LineFault
-line_at last line = if nat_lt 16384 (length line) then Err (fault_at 16385 reasons.LineTooLong) else told_at last (record { column = 1; words = words_of line })
+line_at last line =
+    if nat_lt LINE_OCTETS (length line) then Err (fault_at (LINE_OCTETS + 1) reasons.LineTooLong)
+    else moment_and_event_at last (record { column = 1; words = words_of line })
