@@ -9,7 +9,9 @@ ghost use Rattle.events.specs.Ranges.{Fits};
 ghost use Rattle.ha_base.specs.declared.outside.Moment.{Moment};
 ghost use Rattle.line_fields.specs.Fields.{Reads};
 ghost use Rattle.event_text.specs.InMemory.{FailsInLine, GivesInLine};
-ghost use Rattle.event_text.specs.Reading.{sa_keys_at, child_keys_at, starts_at, import_at, join_at, own_at, draw_at, crash_at, cluster_at, send_at, deliver_at, alter_at, cut_at, inject_at, event_at, event_readers, moment_at, reader_named, moment_and_event_at, line_at};
+ghost use Rattle.event_text.specs.KeyFields.{sa_keys_at, child_keys_at, starts_at};
+ghost use Rattle.event_text.specs.EventTable.{alter_row, cluster_row, crash_row, cut_row, deliver_row, draw_row, event_table, import_row, inject_row, join_row, own_row, read_fields, read_row, send_row};
+ghost use Rattle.event_text.specs.Reading.{event_at, line_at, moment_at, moment_and_event_at};
 
 use crate::event_fields::{medium, octets_in_memory, party, ticket_key, which, window};
 use crate::keys::sealing_key;
@@ -26,7 +28,7 @@ use line_fields::{
 };
 use std::alloc::Global;
 
-#[tactic(auto, unfolding(crate::specs::Reading::sa_keys_at))]
+#[tactic(auto, unfolding(crate::specs::KeyFields::sa_keys_at))]
 fn sa_keys(words: &mut Words<'_>, size: KeySize) -> Result<SaKeys, LineFault>
     ensures value { Reads (λ x. x) result words.new (sa_keys_at size words.old) }
     ensures initiator { IfOk result (λ keys. length keys.sk_ei ≡ sealing_key_octets size) }
@@ -46,7 +48,7 @@ fn sa_keys(words: &mut Words<'_>, size: KeySize) -> Result<SaKeys, LineFault>
     })
 }
 
-#[tactic(auto, unfolding(crate::specs::Reading::child_keys_at))]
+#[tactic(auto, unfolding(crate::specs::KeyFields::child_keys_at))]
 fn child_keys(words: &mut Words<'_>, size: KeySize) -> Result<ChildKeys, LineFault>
     ensures value { Reads (λ x. x) result words.new (child_keys_at size words.old) }
     ensures cluster { IfOk result (λ keys. length keys.to_cluster ≡ sealing_key_octets size) }
@@ -60,7 +62,7 @@ fn child_keys(words: &mut Words<'_>, size: KeySize) -> Result<ChildKeys, LineFau
     })
 }
 
-#[tactic(auto, unfolding(crate::specs::Reading::starts_at))]
+#[tactic(auto, unfolding(crate::specs::KeyFields::starts_at))]
 fn starts(words: &mut Words<'_>) -> Result<Five, LineFault>
     ensures value { Reads (λ x. x) result words.new (starts_at words.old) }
     ensures within { IfOk result AreWithinEnds }
@@ -79,9 +81,8 @@ fn starts(words: &mut Words<'_>) -> Result<Five, LineFault>
     })
 }
 
-#[tactic(auto, unfolding(crate::specs::Reading::import_at))]
 fn import(words: &mut Words<'_>) -> Result<Event, LineFault>
-    ensures { Reads plain result words.new (import_at words.old) }
+    ensures { Reads plain result words.new (read_fields import_row.fields words.old) }
 {
     let spii = spi(words)?;
     let spir = spi(words)?;
@@ -108,43 +109,38 @@ fn import(words: &mut Words<'_>) -> Result<Event, LineFault>
     })
 }
 
-#[tactic(auto, unfolding(crate::specs::Reading::join_at))]
 fn join(words: &mut Words<'_>) -> Result<Event, LineFault>
-    ensures { Reads plain result words.new (join_at words.old) }
+    ensures { Reads plain result words.new (read_fields join_row.fields words.old) }
 {
     let fresh = octets(words)?;
     Ok(Event::Join { fresh })
 }
 
-#[tactic(auto, unfolding(crate::specs::Reading::own_at))]
 fn own(words: &mut Words<'_>) -> Result<Event, LineFault>
-    ensures { Reads plain result words.new (own_at words.old) }
+    ensures { Reads plain result words.new (read_fields own_row.fields words.old) }
 {
     let member = number(words, NUMBER_END)?;
     let spir = spi(words)?;
     Ok(Event::Own { member, spir })
 }
 
-#[tactic(auto, unfolding(crate::specs::Reading::draw_at))]
 fn draw(words: &mut Words<'_>) -> Result<Event, LineFault>
-    ensures { Reads plain result words.new (draw_at words.old) }
+    ensures { Reads plain result words.new (read_fields draw_row.fields words.old) }
 {
     let member = number(words, NUMBER_END)?;
     let spir = spi(words)?;
     Ok(Event::Draw { member, spir })
 }
 
-#[tactic(auto, unfolding(crate::specs::Reading::crash_at))]
 fn crash(words: &mut Words<'_>) -> Result<Event, LineFault>
-    ensures { Reads plain result words.new (crash_at words.old) }
+    ensures { Reads plain result words.new (read_fields crash_row.fields words.old) }
 {
     let member = number(words, NUMBER_END)?;
     Ok(Event::Crash { member })
 }
 
-#[tactic(auto, unfolding(crate::specs::Reading::cluster_at))]
 fn cluster(words: &mut Words<'_>) -> Result<Event, LineFault>
-    ensures { Reads plain result words.new (cluster_at words.old) }
+    ensures { Reads plain result words.new (read_fields cluster_row.fields words.old) }
 {
     let identity = domain_name(words)?;
     let lifetime = short_number(words, 1)?;
@@ -158,9 +154,8 @@ fn cluster(words: &mut Words<'_>) -> Result<Event, LineFault>
     })
 }
 
-#[tactic(auto, unfolding(crate::specs::Reading::send_at))]
 fn send(alloc: Global, words: &mut Words<'_>) -> Result<Event, ReadFault>
-    ensures { GivesInLine plain result words.new (send_at words.old) }
+    ensures { GivesInLine plain result words.new (read_fields send_row.fields words.old) }
 {
     let from = party(words)?;
     let spir = spi(words)?;
@@ -172,18 +167,16 @@ fn send(alloc: Global, words: &mut Words<'_>) -> Result<Event, ReadFault>
     })
 }
 
-#[tactic(auto, unfolding(crate::specs::Reading::deliver_at))]
 fn deliver(words: &mut Words<'_>) -> Result<Event, LineFault>
-    ensures { Reads plain result words.new (deliver_at words.old) }
+    ensures { Reads plain result words.new (read_fields deliver_row.fields words.old) }
 {
     let which = which(words)?;
     let to = party(words)?;
     Ok(Event::Deliver { which, to })
 }
 
-#[tactic(auto, unfolding(crate::specs::Reading::alter_at))]
 fn alter(words: &mut Words<'_>) -> Result<Event, LineFault>
-    ensures { Reads plain result words.new (alter_at words.old) }
+    ensures { Reads plain result words.new (read_fields alter_row.fields words.old) }
 {
     let which = which(words)?;
     let to = party(words)?;
@@ -197,9 +190,8 @@ fn alter(words: &mut Words<'_>) -> Result<Event, LineFault>
     })
 }
 
-#[tactic(auto, unfolding(crate::specs::Reading::cut_at))]
 fn cut(words: &mut Words<'_>) -> Result<Event, LineFault>
-    ensures { Reads plain result words.new (cut_at words.old) }
+    ensures { Reads plain result words.new (read_fields cut_row.fields words.old) }
 {
     let which = which(words)?;
     let to = party(words)?;
@@ -207,9 +199,8 @@ fn cut(words: &mut Words<'_>) -> Result<Event, LineFault>
     Ok(Event::Cut { which, to, keep })
 }
 
-#[tactic(auto, unfolding(crate::specs::Reading::inject_at))]
 fn inject(alloc: Global, words: &mut Words<'_>) -> Result<Event, ReadFault>
-    ensures { GivesInLine plain result words.new (inject_at words.old) }
+    ensures { GivesInLine plain result words.new (read_fields inject_row.fields words.old) }
 {
     let to = party(words)?;
     let medium = medium(words)?;
@@ -219,7 +210,7 @@ fn inject(alloc: Global, words: &mut Words<'_>) -> Result<Event, ReadFault>
 
 /// An event whose fields take no memory, by its word.
 fn short_event(column: u32, word: &[u8], words: &mut Words<'_>) -> Result<Event, LineFault>
-    ensures { Reads plain result words.new (reader_named (drop 2 event_readers) column word.now words.old) }
+    ensures { Reads plain result words.new (read_row (drop 2 event_table) column word.now words.old) }
 {
     if word == b"cluster".as_slice() {
         return cluster(words);
