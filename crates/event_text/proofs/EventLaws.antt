@@ -1,10 +1,9 @@
 -- What is read of a line is spelled so, and what is spelled so is read.
-use Rattle.std.proofs.Common.{◌≡◌, ℕ, ◌+◌, ◌-◌, ◌^◌, ◌<◌, ◌≤◌, true, ltb, List, [], ◌∷◌, ◌++◌, length, Result, Ok, Err, refl, sym, ap, ◌∙◌, subst, append-nil, codes, lit≤}
+use Rattle.std.proofs.Common.{◌≡◌, ℕ, ◌+◌, ◌-◌, ◌^◌, ◌<◌, ◌≤◌, ltb, List, [], ◌∷◌, ◌++◌, length, Result, Ok, Err, refl, sym, ap, ◌∙◌, subst, append-nil, append_assoc, lit≤}
 use Rattle.std.proofs.lemmas.Bool.{ltb-false, le-ltb}
 use Rattle.std.proofs.lemmas.Slice.Eq.{bytes_eq-Decides}
 use Rattle.std.specs.Fmt.{decimal}
 use Rattle.std.specs.Str.{bytes_eq}
-use Rattle.ha_base.specs.declared.counter_names.Origin.TheVariants.{Imported}
 use Rattle.ha_base.specs.declared.key_material.KeySize.{KeySize}
 use Rattle.ha_base.specs.declared.key_material.SaKeys.{SaKeys}
 use Rattle.ha_base.specs.declared.key_material.ChildKeys.{ChildKeys}
@@ -17,13 +16,15 @@ use Rattle.line_fields.specs.Words.{Cursor, line_of, words_of}
 use Rattle.line_fields.specs.Numbers.{number_in_word}
 use Rattle.events.specs.Events.{PlainEvent, Cluster, Import, Join, Own, Draw, Crash, Send, Deliver, Alter, Cut, Inject}
 use Rattle.line_fields.specs.Fields.{◌>>=◌, behind_field, ended_at, end_in, fault_at, word_at, word_in}
-use Rattle.event_text.specs.Reading.{alter_at, child_keys_at, cluster_at, crash_at, cut_at, deliver_at, draw_at, event_at, event_readers, import_at, inject_at, join_at, line_at, moment_at, reader_named, own_at, sa_keys_at, send_at, starts_at, told_at}
+use Rattle.event_text.specs.KeyFields.{child_keys_at, sa_keys_at, starts_at}
+use Rattle.event_text.specs.EventTable.{EventFields, Whole, Then, EventRow, alter_row, cluster_row, crash_row, cut_row, deliver_row, draw_row, event_table, import_row, inject_row, join_row, own_row, read_fields, read_row, send_row}
+use Rattle.event_text.specs.Reading.{event_at, line_at, moment_at, moment_and_event_at}
 use Rattle.event_text.specs.Grammar.{EventLine, child_key_words, event_words, five_words, line_words, sa_key_words}
 use Rattle.events.specs.Ranges.{AreChildKeys, AreSaKeys, AreStarts, Fits}
 use Rattle.line_fields.proofs.WordLaws.{line-words, words-line}
 use Rattle.event_text.proofs.EventFieldLaws.{count_field, medium_field, member_field, party_field, place_field, ticket_key_field, which_field, window_field}
 use Rattle.event_text.proofs.SpacelessLaws.{line_spaceless}
-use Rattle.line_fields.proofs.FieldLaws.{IsField, IsReader, column_behind, domain_name_field, esp_spi_field, field_again, identity_field, key_size_field, number_field, octet_field, ok_is, pick, reader, sized_field, spi_field, then_word, then_words, walk}
+use Rattle.line_fields.proofs.FieldLaws.{IsField, IsReader, column_behind, domain_name_field, esp_spi_field, field_again, identity_field, key_size_field, number_field, octet_field, ok_is, pick, reader, sized_field, spi_field, then_word, walk}
 
 message_id_field : IsField (number_in_word 0 (2 ^ 32 - 1)) decimal (λ n. n < 2 ^ 32 - 1)
 message_id_field = number_field (2 ^ 32 - 1) (lit≤ tt)
@@ -93,133 +94,139 @@ starts_reader = record { takes = starts_takes; again = starts_again }
 
 -- ---- events
 
--- a word and the words behind it are an event's
-record IsSpelled (word : List ℕ) (s : Cursor) (y : PlainEvent × Cursor) : Type 0 where
-  words : word ∷ s.words ≡ event_words y.0 ++ y.1.words
-  fits : Fits y.0
+-- the words of the fields, behind those that are read, are an event's, and their values fit it
+Agree : EventFields → List (List ℕ) → Type 0 → Type 0
+Agree (Whole event) words fit = (event_words event ≡ words) × (fit → Fits event)
+Agree (Then kind rest) words fit = IsReader kind.reading kind.text kind.range × ((x : _) → Agree (rest x) (words ++ kind.text x) (fit × kind.range x))
 
-behind_word : (word : List ℕ) {ws vs : List (List ℕ)} → ws ≡ vs → word ∷ ws ≡ word ∷ vs
-behind_word word e = ap (λ (v : List (List ℕ)). word ∷ v) e
+fields_take : (fields : EventFields) (words : List (List ℕ)) (fit : Type 0) → Agree fields words fit → fit → (all : List (List ℕ)) (s : Cursor) (y : PlainEvent × Cursor) → all ≡ words ++ s.words → read_fields fields s ≡ Ok y → (all ≡ event_words y.0 ++ y.1.words) × Fits y.0
+unfolding Agree
+fields_take (Whole event) words fit agree holds all s y is e =
+    subst (λ (q : PlainEvent × Cursor). (all ≡ event_words q.0 ++ q.1.words) × Fits q.0) (ok_is (event, s) y e)
+    (is ∙ ap (λ (t : List (List ℕ)). t ++ s.words) (sym agree.0), agree.1 holds)
+fields_take (Then kind rest) words fit agree holds all s y is e =
+    walk agree.0 s (λ x. read_fields (rest x.0) x.1) y e (λ x t w f e1.
+    fields_take (rest x) (words ++ kind.text x) (fit × kind.range x) (agree.1 x) (holds, f) all t y
+    (is ∙ ap (λ (u : List (List ℕ)). words ++ u) w ∙ sym (append_assoc words (kind.text x) t.words)) e1)
 
-import_takes : (s : Cursor) (y : PlainEvent × Cursor) → import_at s ≡ Ok y → IsSpelled (codes "import") s y
-unfolding import_at
-import_takes s y e =
-    walk (reader spi_field) s _ y e (λ spii s1 w1 f1 e1.
-    walk (reader spi_field) s1 _ y e1 (λ spir s2 w2 f2 e2.
-    walk (reader key_size_field) s2 _ y e2 (λ size s3 w3 f3 e3.
-    walk (reader identity_field) s3 _ y e3 (λ identity s4 w4 f4 e4.
-    walk (sa_keys_reader size) s4 _ y e4 (λ keys s5 w5 f5 e5.
-    walk (reader esp_spi_field) s5 _ y e5 (λ spi_in s6 w6 f6 e6.
-    walk (reader esp_spi_field) s6 _ y e6 (λ spi_out s7 w7 f7 e7.
-    walk (child_keys_reader size) s7 _ y e7 (λ child s8 w8 f8 e8.
-    walk starts_reader s8 _ y e8 (λ starts s9 w9 f9 e9.
-    subst (IsSpelled (codes "import") s)
-    (ok_is (Import (record { origin = Imported spir; spii = spii; spir = spir; size = size; identity = identity; keys = keys; spi_in = spi_in; spi_out = spi_out; child = child; starts = starts }), s9) y e9)
-    (record {
-      words = behind_word (codes "import") (then_word _ w1 (then_word _ w2 (then_word _ w3 (then_word _ w4 (then_words (sa_key_words keys) w5 (then_word _ w6 (then_word _ w7 (then_words (child_key_words child) w8 w9))))))));
-      fits = record { origin = refl; spii = f1; spir = f2; identity = f4; keys = f5; spi_in = f6; spi_out = f7; child = f8; starts = f9 };
-    }))))))))))
+AllAgree : List EventRow → Type 0
+AllAgree [] = Unit {0}
+AllAgree (row ∷ rows) = Agree row.fields (row.word ∷ []) (Unit {0}) × AllAgree rows
 
-join_takes : (s : Cursor) (y : PlainEvent × Cursor) → join_at s ≡ Ok y → IsSpelled (codes "join") s y
-unfolding join_at
-join_takes s y e =
-    walk (reader (sized_field 24 24)) s _ y e (λ fresh s1 w1 f1 e1.
-    subst (IsSpelled (codes "join") s) (ok_is (Join fresh, s1) y e1) (record { words = behind_word (codes "join") w1; fits = f1 }))
-
-own_takes : (s : Cursor) (y : PlainEvent × Cursor) → own_at s ≡ Ok y → IsSpelled (codes "own") s y
-unfolding own_at
-own_takes s y e =
-    walk (reader member_field) s _ y e (λ member s1 w1 f1 e1.
-    walk (reader spi_field) s1 _ y e1 (λ spir s2 w2 f2 e2.
-    subst (IsSpelled (codes "own") s) (ok_is (Own member spir, s2) y e2) (record { words = behind_word (codes "own") (then_word _ w1 w2); fits = (f1, f2) })))
-
-draw_takes : (s : Cursor) (y : PlainEvent × Cursor) → draw_at s ≡ Ok y → IsSpelled (codes "draw") s y
-unfolding draw_at
-draw_takes s y e =
-    walk (reader member_field) s _ y e (λ member s1 w1 f1 e1.
-    walk (reader spi_field) s1 _ y e1 (λ spir s2 w2 f2 e2.
-    subst (IsSpelled (codes "draw") s) (ok_is (Draw member spir, s2) y e2) (record { words = behind_word (codes "draw") (then_word _ w1 w2); fits = (f1, f2) })))
-
-crash_takes : (s : Cursor) (y : PlainEvent × Cursor) → crash_at s ≡ Ok y → IsSpelled (codes "crash") s y
-unfolding crash_at
-crash_takes s y e =
-    walk (reader member_field) s _ y e (λ member s1 w1 f1 e1.
-    subst (IsSpelled (codes "crash") s) (ok_is (Crash member, s1) y e1) (record { words = behind_word (codes "crash") w1; fits = f1 }))
-
-cluster_takes : (s : Cursor) (y : PlainEvent × Cursor) → cluster_at s ≡ Ok y → IsSpelled (codes "cluster") s y
-unfolding cluster_at
-cluster_takes s y e =
-    walk (reader domain_name_field) s _ y e (λ identity s1 w1 f1 e1.
-    walk (reader count_field) s1 _ y e1 (λ lifetime s2 w2 f2 e2.
-    walk (reader window_field) s2 _ y e2 (λ window s3 w3 f3 e3.
-    walk (reader ticket_key_field) s3 _ y e3 (λ ticket_key s4 w4 f4 e4.
-    subst (IsSpelled (codes "cluster") s) (ok_is (Cluster identity lifetime window ticket_key, s4) y e4)
-    (record {
-      words = behind_word (codes "cluster") (then_word _ w1 (then_word _ w2 (then_word _ w3 w4)));
-      fits = record { identity = f1; lifetime = f2; window = f3; ticket_key = f4 };
-    })))))
-
-send_takes : (s : Cursor) (y : PlainEvent × Cursor) → send_at s ≡ Ok y → IsSpelled (codes "send") s y
-unfolding send_at
-send_takes s y e =
-    walk (reader party_field) s _ y e (λ from s1 w1 f1 e1.
-    walk (reader spi_field) s1 _ y e1 (λ spir s2 w2 f2 e2.
-    walk (reader (sized_field 0 1400)) s2 _ y e2 (λ payload s3 w3 f3 e3.
-    subst (IsSpelled (codes "send") s) (ok_is (Send from spir payload, s3) y e3)
-    (record { words = behind_word (codes "send") (then_word _ w1 (then_word _ w2 w3)); fits = (f1, f2, f3) }))))
-
-deliver_takes : (s : Cursor) (y : PlainEvent × Cursor) → deliver_at s ≡ Ok y → IsSpelled (codes "deliver") s y
-unfolding deliver_at
-deliver_takes s y e =
-    walk (reader which_field) s _ y e (λ which s1 w1 f1 e1.
-    walk (reader party_field) s1 _ y e1 (λ to s2 w2 f2 e2.
-    subst (IsSpelled (codes "deliver") s) (ok_is (Deliver which to, s2) y e2) (record { words = behind_word (codes "deliver") (then_word _ w1 w2); fits = (f1, f2) })))
-
-alter_takes : (s : Cursor) (y : PlainEvent × Cursor) → alter_at s ≡ Ok y → IsSpelled (codes "alter") s y
-unfolding alter_at
-alter_takes s y e =
-    walk (reader which_field) s _ y e (λ which s1 w1 f1 e1.
-    walk (reader party_field) s1 _ y e1 (λ to s2 w2 f2 e2.
-    walk (reader place_field) s2 _ y e2 (λ place s3 w3 f3 e3.
-    walk (reader octet_field) s3 _ y e3 (λ octet s4 w4 f4 e4.
-    subst (IsSpelled (codes "alter") s) (ok_is (Alter which to place octet, s4) y e4)
-    (record { words = behind_word (codes "alter") (then_word _ w1 (then_word _ w2 (then_word _ w3 w4))); fits = (f1, f2, f3, f4) })))))
-
-cut_takes : (s : Cursor) (y : PlainEvent × Cursor) → cut_at s ≡ Ok y → IsSpelled (codes "cut") s y
-unfolding cut_at
-cut_takes s y e =
-    walk (reader which_field) s _ y e (λ which s1 w1 f1 e1.
-    walk (reader party_field) s1 _ y e1 (λ to s2 w2 f2 e2.
-    walk (reader place_field) s2 _ y e2 (λ keep s3 w3 f3 e3.
-    subst (IsSpelled (codes "cut") s) (ok_is (Cut which to keep, s3) y e3)
-    (record { words = behind_word (codes "cut") (then_word _ w1 (then_word _ w2 w3)); fits = (f1, f2, f3) }))))
-
-inject_takes : (s : Cursor) (y : PlainEvent × Cursor) → inject_at s ≡ Ok y → IsSpelled (codes "inject") s y
-unfolding inject_at
-inject_takes s y e =
-    walk (reader party_field) s _ y e (λ to s1 w1 f1 e1.
-    walk (reader medium_field) s1 _ y e1 (λ medium s2 w2 f2 e2.
-    walk (reader (sized_field 0 2048)) s2 _ y e2 (λ octets s3 w3 f3 e3.
-    subst (IsSpelled (codes "inject") s) (ok_is (Inject to medium octets, s3) y e3)
-    (record { words = behind_word (codes "inject") (then_word _ w1 (then_word _ w2 w3)); fits = (f1, f3) }))))
-
-is_word_of : (name w : List ℕ) (s : Cursor) (y : PlainEvent × Cursor) → bytes_eq w name ≡ true → IsSpelled name s y → IsSpelled w s y
-is_word_of name w s y t h = subst (λ (v : List ℕ). IsSpelled v s y) (sym ((bytes_eq-Decides w name).0 t)) h
-
--- what each row of a table reads is spelled behind the row's word
-Takes : List (List ℕ × (Cursor → Result (PlainEvent × Cursor) LineFault)) → Type 0
-Takes [] = Unit {0}
-Takes (row ∷ rows) = ((s : Cursor) (y : PlainEvent × Cursor) → row.1 s ≡ Ok y → IsSpelled row.0 s y) × Takes rows
-
-rows_take : (rows : List (List ℕ × (Cursor → Result (PlainEvent × Cursor) LineFault))) → Takes rows → (c : ℕ) (w : List ℕ) (s : Cursor) (y : PlainEvent × Cursor) → reader_named rows c w s ≡ Ok y → IsSpelled w s y
-unfolding Takes
+rows_take : (rows : List EventRow) → AllAgree rows → (c : ℕ) (w : List ℕ) (s : Cursor) (y : PlainEvent × Cursor) → read_row rows c w s ≡ Ok y → (w ∷ s.words ≡ event_words y.0 ++ y.1.words) × Fits y.0
+unfolding AllAgree
 rows_take [] h c w s y e = absurd cc
 rows_take (row ∷ rows) h c w s y e =
-    pick (bytes_eq w row.0) _ _ _ e (λ t read. is_word_of row.0 w s y t (h.0 s y read)) (λ _ others. rows_take rows h.1 c w s y others)
+    pick (bytes_eq w row.word) _ _ _ e
+    (λ hit read. fields_take row.fields (row.word ∷ []) (Unit {0}) h.0 tt (w ∷ s.words) s y (ap (λ (v : List ℕ). v ∷ s.words) ((bytes_eq-Decides w row.word).0 hit)) read)
+    (λ _ others. rows_take rows h.1 c w s y others)
 
-events_take : Takes event_readers
-unfolding Takes
-events_take = (send_takes, (inject_takes, (cluster_takes, (import_takes, (join_takes, (own_takes, (draw_takes, (crash_takes, (deliver_takes, (alter_takes, (cut_takes, tt)))))))))))
+import_agrees : Agree import_row.fields (import_row.word ∷ []) (Unit {0})
+unfolding Agree
+import_agrees = (
+  reader spi_field,
+  λ spii. (
+    reader spi_field,
+    λ spir. (
+      reader key_size_field,
+      λ size. (
+        reader identity_field,
+        λ identity. (
+          sa_keys_reader size,
+          λ keys. (
+            reader esp_spi_field,
+            λ spi_in. (
+              reader esp_spi_field,
+              λ spi_out. (
+                child_keys_reader size,
+                λ child. (
+                  starts_reader,
+                  λ starts. (
+                    refl,
+                    λ h. record {
+                      origin = refl;
+                      spii = h.0.0.0.0.0.0.0.0.1;
+                      spir = h.0.0.0.0.0.0.0.1;
+                      identity = h.0.0.0.0.0.1;
+                      keys = h.0.0.0.0.1;
+                      spi_in = h.0.0.0.1;
+                      spi_out = h.0.0.1;
+                      child = h.0.1;
+                      starts = h.1;
+                    },
+                  ),
+                ),
+              ),
+            ),
+          ),
+        ),
+      ),
+    ),
+  ),
+)
+
+cluster_agrees : Agree cluster_row.fields (cluster_row.word ∷ []) (Unit {0})
+unfolding Agree
+cluster_agrees = (
+  reader domain_name_field,
+  λ identity. (
+    reader count_field,
+    λ lifetime. (
+      reader window_field,
+      λ window. (
+        reader ticket_key_field,
+        λ key. (
+          refl,
+          λ h. record { identity = h.0.0.0.1; lifetime = h.0.0.1; window = h.0.1; ticket_key = h.1 },
+        ),
+      ),
+    ),
+  ),
+)
+
+own_agrees : Agree own_row.fields (own_row.word ∷ []) (Unit {0})
+unfolding Agree
+own_agrees = (reader member_field, λ member. (reader spi_field, λ spir. (refl, λ h. (h.0.1, h.1))))
+
+draw_agrees : Agree draw_row.fields (draw_row.word ∷ []) (Unit {0})
+unfolding Agree
+draw_agrees = (reader member_field, λ member. (reader spi_field, λ spir. (refl, λ h. (h.0.1, h.1))))
+
+send_agrees : Agree send_row.fields (send_row.word ∷ []) (Unit {0})
+unfolding Agree
+send_agrees =
+    (reader party_field, λ from. (reader spi_field, λ spir. (reader (sized_field 0 1400), λ payload. (refl, λ h. (h.0.0.1, h.0.1, h.1)))))
+
+inject_agrees : Agree inject_row.fields (inject_row.word ∷ []) (Unit {0})
+unfolding Agree
+inject_agrees =
+    (reader party_field, λ to. (reader medium_field, λ medium. (reader (sized_field 0 2048), λ octets. (refl, λ h. (h.0.0.1, h.1)))))
+
+deliver_agrees : Agree deliver_row.fields (deliver_row.word ∷ []) (Unit {0})
+unfolding Agree
+deliver_agrees = (reader which_field, λ which. (reader party_field, λ to. (refl, λ h. (h.0.1, h.1))))
+
+alter_agrees : Agree alter_row.fields (alter_row.word ∷ []) (Unit {0})
+unfolding Agree
+alter_agrees =
+    (reader which_field, λ which. (reader party_field, λ to. (reader place_field, λ place. (reader octet_field, λ octet. (refl, λ h. (h.0.0.0.1, h.0.0.1, h.0.1, h.1))))))
+
+cut_agrees : Agree cut_row.fields (cut_row.word ∷ []) (Unit {0})
+unfolding Agree
+cut_agrees =
+    (reader which_field, λ which. (reader party_field, λ to. (reader place_field, λ keep. (refl, λ h. (h.0.0.1, h.0.1, h.1)))))
+
+join_agrees : Agree join_row.fields (join_row.word ∷ []) (Unit {0})
+unfolding Agree
+join_agrees = (reader (sized_field 24 24), λ fresh. (refl, λ h. h.1))
+
+crash_agrees : Agree crash_row.fields (crash_row.word ∷ []) (Unit {0})
+unfolding Agree
+crash_agrees = (reader member_field, λ member. (refl, λ h. h.1))
+
+table_agrees : AllAgree event_table
+unfolding AllAgree
+table_agrees = (send_agrees, (inject_agrees, (cluster_agrees, (import_agrees, (join_agrees, (own_agrees, (draw_agrees, (crash_agrees, (deliver_agrees, (alter_agrees, (cut_agrees, tt)))))))))))
 
 -- a step was run, and then the rest
 after : {A B P : Type 0} (r : Result A LineFault) (k : A → Result B LineFault) (y : B) → (r >>= k) ≡ Ok y → ((x : A) → r ≡ Ok x → k x ≡ Ok y → P) → P
@@ -233,12 +240,12 @@ word_is c (v ∷ vs) p e = ap (λ (q : List ℕ × Cursor). q.0 ∷ q.1.words) (
 event_takes : (s : Cursor) (y : PlainEvent × Cursor) → event_at s ≡ Ok y → (s.words ≡ event_words y.0 ++ y.1.words) × Fits y.0
 unfolding event_at
 event_takes s y e =
-    after (word_at s) (λ w. reader_named event_readers s.column w.0 w.1) y e (λ w found rest.
-    let spelled = rows_take event_readers events_take s.column w.0 w.1 y rest in
-    (word_is s.column s.words w found ∙ spelled.words, spelled.fits))
+    after (word_at s) (λ w. read_row event_table s.column w.0 w.1) y e (λ w found rest.
+    let taken = rows_take event_table table_agrees s.column w.0 w.1 y rest in
+    (word_is s.column s.words w found ∙ taken.0, taken.1))
 
 event_again : (e : PlainEvent) → Fits e → (c : ℕ) → event_at (record { column = c; words = event_words e }) ≡ Ok (e, record { column = column_behind c (event_words e); words = [] })
-unfolding event_at import_at join_at own_at draw_at crash_at cluster_at send_at deliver_at alter_at cut_at inject_at
+unfolding event_at
 event_again (Import a) h c =
     rw (field_again spi_field a.spii h.spii, field_again spi_field a.spir h.spir, field_again key_size_field a.size tt, field_again identity_field a.identity h.identity, sa_keys_again a.size a.keys h.keys, field_again esp_spi_field a.spi_in h.spi_in, field_again esp_spi_field a.spi_out h.spi_out, child_keys_again a.size a.child h.child, starts_reader.again a.starts h.starts, sym h.origin) refl
 event_again (Join fresh) h c = rw (field_again (sized_field 24 24) fresh h) refl
@@ -275,9 +282,9 @@ ended_is : (c : ℕ) (ws : List (List ℕ)) (x : Unit {0}) → end_in c ws ≡ O
 ended_is c [] x e = refl
 ended_is c (w ∷ ws) x e = absurd cc
 
-told_takes : (last : ℕ) (s : Cursor) (y : Moment × PlainEvent) → told_at last s ≡ Ok y → (s.words ≡ line_words y.0 y.1) × (last ≤ y.0.0) × (y.0.0 < 2 ^ 63) × Fits y.1
-unfolding told_at
-told_takes last s y e =
+moment_and_event_takes : (last : ℕ) (s : Cursor) (y : Moment × PlainEvent) → moment_and_event_at last s ≡ Ok y → (s.words ≡ line_words y.0 y.1) × (last ≤ y.0.0) × (y.0.0 < 2 ^ 63) × Fits y.1
+unfolding moment_and_event_at
+moment_and_event_takes last s y e =
     after (moment_at last s) _ y e (λ m is_m e1.
     after (event_at m.1) _ y e1 (λ v is_v e2.
     after (ended_at v.1) _ y e2 (λ x is_x e3.
@@ -293,19 +300,19 @@ told_takes last s y e =
 pub line_takes : (last : ℕ) (line : List ℕ) (y : Moment × PlainEvent) → line_at last line ≡ Ok y → EventLine last line y.0 y.1
 unfolding line_at
 line_takes last line y e =
-    pick (ltb 16384 (length line)) (Err (fault_at 16385 reasons.LineTooLong)) (told_at last (record { column = 1; words = words_of line })) (Ok y) e
+    pick (ltb 16384 (length line)) (Err (fault_at 16385 reasons.LineTooLong)) (moment_and_event_at last (record { column = 1; words = words_of line })) (Ok y) e
     (λ hit same. absurd cc)
     (λ miss same.
-    let told = told_takes last (record { column = 1; words = words_of line }) y same in
+    let told = moment_and_event_takes last (record { column = 1; words = words_of line }) y same in
     record { text = sym (line-words line) ∙ ap line_of told.0; short = ltb-false 16384 (length line) miss; in_order = told.1; in_range = told.2; fits = told.3 })
 
-told_again : (last : ℕ) (m : Moment) (e : PlainEvent) → last ≤ m.0 → m.0 < 2 ^ 63 → Fits e → told_at last (record { column = 1; words = line_words m e }) ≡ Ok (m, e)
-unfolding told_at
-told_again last m e late lt fits = rw (moment_again last m.0 lt late 1 (event_words e), event_again e fits (1 + length (decimal m.0) + 1)) refl
+moment_and_event_again : (last : ℕ) (m : Moment) (e : PlainEvent) → last ≤ m.0 → m.0 < 2 ^ 63 → Fits e → moment_and_event_at last (record { column = 1; words = line_words m e }) ≡ Ok (m, e)
+unfolding moment_and_event_at
+moment_and_event_again last m e late lt fits = rw (moment_again last m.0 lt late 1 (event_words e), event_again e fits (1 + length (decimal m.0) + 1)) refl
 
 -- what a line says is read of it
 pub line_again : (last : ℕ) (line : List ℕ) (m : Moment) (e : PlainEvent) → EventLine last line m e → line_at last line ≡ Ok (m, e)
 unfolding line_at
 line_again last line m e h =
     let words : words_of line ≡ line_words m e = ap words_of h.text ∙ words-line (decimal m.0) (event_words e) (line_spaceless m e h.in_range h.fits) in
-    rw (le-ltb 16384 (length line) h.short, words) (told_again last m e h.in_order h.in_range h.fits)
+    rw (le-ltb 16384 (length line) h.short, words) (moment_and_event_again last m e h.in_order h.in_range h.fits)

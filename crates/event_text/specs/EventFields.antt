@@ -1,6 +1,7 @@
 -- The fields that only events have, each a word.
 use Rattle.std.specs.Prelude.{ℕ, ◌^◌, ◌==◌, ◌||◌, Bool, List, length, codes, Result, Ok, Err, if◌then◌else◌}
 use Rattle.std.specs.Str.{bytes_eq}
+use Rattle.ha_base.specs.declared.limits.TheConstants.{NUMBER_END}
 use Rattle.line_fields.specs.declared.fault.LineReason.{LineReason}
 use Rattle.line_fields.specs.declared.fault.LineReason.TheVariants as reasons
 use Rattle.line_fields.specs.Numbers.{number_in_word}
@@ -14,7 +15,7 @@ use Rattle.events.specs.declared.turn.Medium.TheVariants as mediums
 
 -- a member's number
 abbrev pub member_in_word : List ℕ → Result ℕ LineReason
-member_in_word = number_in_word 0 (2 ^ 63)
+member_in_word = number_in_word 0 NUMBER_END
 
 abbrev pub member_in : Result ℕ LineReason → Result Party LineReason
 member_in (Ok number) = Ok (parties.Member number)

@@ -1,7 +1,9 @@
 -- The text of events: a version line, a line for each event, and lines that are passed over.
 use Rattle.std.specs.Prelude.{ℕ, ◌≤◌, List, [], ◌∷◌, length, codes}
 use Rattle.std.specs.List.{AllByRecursion, filter}
+use Rattle.ha_base.specs.declared.limits.TheConstants.{INPUT_OCTETS}
 use Rattle.ha_base.specs.declared.outside.Moment.{Moment}
+use Rattle.event_text.specs.declared.input.TheConstants.{MAX_EVENTS}
 use Rattle.input_lines.specs.Lines.{IsFile, IsLine, is_said}
 use Rattle.events.specs.Events.{PlainEvent}
 use Rattle.event_text.specs.Grammar.{EventLine}
@@ -19,5 +21,5 @@ pub record EventText (events : List (Moment × PlainEvent)) (octets : List ℕ) 
   pub file : IsFile (codes "ha 1" ∷ lines) octets
   pub are_lines : AllByRecursion IsLine lines
   pub say : SayEvents 0 (filter is_said lines) events
-  pub few : length events ≤ 100000
-  pub short : length octets ≤ 67108864
+  pub few : length events ≤ MAX_EVENTS
+  pub short : length octets ≤ INPUT_OCTETS

@@ -1,8 +1,9 @@
 -- The line of an event: its words.
-use Rattle.std.specs.Prelude.{◌≡◌, ℕ, ◌^◌, ◌<◌, ◌≤◌, List, [], ◌∷◌, ◌++◌, length, codes}
+use Rattle.std.specs.Prelude.{◌≡◌, ℕ, ◌<◌, ◌≤◌, List, [], ◌∷◌, ◌++◌, length, codes}
 use Rattle.std.specs.Fmt.{decimal}
 use Rattle.ha_base.specs.declared.key_material.SaKeys.{SaKeys}
 use Rattle.ha_base.specs.declared.key_material.ChildKeys.{ChildKeys}
+use Rattle.ha_base.specs.declared.limits.TheConstants.{LINE_OCTETS, NUMBER_END}
 use Rattle.ha_base.specs.declared.outside.Moment.{Moment}
 use Rattle.keeper_book.specs.declared.counters.Five.{Five}
 use Rattle.line_fields.specs.Words.{line_of}
@@ -67,7 +68,7 @@ line_words moment event = decimal moment.0 ∷ event_words event
 -- The line says this event of this moment, where the moment of the event before is `last`.
 pub record EventLine (last : ℕ) (line : List ℕ) (moment : Moment) (event : PlainEvent) : Type 0 where
   pub text : line ≡ line_of (line_words moment event)
-  pub short : length line ≤ 16384
+  pub short : length line ≤ LINE_OCTETS
   pub in_order : last ≤ moment.0
-  pub in_range : moment.0 < 2 ^ 63
+  pub in_range : moment.0 < NUMBER_END
   pub fits : Fits event

@@ -5,6 +5,7 @@ use Rattle.ha_base.specs.declared.outside.Moment.{Moment}
 use Rattle.line_fields.specs.declared.fault.LineFault.{LineFault}
 use Rattle.line_fields.specs.declared.fault.LineReason.TheVariants as reasons
 use Rattle.input_lines.specs.declared.fault.InputFault.{InputFault}
+use Rattle.event_text.specs.declared.input.TheConstants.{MAX_EVENTS}
 use Rattle.event_text.specs.declared.place.Place.{Place}
 use Rattle.input_lines.specs.Lines.{is_passed, lines_of, without_line_feed}
 use Rattle.input_lines.specs.Limits.{Left, overlong, unless_fault}
@@ -19,15 +20,16 @@ pub record Contents : Type 0 where
   pub fault : Option InputFault
 
 abbrev pub faulty_contents : ℕ → LineFault → Contents
-faulty_contents line f = record { events = []; fault = Some (record { line = line; column = f.column; reason = f.reason }) }
+faulty_contents line f =
+    record { events = []; fault = Some (record { line = line; column = f.column; reason = f.reason }) }
 
 abbrev pub with_event : Moment × PlainEvent → Contents → Contents
 with_event x rest = record { events = x ∷ rest.events; fault = rest.fault }
 
--- what a line gave, by its fields alone
-abbrev pub said : Option (Moment × Event) → Option (Moment × PlainEvent)
-said None = None
-said (Some x) = Some (x.0, plain x.1)
+-- what a line gave, seen as what it says
+abbrev pub plain_event_of : Option (Moment × Event) → Option (Moment × PlainEvent)
+plain_event_of None = None
+plain_event_of (Some x) = Some (x.0, plain x.1)
 
 abbrev pub some_event : Result (Moment × PlainEvent) LineFault → Result (Option (Moment × PlainEvent)) LineFault
 some_event (Ok x) = Ok (Some x)
@@ -37,7 +39,9 @@ some_event (Err f) = Err f
 unfoldable pub event_in : Place → ℕ → List ℕ → Result (Option (Moment × PlainEvent)) LineFault
 event_in p octets line =
     unless_fault (overlong p.before octets (length line))
-    (if is_passed line then Ok None else if p.count == 100000 then Err (fault_at 1 reasons.TooMany) else some_event (line_at p.last.0 line))
+    (if is_passed line then Ok None
+    else if p.count == MAX_EVENTS then Err (fault_at 1 reasons.TooMany)
+    else some_event (line_at p.last.0 line))
 
 abbrev pub events_counted : ℕ → Option (Moment × PlainEvent) → ℕ
 events_counted count None = count
@@ -50,7 +54,12 @@ moment_behind last (Some x) = x.0
 -- the place behind a line of some octets, and its event, if it has one
 abbrev pub behind_line : Place → ℕ → Option (Moment × PlainEvent) → Place
 behind_line p octets event =
-    record { line = p.line + 1; before = p.before + octets; count = events_counted p.count event; last = moment_behind p.last event }
+    record {
+      line = p.line + 1;
+      before = p.before + octets;
+      count = events_counted p.count event;
+      last = moment_behind p.last event;
+    }
 
 abbrev pub with_events : Option (Moment × PlainEvent) → Contents → Contents
 with_events None rest = rest
@@ -63,11 +72,15 @@ on_line line (Ok event) rest = with_events event (rest event)
 -- what lines say from a place on
 unfoldable pub contents_at : List (List ℕ) → Place → Contents
 contents_at [] p = record { events = []; fault = None }
-contents_at (line ∷ lines) p = on_line p.line (event_in p (length line) (without_line_feed line)) (λ event. contents_at lines (behind_line p (length line) event))
+contents_at (line ∷ lines) p =
+    on_line p.line (event_in p (length line) (without_line_feed line))
+    (λ event. contents_at lines (behind_line p (length line) event))
 
 -- the version line, which is first
 unfoldable pub version_in : ℕ → List ℕ → Result Unit LineFault
-version_in octets line = unless_fault (overlong 0 octets (length line)) (if bytes_eq line (codes "ha 1") then Ok tt else Err (fault_at 1 reasons.Word))
+version_in octets line =
+    unless_fault (overlong 0 octets (length line))
+    (if bytes_eq line (codes "ha 1") then Ok tt else Err (fault_at 1 reasons.Word))
 
 abbrev pub on_version : Result Unit LineFault → Contents → Contents
 on_version (Err f) rest = faulty_contents 1 f
@@ -79,7 +92,9 @@ second_line octets = record { line = 2; before = octets; count = 0; last = recor
 
 abbrev pub contents_in : List (List ℕ) → Contents
 contents_in [] = faulty_contents 1 (fault_at 1 reasons.Missing)
-contents_in (line ∷ lines) = on_version (version_in (length line) (without_line_feed line)) (contents_at lines (second_line (length line)))
+contents_in (line ∷ lines) =
+    on_version (version_in (length line) (without_line_feed line))
+    (contents_at lines (second_line (length line)))
 
 -- What an input says. Its first line is `ha 1`, and each other line that is not passed over is an event.
 abbrev pub contents_of : List ℕ → Contents

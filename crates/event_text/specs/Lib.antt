@@ -1,6 +1,9 @@
 pub mod EventFields
-pub mod Reading
-pub mod InMemory
+pub mod KeyFields
 pub mod Grammar
+pub mod FieldKinds
+pub mod EventTable
+pub mod Reading
 pub mod Input
+pub mod InMemory
 pub mod EventFile

@@ -1,22 +1,19 @@
 //! The fields that only events have.
 
 ghost use Rattle.std.specs.Prelude.{◌≡◌, ◌≤◌};
+ghost use Rattle.ha_base.specs.declared.limits.TheConstants.{DATAGRAM_OCTETS};
 ghost use Rattle.line_fields.specs.Octets.{sized};
 ghost use Rattle.line_fields.specs.Fields.{Reads, field};
 ghost use Rattle.event_text.specs.InMemory.{GivesInLine};
 ghost use Rattle.event_text.specs.EventFields.{is_ticket_key_size, is_window_size, medium_of, party_of, ticket_key_of, which_of, window_in_word};
 
-use crate::failure::Failure;
-use crate::reading::NUMBERS;
+use crate::read_fault::ReadFault;
 use events::{Medium, Party, Which};
-use ha_base::{OctetList, Octets};
+use ha_base::{DATAGRAM_OCTETS, NUMBER_END, OctetList, Octets};
 use line_fields::{
     LineFault, LineReason, Words, at, list_word, number_word, octet_list, short_word,
 };
 use std::alloc::Global;
-
-/// How many octets a field of octets may have at most.
-const FIELD_OCTETS: usize = 2_048;
 
 fn party_word(word: &[u8]) -> Result<Party, LineReason>
     ensures { result ≡ party_of word.now }
@@ -24,7 +21,7 @@ fn party_word(word: &[u8]) -> Result<Party, LineReason>
     if word == b"peer".as_slice() {
         return Ok(Party::Peer);
     }
-    let number = number_word(word, 0, NUMBERS)?;
+    let number = number_word(word, 0, NUMBER_END)?;
     Ok(Party::Member(number))
 }
 
@@ -137,11 +134,11 @@ pub(crate) fn octets_in_memory(
     alloc: Global,
     words: &mut Words<'_>,
     most: usize,
-) -> Result<Octets, Failure>
-    requires { most ≤ 2048 }
+) -> Result<Octets, ReadFault>
+    requires { most ≤ DATAGRAM_OCTETS }
     ensures { GivesInLine (λ x. x.octets) result words.new (field (sized 0 most) words.old) }
 {
-    let read: OctetList<FIELD_OCTETS> = octet_list(words, 0, most)?;
+    let read: OctetList<DATAGRAM_OCTETS> = octet_list(words, 0, most)?;
     let mut octets = Octets::new(alloc);
     octets.extend(read.as_slice())?;
     Ok(octets)

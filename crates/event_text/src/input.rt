@@ -3,10 +3,14 @@
 ghost use Rattle.std.specs.Prelude.{◌≡◌, ◌≢◌, ◌≤◌, ◌<◌, ◌+◌, ◌^◌, [], ◌∷◌, length, take, IfErr, IfNone, IfOk, IfSome, OnErr, OnOk, OnSome, MatchResult, None, Some, Ok, Err};
 ghost use Rattle.events.specs.Events.{plain};
 ghost use Rattle.events.specs.Ranges.{Fits};
-ghost use Rattle.event_text.specs.Input.{contents_of, event_in, faulty_contents, left_contents, said, version_in, with_event};
+ghost use Rattle.event_text.specs.Input.{contents_of, event_in, faulty_contents, left_contents, plain_event_of, version_in, with_event};
+ghost use Rattle.event_text.specs.InMemory.{EndsAtFault, FailsInLine};
+ghost use Rattle.event_text.specs.declared.input.TheConstants.{MAX_EVENTS};
+ghost use Rattle.ha_base.specs.declared.limits.TheConstants.{ALLOCATION_END, INPUT_OCTETS};
 ghost use Rattle.line_fields.specs.Fields.{fault_at};
 
 use crate::place::Place;
+use crate::read_fault::{EventFault, ReadFault};
 use crate::reading::read_line;
 use events::Event;
 use ha_base::Moment;
@@ -16,7 +20,7 @@ use std::alloc::Global;
 use std::marker::Model;
 
 /// How many events an input may have.
-const EVENTS: u32 = 100_000;
+pub const MAX_EVENTS: u32 = 100_000;
 
 /// What a line gives.
 #[derive(Drop)]
@@ -30,9 +34,9 @@ enum Line {
 
 #[tactic(auto, unfolding(crate::specs::Input::version_in))]
 fn version(octets: usize, line: &[u8]) -> Result<(), LineFault>
-    requires { octets < 2 ^ 63 }
+    requires { octets < ALLOCATION_END }
     ensures value { result ≡ version_in octets line.now }
-    ensures within { OnOk result (octets ≤ 67108864) }
+    ensures within { OnOk result (octets ≤ INPUT_OCTETS) }
 {
     if let Some(fault) = overlong(0, octets, line.len()) {
         return Err(fault);
@@ -53,26 +57,26 @@ fn event(
     place: Place,
     octets: usize,
     line: &[u8],
-) -> Result<Option<(Moment, Event)>, LineFault>
-    requires file { place.before ≤ 67108864 }
-    requires line { octets < 2 ^ 63 }
-    ensures value { MatchResult result (λ event. event_in place octets line.now ≡ Ok (said event))
-        (λ f. f.reason ≢ LineReason.Memory → event_in place octets line.now ≡ Err f) }
-    ensures within { IfOk result (λ _. place.before + octets ≤ 67108864) }
-    ensures few { IfOk result (λ event. OnSome event (place.count ≢ 100000)) }
+) -> Result<Option<(Moment, Event)>, ReadFault>
+    requires file { place.before ≤ INPUT_OCTETS }
+    requires line { octets < ALLOCATION_END }
+    ensures value { MatchResult result (λ event. event_in place octets line.now ≡ Ok (plain_event_of event))
+        (λ e. FailsInLine e (event_in place octets line.now)) }
+    ensures within { IfOk result (λ _. place.before + octets ≤ INPUT_OCTETS) }
+    ensures few { IfOk result (λ event. OnSome event (place.count ≢ MAX_EVENTS)) }
     ensures fits { IfOk result (λ event. IfSome event (λ x. Fits (plain x.1))) }
 {
     if let Some(fault) = overlong(place.before, octets, line.len()) {
-        return Err(fault);
+        return Err(ReadFault::Line(fault));
     }
     if is_passed(line) {
         return Ok(None);
     }
-    if place.count == EVENTS {
-        return Err(LineFault {
+    if place.count == MAX_EVENTS {
+        return Err(ReadFault::Line(LineFault {
             column: 1,
             reason: LineReason::TooMany,
-        });
+        }));
     }
     match read_line(alloc, line, place.last) {
         Ok((moment, event)) => Ok(Some((moment, event))),
@@ -102,12 +106,15 @@ impl<'a> Model for EventReader<'a> {
     ghost use Rattle.input_lines.specs.Lines.{lines_of};
     ghost use Rattle.input_lines.specs.Limits.{Left};
     ghost use Rattle.event_text.specs.declared.place.Place.{Place};
+    ghost use Rattle.event_text.specs.declared.input.TheConstants.{MAX_EVENTS};
+    ghost use Rattle.ha_base.specs.declared.limits.TheConstants.{INPUT_OCTETS};
 
     ghost Value = { Left Place };
 
     ghost view = { λ reader. record { lines = lines_of reader.rest.now; place = reader.place } };
 
-    ghost invariant = { λ reader. (reader.place.before ≤ 67108864) × (reader.place.line ≤ reader.place.before + 1) × (reader.place.count ≤ 100000) };
+    ghost invariant = { λ reader. (reader.place.before ≤ INPUT_OCTETS)
+        × (reader.place.line ≤ reader.place.before + 1) × (reader.place.count ≤ MAX_EVENTS) };
 }
 
 impl<'a> EventReader<'a> {
@@ -140,15 +147,14 @@ impl<'a> EventReader<'a> {
 
     /// Takes the next line. An error leaves the reader as it was.
     #[tactic(auto, unfolding(crate::specs::Input::contents_at))]
-    fn take_line(&mut self, alloc: Global) -> Result<Line, InputFault>
+    fn take_line(&mut self, alloc: Global) -> Result<Line, EventFault>
         ensures end { IfOk result (λ line. line ≡ Line.End → left_contents self.old ≡ record { events = []; fault = None }) }
         ensures passed { IfOk result (λ line. line ≡ Line.Passed → left_contents self.old ≡ left_contents self.new) }
         ensures event { IfOk result (λ line. (x : Moment × Event) → line ≡ Line.Said x.0 x.1
             → left_contents self.old ≡ with_event (x.0, plain x.1) (left_contents self.new)) }
         ensures fits { IfOk result (λ line. (x : Moment × Event) → line ≡ Line.Said x.0 x.1 → Fits (plain x.1)) }
         ensures fewer { IfOk result (λ line. line ≢ Line.End → length self.new.lines < length self.old.lines) }
-        ensures fault { IfErr result (λ f. f.reason ≢ LineReason.Memory
-            → left_contents self.old ≡ record { events = []; fault = Some f }) }
+        ensures fault { IfErr result (λ e. EndsAtFault e (left_contents self.old)) }
     {
         if self.rest.is_empty() {
             return Ok(Line::End);
@@ -156,7 +162,10 @@ impl<'a> EventReader<'a> {
         let front = front_of(self.rest);
         let said = match event(alloc, self.place, front.octets, front.line) {
             Ok(said) => said,
-            Err(fault) => return Err(in_line(self.place.line, fault)),
+            Err(ReadFault::Memory) => return Err(EventFault::Memory),
+            Err(ReadFault::Line(fault)) => {
+                return Err(EventFault::Input(in_line(self.place.line, fault)));
+            }
         };
         self.rest = front.rest;
         self.place.line += 1;
@@ -170,14 +179,13 @@ impl<'a> EventReader<'a> {
     }
 
     /// Takes lines up to the next event.
-    fn take_event(&mut self, alloc: Global) -> Result<Option<(Moment, Event)>, InputFault>
+    fn take_event(&mut self, alloc: Global) -> Result<Option<(Moment, Event)>, EventFault>
         ensures event { IfOk result (λ next. IfSome next (λ x.
             left_contents self.old ≡ with_event (x.0, plain x.1) (left_contents self.new))) }
         ensures fits { IfOk result (λ next. IfSome next (λ x. Fits (plain x.1))) }
         ensures fewer { IfOk result (λ next. OnSome next (length self.new.lines < length self.old.lines)) }
         ensures end { IfOk result (λ next. IfNone next (left_contents self.old ≡ record { events = []; fault = None })) }
-        ensures fault { IfErr result (λ f. f.reason ≢ LineReason.Memory
-            → left_contents self.old ≡ record { events = []; fault = Some f }) }
+        ensures fault { IfErr result (λ e. EndsAtFault e (left_contents self.old)) }
     {
         'lines: loop {
             match self.take_line(alloc)? {
@@ -190,14 +198,13 @@ impl<'a> EventReader<'a> {
 
     /// The next event, with its moment, or `None` at the end of the input. Empty lines and comments are passed over. An error is
     /// the first fault of the input, or want of memory, and leaves the reader as it was.
-    pub fn next_event(&mut self, alloc: Global) -> Result<Option<(Moment, Event)>, InputFault>
+    pub fn next_event(&mut self, alloc: Global) -> Result<Option<(Moment, Event)>, EventFault>
         ensures event { IfOk result (λ next. IfSome next (λ x.
             left_contents self.old ≡ with_event (x.0, plain x.1) (left_contents self.new))) }
         ensures fits { IfOk result (λ next. IfSome next (λ x. Fits (plain x.1))) }
         ensures fewer { IfOk result (λ next. OnSome next (length self.new.lines < length self.old.lines)) }
         ensures end { IfOk result (λ next. IfNone next (left_contents self.old ≡ record { events = []; fault = None })) }
-        ensures fault { IfErr result (λ f. f.reason ≢ LineReason.Memory
-            → left_contents self.old ≡ record { events = []; fault = Some f }) }
+        ensures fault { IfErr result (λ e. EndsAtFault e (left_contents self.old)) }
         ensures err { OnErr result (self.new ≡ self.old) }
     {
         let mut ahead = EventReader {
@@ -222,7 +229,10 @@ mod tests {
             count: 100_000,
             last: Moment(0),
         };
-        let fault = event(rt.alloc(), full, 2, b"x").err();
+        let fault = match event(rt.alloc(), full, 2, b"x") {
+            Err(ReadFault::Line(fault)) => Some(fault),
+            _ => None,
+        };
         assert_eq!(rt;
             fault,
             Some(LineFault {

@@ -2,11 +2,11 @@
 #![tactic(auto)]
 
 mod event_fields;
-mod failure;
 mod input;
 mod keys;
 mod laws;
 mod place;
+mod read_fault;
 mod reading;
 
 pub use events::{
@@ -19,4 +19,5 @@ pub use input_lines::InputFault;
 pub use laws::{front_tells_contents, inputs_are_texts};
 pub use line_fields::{LineFault, LineReason};
 pub use place::Place;
+pub use read_fault::{EventFault, ReadFault};
 pub use reading::read_line;

@@ -1,6 +1,6 @@
 //! An event from its line.
 
-ghost use Rattle.std.specs.Prelude.{◌≡◌, ◌≢◌, drop, length, IfOk, MatchResult, Ok, Err};
+ghost use Rattle.std.specs.Prelude.{◌≡◌, drop, length, IfOk, MatchResult, Ok, Err};
 ghost use Rattle.keeper_book.specs.Counters.{AreWithinEnds};
 ghost use Rattle.ha_base.specs.KeySizes.{sealing_octets};
 ghost use Rattle.events.specs.Events.{PlainEvent, plain};
@@ -9,14 +9,18 @@ ghost use Rattle.events.specs.Ranges.{Fits};
 ghost use Rattle.ha_base.specs.declared.outside.Moment.{Moment};
 ghost use Rattle.line_fields.specs.Fields.{Reads};
 ghost use Rattle.event_text.specs.InMemory.{FailsInLine, GivesInLine};
-ghost use Rattle.event_text.specs.Reading.{sa_keys_at, child_keys_at, starts_at, import_at, join_at, own_at, draw_at, crash_at, cluster_at, send_at, deliver_at, alter_at, cut_at, inject_at, event_at, event_readers, moment_at, reader_named, told_at, line_at};
+ghost use Rattle.event_text.specs.KeyFields.{sa_keys_at, child_keys_at, starts_at};
+ghost use Rattle.event_text.specs.EventTable.{alter_row, cluster_row, crash_row, cut_row, deliver_row, draw_row, event_table, import_row, inject_row, join_row, own_row, read_fields, read_row, send_row};
+ghost use Rattle.event_text.specs.Reading.{event_at, line_at, moment_at, moment_and_event_at};
 
 use crate::event_fields::{medium, octets_in_memory, party, ticket_key, which, window};
-use crate::failure::Failure;
 use crate::keys::sealing_key;
+use crate::read_fault::ReadFault;
 use events::Event;
-use ha_base::{ChildKeys, KeySize, Moment, Origin, SaKeys};
-use input_lines::LINE_OCTETS;
+use ha_base::{
+    ChildKeys, DATAGRAM_OCTETS, IV_END, KeySize, LINE_OCTETS, MESSAGE_ID_END, Moment, NUMBER_END,
+    Origin, PAYLOAD_OCTETS, SEQUENCE_END, SaKeys,
+};
 use keeper_book::{Five, Record};
 use line_fields::{
     LineFault, LineReason, Words, domain_name, esp_spi, identity, key_size, number, octet, octets,
@@ -24,19 +28,7 @@ use line_fields::{
 };
 use std::alloc::Global;
 
-/// Where moments, members' numbers, ESP numbers and IVs end.
-pub(crate) const NUMBERS: u64 = 1 << 63;
-
-/// Where Message IDs end.
-const MESSAGE_IDS: u64 = 0xffff_ffff;
-
-/// How many octets the payload of a packet may have.
-const PAYLOAD_OCTETS: usize = 1_400;
-
-/// How many octets may be injected.
-const INJECTED_OCTETS: usize = 2_048;
-
-#[tactic(auto, unfolding(crate::specs::Reading::sa_keys_at))]
+#[tactic(auto, unfolding(crate::specs::KeyFields::sa_keys_at))]
 fn sa_keys(words: &mut Words<'_>, size: KeySize) -> Result<SaKeys, LineFault>
     ensures value { Reads (λ x. x) result words.new (sa_keys_at size words.old) }
     ensures initiator { IfOk result (λ keys. length keys.sk_ei ≡ sealing_octets size) }
@@ -56,7 +48,7 @@ fn sa_keys(words: &mut Words<'_>, size: KeySize) -> Result<SaKeys, LineFault>
     })
 }
 
-#[tactic(auto, unfolding(crate::specs::Reading::child_keys_at))]
+#[tactic(auto, unfolding(crate::specs::KeyFields::child_keys_at))]
 fn child_keys(words: &mut Words<'_>, size: KeySize) -> Result<ChildKeys, LineFault>
     ensures value { Reads (λ x. x) result words.new (child_keys_at size words.old) }
     ensures cluster { IfOk result (λ keys. length keys.to_cluster ≡ sealing_octets size) }
@@ -70,16 +62,16 @@ fn child_keys(words: &mut Words<'_>, size: KeySize) -> Result<ChildKeys, LineFau
     })
 }
 
-#[tactic(auto, unfolding(crate::specs::Reading::starts_at))]
+#[tactic(auto, unfolding(crate::specs::KeyFields::starts_at))]
 fn starts(words: &mut Words<'_>) -> Result<Five, LineFault>
     ensures value { Reads (λ x. x) result words.new (starts_at words.old) }
     ensures within { IfOk result AreWithinEnds }
 {
-    let esp_out = number(words, NUMBERS)?;
-    let esp_in = number(words, NUMBERS)?;
-    let iv = number(words, NUMBERS)?;
-    let ask = number(words, MESSAGE_IDS)?;
-    let answer = number(words, MESSAGE_IDS)?;
+    let esp_out = number(words, SEQUENCE_END)?;
+    let esp_in = number(words, SEQUENCE_END)?;
+    let iv = number(words, IV_END)?;
+    let ask = number(words, MESSAGE_ID_END)?;
+    let answer = number(words, MESSAGE_ID_END)?;
     Ok(Five {
         esp_out,
         esp_in,
@@ -89,9 +81,8 @@ fn starts(words: &mut Words<'_>) -> Result<Five, LineFault>
     })
 }
 
-#[tactic(auto, unfolding(crate::specs::Reading::import_at))]
 fn import(words: &mut Words<'_>) -> Result<Event, LineFault>
-    ensures { Reads plain result words.new (import_at words.old) }
+    ensures { Reads plain result words.new (read_fields import_row.fields words.old) }
 {
     let spii = spi(words)?;
     let spir = spi(words)?;
@@ -118,43 +109,38 @@ fn import(words: &mut Words<'_>) -> Result<Event, LineFault>
     })
 }
 
-#[tactic(auto, unfolding(crate::specs::Reading::join_at))]
 fn join(words: &mut Words<'_>) -> Result<Event, LineFault>
-    ensures { Reads plain result words.new (join_at words.old) }
+    ensures { Reads plain result words.new (read_fields join_row.fields words.old) }
 {
     let fresh = octets(words)?;
     Ok(Event::Join { fresh })
 }
 
-#[tactic(auto, unfolding(crate::specs::Reading::own_at))]
 fn own(words: &mut Words<'_>) -> Result<Event, LineFault>
-    ensures { Reads plain result words.new (own_at words.old) }
+    ensures { Reads plain result words.new (read_fields own_row.fields words.old) }
 {
-    let member = number(words, NUMBERS)?;
+    let member = number(words, NUMBER_END)?;
     let spir = spi(words)?;
     Ok(Event::Own { member, spir })
 }
 
-#[tactic(auto, unfolding(crate::specs::Reading::draw_at))]
 fn draw(words: &mut Words<'_>) -> Result<Event, LineFault>
-    ensures { Reads plain result words.new (draw_at words.old) }
+    ensures { Reads plain result words.new (read_fields draw_row.fields words.old) }
 {
-    let member = number(words, NUMBERS)?;
+    let member = number(words, NUMBER_END)?;
     let spir = spi(words)?;
     Ok(Event::Draw { member, spir })
 }
 
-#[tactic(auto, unfolding(crate::specs::Reading::crash_at))]
 fn crash(words: &mut Words<'_>) -> Result<Event, LineFault>
-    ensures { Reads plain result words.new (crash_at words.old) }
+    ensures { Reads plain result words.new (read_fields crash_row.fields words.old) }
 {
-    let member = number(words, NUMBERS)?;
+    let member = number(words, NUMBER_END)?;
     Ok(Event::Crash { member })
 }
 
-#[tactic(auto, unfolding(crate::specs::Reading::cluster_at))]
 fn cluster(words: &mut Words<'_>) -> Result<Event, LineFault>
-    ensures { Reads plain result words.new (cluster_at words.old) }
+    ensures { Reads plain result words.new (read_fields cluster_row.fields words.old) }
 {
     let identity = domain_name(words)?;
     let lifetime = short_number(words, 1)?;
@@ -168,9 +154,8 @@ fn cluster(words: &mut Words<'_>) -> Result<Event, LineFault>
     })
 }
 
-#[tactic(auto, unfolding(crate::specs::Reading::send_at))]
-fn send(alloc: Global, words: &mut Words<'_>) -> Result<Event, Failure>
-    ensures { GivesInLine plain result words.new (send_at words.old) }
+fn send(alloc: Global, words: &mut Words<'_>) -> Result<Event, ReadFault>
+    ensures { GivesInLine plain result words.new (read_fields send_row.fields words.old) }
 {
     let from = party(words)?;
     let spir = spi(words)?;
@@ -182,18 +167,16 @@ fn send(alloc: Global, words: &mut Words<'_>) -> Result<Event, Failure>
     })
 }
 
-#[tactic(auto, unfolding(crate::specs::Reading::deliver_at))]
 fn deliver(words: &mut Words<'_>) -> Result<Event, LineFault>
-    ensures { Reads plain result words.new (deliver_at words.old) }
+    ensures { Reads plain result words.new (read_fields deliver_row.fields words.old) }
 {
     let which = which(words)?;
     let to = party(words)?;
     Ok(Event::Deliver { which, to })
 }
 
-#[tactic(auto, unfolding(crate::specs::Reading::alter_at))]
 fn alter(words: &mut Words<'_>) -> Result<Event, LineFault>
-    ensures { Reads plain result words.new (alter_at words.old) }
+    ensures { Reads plain result words.new (read_fields alter_row.fields words.old) }
 {
     let which = which(words)?;
     let to = party(words)?;
@@ -207,9 +190,8 @@ fn alter(words: &mut Words<'_>) -> Result<Event, LineFault>
     })
 }
 
-#[tactic(auto, unfolding(crate::specs::Reading::cut_at))]
 fn cut(words: &mut Words<'_>) -> Result<Event, LineFault>
-    ensures { Reads plain result words.new (cut_at words.old) }
+    ensures { Reads plain result words.new (read_fields cut_row.fields words.old) }
 {
     let which = which(words)?;
     let to = party(words)?;
@@ -217,19 +199,18 @@ fn cut(words: &mut Words<'_>) -> Result<Event, LineFault>
     Ok(Event::Cut { which, to, keep })
 }
 
-#[tactic(auto, unfolding(crate::specs::Reading::inject_at))]
-fn inject(alloc: Global, words: &mut Words<'_>) -> Result<Event, Failure>
-    ensures { GivesInLine plain result words.new (inject_at words.old) }
+fn inject(alloc: Global, words: &mut Words<'_>) -> Result<Event, ReadFault>
+    ensures { GivesInLine plain result words.new (read_fields inject_row.fields words.old) }
 {
     let to = party(words)?;
     let medium = medium(words)?;
-    let octets = octets_in_memory(alloc, words, INJECTED_OCTETS)?;
+    let octets = octets_in_memory(alloc, words, DATAGRAM_OCTETS)?;
     Ok(Event::Inject { to, medium, octets })
 }
 
 /// An event whose fields take no memory, by its word.
 fn short_event(column: u32, word: &[u8], words: &mut Words<'_>) -> Result<Event, LineFault>
-    ensures { Reads plain result words.new (reader_named (drop 2 event_readers) column word.now words.old) }
+    ensures { Reads plain result words.new (read_row (drop 2 event_table) column word.now words.old) }
 {
     if word == b"cluster".as_slice() {
         return cluster(words);
@@ -265,7 +246,7 @@ fn short_event(column: u32, word: &[u8], words: &mut Words<'_>) -> Result<Event,
 }
 
 #[tactic(auto, unfolding(crate::specs::Reading::event_at))]
-fn event(alloc: Global, words: &mut Words<'_>) -> Result<Event, Failure>
+fn event(alloc: Global, words: &mut Words<'_>) -> Result<Event, ReadFault>
     ensures { GivesInLine plain result words.new (event_at words.old) }
 {
     let column = words.column();
@@ -284,7 +265,7 @@ fn moment(words: &mut Words<'_>, last: Moment) -> Result<u64, LineFault>
     ensures { Reads (λ x. x) result words.new (moment_at last.0 words.old) }
 {
     let column = words.column();
-    let seconds = number(words, NUMBERS)?;
+    let seconds = number(words, NUMBER_END)?;
     if seconds < last.0 {
         return Err(LineFault {
             column,
@@ -294,13 +275,13 @@ fn moment(words: &mut Words<'_>, last: Moment) -> Result<u64, LineFault>
     Ok(seconds)
 }
 
-#[tactic(auto, unfolding(crate::specs::Reading::line_at, crate::specs::Reading::told_at))]
-fn told(alloc: Global, line: &[u8], last: Moment) -> Result<(Moment, Event), Failure>
+#[tactic(auto, unfolding(crate::specs::Reading::line_at, crate::specs::Reading::moment_and_event_at))]
+fn line_event(alloc: Global, line: &[u8], last: Moment) -> Result<(Moment, Event), ReadFault>
     ensures { MatchResult result (λ x. line_at last.0 line.now ≡ Ok (x.0, plain x.1)) (λ e. FailsInLine e (line_at last.0 line.now)) }
 {
     if line.len() > LINE_OCTETS {
-        return Err(Failure::At(LineFault {
-            column: 16_385,
+        return Err(ReadFault::Line(LineFault {
+            column: LINE_OCTETS as u32 + 1,
             reason: LineReason::LineTooLong,
         }));
     }
@@ -314,10 +295,10 @@ fn told(alloc: Global, line: &[u8], last: Moment) -> Result<(Moment, Event), Fai
 /// The event that a line spells, with its moment, in seconds. `last` is the moment of the event before, or 0.
 ///
 /// An error is the first fault of the line from left to right, or want of memory.
-pub fn read_line(alloc: Global, line: &[u8], last: Moment) -> Result<(Moment, Event), LineFault>
+pub fn read_line(alloc: Global, line: &[u8], last: Moment) -> Result<(Moment, Event), ReadFault>
     // Which event it is, and else which fault.
     ensures exact { MatchResult result (λ x. line_at last.0 line.now ≡ Ok (x.0, plain x.1))
-        (λ f. f.reason ≢ LineReason.Memory → line_at last.0 line.now ≡ Err f) }
+        (λ e. FailsInLine e (line_at last.0 line.now)) }
 
     // What is read is spelled so.
     ensures found { IfOk result (λ x. EventLine last.0 line.now x.0 (plain x.1)) }
@@ -327,14 +308,11 @@ pub fn read_line(alloc: Global, line: &[u8], last: Moment) -> Result<(Moment, Ev
 
     // What is spelled so is read, unless memory runs out.
     ensures only { (m : Moment) (e : PlainEvent) → EventLine last.0 line.now m e
-        → MatchResult result (λ x. (x.0 ≡ m) × (plain x.1 ≡ e)) (λ f. f.reason ≡ LineReason.Memory) }
+        → MatchResult result (λ x. (x.0 ≡ m) × (plain x.1 ≡ e)) (λ e. e ≡ ReadFault.Memory) }
 {
-    match told(alloc, line, last) {
+    match line_event(alloc, line, last) {
         Ok(read) => Ok(read),
-        Err(Failure::At(fault)) => Err(fault),
-        Err(Failure::OutOfMemory) => Err(LineFault {
-            column: 0,
-            reason: LineReason::Memory,
-        }),
+        Err(ReadFault::Line(fault)) => Err(ReadFault::Line(fault)),
+        Err(ReadFault::Memory) => Err(ReadFault::Memory),
     }
 }

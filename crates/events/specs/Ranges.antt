@@ -10,7 +10,7 @@ use Rattle.ha_base.specs.declared.key_material.ChildKeys.{ChildKeys}
 use Rattle.keeper_book.specs.declared.counters.Five.{Five}
 use Rattle.ha_base.specs.KeySizes.{sealing_octets}
 use Rattle.line_fields.specs.Octets.{IsOctetField}
-use Rattle.line_fields.specs.Identities.{IsIdentity, IsOfForm, fqdn}
+use Rattle.line_fields.specs.Identities.{IsDomainName, IsIdentity}
 use Rattle.replay_set.specs.Window.{IsWindowSize}
 use Rattle.events.specs.Events.{Association, PlainEvent, Cluster, Import, Join, Own, Draw, Crash, Send, Deliver, Alter, Cut, Inject}
 use Rattle.events.specs.declared.event.Party.{Party}
@@ -57,7 +57,7 @@ abbrev pub IsTicketKey : List ℕ → Type 0
 IsTicketKey key = IsOctetField 0 0 key ⊎ IsSealingKey Bits128 key ⊎ IsSealingKey Bits256 key
 
 pub record IsConfiguration (name : Identity) (seconds size : ℕ) (key : List ℕ) : Type 0 where
-  pub identity : IsOfForm fqdn name
+  pub identity : IsDomainName name
   pub lifetime : (1 ≤ seconds) × (seconds < 2 ^ 32)
   pub window : IsWindowSize size
   pub ticket_key : IsTicketKey key

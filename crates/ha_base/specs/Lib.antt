@@ -1,4 +1,5 @@
 pub mod Faults
+pub mod IdForms
 pub mod KeySizes
 pub mod MemoryStreams
 pub mod OctetArray

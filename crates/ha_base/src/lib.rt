@@ -5,6 +5,7 @@
 mod big_endian;
 mod counter_names;
 mod esp_outcomes;
+mod id_forms;
 mod identities;
 mod key_material;
 mod limits;
@@ -19,6 +20,7 @@ mod streams;
 pub use big_endian::{read_u32, read_u64};
 pub use counter_names::{CounterName, Derivation, End, Kind, Origin};
 pub use esp_outcomes::{EspDrop, EspOpened};
+pub use id_forms::{IdForm, fqdn, gateway_forms, has_size, identity_forms, word_by};
 pub use identities::{GatewayId, Identity};
 pub use key_material::{ChildKeys, KeySize, SaKeys};
 pub use limits::{

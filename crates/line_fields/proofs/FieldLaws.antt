@@ -1,5 +1,5 @@
 -- A field that is read is spelled by the word that stood there, and a field's word is read as the field.
-use Rattle.std.proofs.Common.{◌≡◌, ℕ, zero, suc, ◌+◌, ◌/◌, ◌^◌, ◌<◌, ◌≤◌, Bool, true, false, ◌&&◌, ◌||◌, cond, eqb, ltb, leb, List, [], ◌∷◌, ◌++◌, length, get_or, Option, Some, None, Result, Ok, Err, refl, sym, ap, ◌∙◌, subst, arith, inl, inr, codes}
+use Rattle.std.proofs.Common.{◌≡◌, ℕ, zero, suc, ◌+◌, ◌/◌, ◌^◌, ◌<◌, ◌≤◌, Bool, true, false, ◌&&◌, ◌||◌, cond, eqb, ltb, leb, List, [], ◌∷◌, ◌++◌, length, get_or, Option, Some, None, Result, Ok, Err, refl, sym, ap, ◌∙◌, subst, arith, inl, inr, ◌⊎◌, codes}
 use Rattle.std.proofs.lemmas.Bool.{and_parts, cases_Bool, eqb-true, le-leb, leb-true, lt-ltb, ltb-true, ne_eqb}
 use Rattle.std.proofs.lemmas.Fmt.{decimal-digits_value, digits_decimal, digits_value-decimal, decimal_nonempty, first_decimal, decimal_digit}
 use Rattle.std.proofs.lemmas.Nat.{be_bytes_4, be_bytes_8, from_be_bytes-to_be_bytes_4, from_be_bytes-to_be_bytes_8}
@@ -20,7 +20,8 @@ use Rattle.line_fields.specs.declared.fault.LineReason.TheVariants as reasons
 use Rattle.line_fields.specs.Words.{Cursor}
 use Rattle.line_fields.specs.Numbers.{begins_well, is_numeral, numeral_of, in_range, number_in_word}
 use Rattle.line_fields.specs.Octets.{IsOctetField, dash, decoded, octet_in, octet_of, esp_spi_of, esp_spi_text, is_hex, octets_in, octets_text, size_of, sized, spells_octets, spi_in_word, spi_text}
-use Rattle.line_fields.specs.Identities.{Form, IsIdentity, IsOfForm, behind_prefix, domain_name_of, fqdn, identity_in, identity_of, identity_text, ipv4, ipv6, key, mail, of_form, prefix_of}
+use Rattle.ha_base.specs.IdForms.{Form, fqdn, identity_forms, word_by}
+use Rattle.line_fields.specs.Identities.{HasForm, HasFormOf, IsDomainName, IsIdentity, behind_prefix, domain_name_of, id_of, id_text, identity_in, identity_of, identity_text, of_form, with_kind}
 use Rattle.line_fields.specs.Fields.{◌>>=◌, behind_field, field, key_size_of, located, word_at, word_in}
 use Rattle.line_fields.specs.Fields.{size_text}
 use Rattle.line_fields.proofs.NumberLaws.{numeral_parts, own}
@@ -258,49 +259,80 @@ key_size_field = record { takes = key_size_takes; again = key_size_again }
 
 -- ---- identities
 
-identity_is : (kind : ℕ) (r : Result (List ℕ) LineReason) (i : Identity) → identity_in kind r ≡ Ok i → (r ≡ Ok i.octets) × (i.kind ≡ kind)
-identity_is kind (Ok octets) i e =
-    let same = ok_is (record { kind = kind; octets = octets }) i e in (ap (λ (j : Identity). Ok j.octets) same, sym (ap (λ (j : Identity). j.kind) same))
-identity_is kind (Err reason) i e = absurd cc
+-- a word that was read by a table is that of a form, and its octets are in the form's range
+IsReadBy : List Form → List ℕ → ℕ × List ℕ → Type 0
+IsReadBy [] w id = ⊥
+IsReadBy (form ∷ forms) w id = ((w ≡ form.word ++ octets_text id.1) × HasForm form id.0 id.1) ⊎ IsReadBy forms w id
 
--- an identity of this type was read, or the others go on
-of_form_takes : {P : Type 0} (form : Form) (prefix : List ℕ) (w : List ℕ) (o : Option (List ℕ)) (other : Result Identity LineReason) (i : Identity) → behind_prefix prefix w ≡ o → of_form form o other ≡ Ok i → (w ≡ prefix ++ octets_text i.octets → IsOfForm form i → P) → (other ≡ Ok i → P) → P
-of_form_takes form prefix w None other i found e hit miss = miss e
-of_form_takes form prefix w (Some rest) other i found e hit miss =
-    let parts = identity_is form.kind (sized form.least form.most rest) i e in
-    let octets = sized_takes form.least form.most rest i.octets parts.0 in
-    hit (prefix_takes prefix w rest found ∙ ap (λ (t : List ℕ). prefix ++ t) octets.0) (record { kind = parts.1; octets = octets.1 })
+with_kind_is : (kind : ℕ) (r : Result (List ℕ) LineReason) (id : ℕ × List ℕ) → with_kind kind r ≡ Ok id → (r ≡ Ok id.1) × (id.0 ≡ kind)
+with_kind_is kind (Ok octets) id e =
+    let same = ok_is (kind, octets) id e in
+    (ap (λ (j : ℕ × List ℕ). Ok j.1) same, sym (ap (λ (j : ℕ × List ℕ). j.0) same))
+with_kind_is kind (Err reason) id e = absurd cc
 
--- an identity of a type has the type's prefix
-formed : (form : Form) (i : Identity) (w : List ℕ) → form.prefix ≡ prefix_of form.kind → w ≡ form.prefix ++ octets_text i.octets → IsOfForm form i → w ≡ identity_text i
-formed form i w is e of = e ∙ ap (λ (t : List ℕ). t ++ octets_text i.octets) (is ∙ ap prefix_of (sym of.kind))
+form_takes : (form : Form) (forms : List Form) (w : List ℕ) (id : ℕ × List ℕ) → (id_of forms w ≡ Ok id → IsReadBy forms w id) → (o : Option (List ℕ)) → behind_prefix form.word w ≡ o → of_form form o (id_of forms w) ≡ Ok id → IsReadBy (form ∷ forms) w id
+unfolding IsReadBy
+form_takes form forms w id others None found e = inr (others e)
+form_takes form forms w id others (Some octets) found e =
+    let parts = with_kind_is form.kind (sized form.least form.most octets) id e in
+    let took = sized_takes form.least form.most octets id.1 parts.0 in
+    let word = prefix_takes form.word w octets found ∙ ap (λ (t : List ℕ). form.word ++ t) took.0 in
+    inl (word, record { kind = parts.1; octets = took.1 })
+
+id_takes : (forms : List Form) (w : List ℕ) (id : ℕ × List ℕ) → id_of forms w ≡ Ok id → IsReadBy forms w id
+unfolding IsReadBy
+id_takes [] w id e = absurd cc
+id_takes (form ∷ forms) w id e = form_takes form forms w id (λ rest. id_takes forms w id rest) (behind_prefix form.word w) refl e
+
+-- an ID type has the word of its form
+worded : (forms : List Form) (form : Form) (w : List ℕ) (id : ℕ × List ℕ) → form.word ≡ word_by forms form.kind
+    → (w ≡ form.word ++ octets_text id.1) × HasForm form id.0 id.1 → w ≡ id_text forms id.0 id.1
+worded forms form w id is h =
+    h.0 ∙ ap (λ (t : List ℕ). t ++ octets_text id.1) (is ∙ ap (word_by forms) (sym h.1.kind))
+
+identity_is : (r : Result (ℕ × List ℕ) LineReason) (i : Identity) → identity_in r ≡ Ok i → r ≡ Ok (i.kind, i.octets)
+identity_is (Ok id) i e =
+    ap (λ (j : Identity). done (j.kind, j.octets)) (ok_is (record { kind = id.0; octets = id.1 }) i e)
+identity_is (Err reason) i e = absurd cc
+
+-- a word that was read by the table of identities
+identity_read : (w : List ℕ) (id : ℕ × List ℕ) → IsReadBy identity_forms w id → (w ≡ id_text identity_forms id.0 id.1) × HasFormOf identity_forms id.0 id.1
+unfolding IsReadBy
+identity_read w id (inl h) = (worded identity_forms _ w id refl h, inl h.1)
+identity_read w id (inr (inl h)) = (worded identity_forms _ w id refl h, inr (inl h.1))
+identity_read w id (inr (inr (inl h))) = (worded identity_forms _ w id refl h, inr (inr (inl h.1)))
+identity_read w id (inr (inr (inr (inl h)))) = (worded identity_forms _ w id refl h, inr (inr (inr (inl h.1))))
+identity_read w id (inr (inr (inr (inr (inl h))))) = (worded identity_forms _ w id refl h, inr (inr (inr (inr (inl h.1)))))
+identity_read w id (inr (inr (inr (inr (inr h))))) = absurd h
 
 identity_takes : (w : List ℕ) (i : Identity) → identity_of w ≡ Ok i → (w ≡ identity_text i) × IsIdentity i
 identity_takes w i e =
-    of_form_takes ipv4 (codes "ipv4:") w _ _ i refl e (λ t h. (formed ipv4 i w refl t h, inl h)) (λ e1.
-    of_form_takes ipv6 (codes "ipv6:") w _ _ i refl e1 (λ t h. (formed ipv6 i w refl t h, inr (inl h))) (λ e2.
-    of_form_takes fqdn (codes "fqdn:") w _ _ i refl e2 (λ t h. (formed fqdn i w refl t h, inr (inr (inl h)))) (λ e3.
-    of_form_takes mail (codes "mail:") w _ _ i refl e3 (λ t h. (formed mail i w refl t h, inr (inr (inr (inl h))))) (λ e4.
-    of_form_takes key (codes "key:") w _ _ i refl e4 (λ t h. (formed key i w refl t h, inr (inr (inr (inr h))))) (λ e5. absurd cc)))))
+    identity_read w (i.kind, i.octets) (id_takes identity_forms w (i.kind, i.octets) (identity_is (id_of identity_forms w) i e))
 
 identity_again : (i : Identity) → IsIdentity i → identity_of (identity_text i) ≡ Ok i
 identity_again i (inl h) = rw (h.kind, sized_again 4 4 i.octets h.octets) refl
 identity_again i (inr (inl h)) = rw (h.kind, sized_again 16 16 i.octets h.octets) refl
 identity_again i (inr (inr (inl h))) = rw (h.kind, sized_again 1 64 i.octets h.octets) refl
 identity_again i (inr (inr (inr (inl h)))) = rw (h.kind, sized_again 1 64 i.octets h.octets) refl
-identity_again i (inr (inr (inr (inr h)))) = rw (h.kind, sized_again 1 64 i.octets h.octets) refl
+identity_again i (inr (inr (inr (inr (inl h))))) = rw (h.kind, sized_again 1 64 i.octets h.octets) refl
+identity_again i (inr (inr (inr (inr (inr h))))) = absurd h
 
 pub identity_field : IsField identity_of identity_text IsIdentity
 identity_field = record { takes = identity_takes; again = identity_again }
 
-domain_name_takes : (w : List ℕ) (i : Identity) → domain_name_of w ≡ Ok i → (w ≡ identity_text i) × IsOfForm fqdn i
-domain_name_takes w i e =
-    of_form_takes fqdn (codes "fqdn:") w _ _ i refl e (λ t h. (formed fqdn i w refl t h, h)) (λ e1. absurd cc)
+domain_name_read : (w : List ℕ) (id : ℕ × List ℕ) → IsReadBy (fqdn ∷ []) w id → (w ≡ id_text identity_forms id.0 id.1) × HasForm fqdn id.0 id.1
+unfolding IsReadBy
+domain_name_read w id (inl h) = (worded identity_forms fqdn w id refl h, h.1)
+domain_name_read w id (inr h) = absurd h
 
-domain_name_again : (i : Identity) → IsOfForm fqdn i → domain_name_of (identity_text i) ≡ Ok i
+domain_name_takes : (w : List ℕ) (i : Identity) → domain_name_of w ≡ Ok i → (w ≡ identity_text i) × IsDomainName i
+domain_name_takes w i e =
+    domain_name_read w (i.kind, i.octets) (id_takes (fqdn ∷ []) w (i.kind, i.octets) (identity_is (id_of (fqdn ∷ []) w) i e))
+
+domain_name_again : (i : Identity) → IsDomainName i → domain_name_of (identity_text i) ≡ Ok i
 domain_name_again i h = rw (h.kind, sized_again 1 64 i.octets h.octets) refl
 
-pub domain_name_field : IsField domain_name_of identity_text (IsOfForm fqdn)
+pub domain_name_field : IsField domain_name_of identity_text IsDomainName
 domain_name_field = record { takes = domain_name_takes; again = domain_name_again }
 
 -- ---- words in a row

@@ -12,7 +12,7 @@ use Rattle.ha_base.specs.declared.key_material.KeySize.{KeySize}
 use Rattle.ha_base.specs.declared.key_material.KeySize.TheVariants.{Bits128, Bits256}
 use Rattle.line_fields.specs.Numbers.{is_digit}
 use Rattle.line_fields.specs.Octets.{IsOctetField, esp_spi_text, is_lower, octets_text, spi_text}
-use Rattle.line_fields.specs.Identities.{IsIdentity, IsOfForm, fqdn, identity_text}
+use Rattle.line_fields.specs.Identities.{IsDomainName, IsIdentity, identity_text}
 use Rattle.line_fields.specs.Fields.{size_text}
 use Rattle.line_fields.proofs.NumberLaws.{own}
 use Rattle.line_fields.proofs.OctetLaws.{lower-encode}
@@ -68,9 +68,10 @@ word_identity i (inl h) = rw h.kind (word_octets 4 4 i.octets h.octets)
 word_identity i (inr (inl h)) = rw h.kind (word_octets 16 16 i.octets h.octets)
 word_identity i (inr (inr (inl h))) = rw h.kind (word_octets 1 64 i.octets h.octets)
 word_identity i (inr (inr (inr (inl h)))) = rw h.kind (word_octets 1 64 i.octets h.octets)
-word_identity i (inr (inr (inr (inr h)))) = rw h.kind (word_octets 1 64 i.octets h.octets)
+word_identity i (inr (inr (inr (inr (inl h))))) = rw h.kind (word_octets 1 64 i.octets h.octets)
+word_identity i (inr (inr (inr (inr (inr h))))) = absurd h
 
-pub word_domain_name : (i : Identity) → IsOfForm fqdn i → is_plain (identity_text i) ≡ true
+pub word_domain_name : (i : Identity) → IsDomainName i → is_plain (identity_text i) ≡ true
 word_domain_name i h = word_identity i (inr (inr (inl h)))
 
 pub word_octet : (n : ℕ) → n < 256 → is_plain (octets_text (n ∷ [])) ≡ true

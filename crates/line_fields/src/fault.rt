@@ -6,7 +6,7 @@ ghost use Rattle.line_fields.specs.Fields.{fault_at};
 
 use thiserror::Error;
 
-/// Why a line is refused. `Memory` is no fault of the line.
+/// Why a line is refused.
 #[derive(Clone, Copy, Debug, PartialEq, Eq)]
 pub enum LineReason {
     /// None of the words that may stand there.
@@ -29,8 +29,6 @@ pub enum LineReason {
     FileTooLong = 9,
     /// Octets of a wrong number.
     Size = 10,
-    /// Memory ran out while the line was read.
-    Memory = 11,
 }
 
 impl LineReason {
@@ -49,7 +47,6 @@ impl LineReason {
             LineReason::TooMany => "too-many",
             LineReason::FileTooLong => "file-too-long",
             LineReason::Size => "size",
-            LineReason::Memory => "memory",
         }
     }
 }

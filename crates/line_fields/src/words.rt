@@ -1,6 +1,7 @@
 //! A line as words, parted by single spaces.
 
 ghost use Rattle.std.specs.Prelude.{◌≡◌, ◌≤◌, ◌<◌, ◌+◌, ◌∷◌, length, MatchResult};
+ghost use Rattle.ha_base.specs.declared.limits.TheConstants.{LINE_OCTETS};
 ghost use Rattle.line_fields.specs.Words.{Cursor, words_of, words_from, octets_left};
 ghost use Rattle.line_fields.specs.Fields.{Reads, word_at, ended_at};
 
@@ -34,13 +35,13 @@ impl<'a> Model for Words<'a> {
 
     ghost view = { λ w. record { column = w.column; words = words_from w.rest } };
 
-    ghost invariant = { λ w. w.column + octets_left w.rest ≤ 16386 };
+    ghost invariant = { λ w. w.column + octets_left w.rest ≤ LINE_OCTETS + 2 };
 }
 
 impl<'a> Words<'a> {
     /// All words of a line.
     pub fn new(line: &'a [u8]) -> Self
-        requires { length line.now ≤ 16384 }
+        requires { length line.now ≤ LINE_OCTETS }
         ensures { result ≡ record { column = 1; words = words_of line.now } }
     {
         Words {

@@ -1,14 +1,11 @@
 -- The data of REDIRECT and REDIRECTED_FROM notifications (RFC 5685, sections 9.2 and 9.3).
-use Rattle.std.specs.Prelude.{◌≡◌, ℕ, ◌≤◌, ◌⊎◌, List, ◌∷◌, ◌++◌, length}
+use Rattle.std.specs.Prelude.{◌≡◌, ℕ, List, ◌∷◌, ◌++◌, length}
+use Rattle.ha_base.specs.IdForms.{HasSize, gateway_forms}
 use Rattle.ha_base.specs.declared.identities.GatewayId.{GatewayId}
 
--- how many octets name a gateway: 4 for IPv4, which is 1, 16 for IPv6, which is 2, and 1 to 255 for FQDN, which is 3
-abbrev pub IsSize : ℕ → ℕ → Type 0
-IsSize kind size = ((kind ≡ 1) × (size ≡ 4)) ⊎ ((kind ≡ 2) × (size ≡ 16)) ⊎ ((kind ≡ 3) × (1 ≤ size) × (size ≤ 255))
-
--- the octets of the gateway's identity are as many as its type says
+-- the octets of the gateway's identity are as many as its ID type says
 abbrev pub IsGateway : GatewayId → Type 0
-IsGateway gateway = IsSize gateway.kind (length gateway.octets)
+IsGateway gateway = HasSize gateway_forms gateway.kind (length gateway.octets)
 
 -- the octets are the type of the gateway's identity, its length, the identity, and the nonce, which takes up the rest
 pub record SpellsRedirect (gateway : GatewayId) (nonce octets : List ℕ) : Type 0 where

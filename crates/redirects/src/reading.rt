@@ -1,7 +1,8 @@
 ghost use Rattle.std.specs.Prelude.{◌≡◌, ◌↔◌, ◌≤◌, length, IfOk, IfSome, IfNone, IsTrue, MatchOption, OnErr};
-ghost use Rattle.redirects.specs.Notifications.{HasRedirect, IsSize, SpellsRedirect};
+ghost use Rattle.ha_base.specs.IdForms.{HasSize, gateway_forms};
+ghost use Rattle.redirects.specs.Notifications.{HasRedirect, SpellsRedirect};
 
-use ha_base::{GatewayId, Memory, OctetArray, Octets};
+use ha_base::{GatewayId, Memory, OctetArray, Octets, gateway_forms, has_size};
 use std::alloc::Global;
 
 /// The gateway that the data of a REDIRECT notification name, and the nonce behind it (RFC 5685, section 9.2).
@@ -38,14 +39,9 @@ fn parts_of(octets: &[u8]) -> Option<(GatewayId, &[u8])>
     Some((gateway, nonce))
 }
 
-/// So many octets name a gateway of this kind.
+/// So many octets name a gateway of this ID type.
 pub(crate) fn is_size(kind: u8, size: u8) -> bool
-    ensures { IsTrue result ↔ IsSize kind size }
+    ensures { IsTrue result ↔ HasSize gateway_forms kind size }
 {
-    match kind {
-        1 => size == 4,
-        2 => size == 16,
-        3 => size >= 1,
-        _ => false,
-    }
+    has_size(&gateway_forms(), kind, usize::from(size))
 }

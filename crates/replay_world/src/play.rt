@@ -9,7 +9,7 @@ ghost use Rattle.turn_rules.specs.Local.{Local, calls_of};
 ghost use Rattle.turn_rules.specs.Services.{AreGiven, service_of};
 
 use crate::world::World;
-use event_text::{EventReader, InputFault, LineReason};
+use event_text::{EventFault, EventReader, InputFault};
 use ha_base::{Memory, Octets, Service};
 use keeper_book::{Gate, Keeper};
 use report_text::{write_head, write_turn};
@@ -52,8 +52,8 @@ fn play_events<K: Keeper>(
         match reader.next_event(alloc) {
             Ok(None) => return Ok(None),
             Ok(Some((moment, event))) => world.turn(keeper, moment, event)?,
-            Err(fault) if fault.reason == LineReason::Memory => return Err(Memory),
-            Err(fault) => return Ok(Some(fault)),
+            Err(EventFault::Memory) => return Err(Memory),
+            Err(EventFault::Input(fault)) => return Ok(Some(fault)),
         }
         if let Some(turn) = world.last() {
             write_turn(alloc, world.turns(), world.datagrams(), turn, report)?;

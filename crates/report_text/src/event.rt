@@ -1,34 +1,24 @@
 //! The words of an event.
 
 ghost use Rattle.std.specs.Prelude.{◌≡◌, ◌∷◌, ◌++◌, OnOk};
-ghost use Rattle.line_fields.specs.Identities.{identity_text, prefix_of};
+ghost use Rattle.line_fields.specs.Identities.{identity_text};
 ghost use Rattle.events.specs.Events.{association, plain};
 ghost use Rattle.line_fields.specs.Fields.{size_text};
 ghost use Rattle.event_text.specs.Grammar.{association_words, child_key_words, event_words, five_words, medium_word, party_text, sa_key_words, which_text};
 ghost use Rattle.line_fields.specs.Writing.{with_words};
 
 use events::{Event, Medium, Party, Which};
-use ha_base::{ChildKeys, Identity, KeySize, Memory, Octets, SaKeys};
+use ha_base::{
+    ChildKeys, Identity, KeySize, Memory, Octets, SaKeys, identity_forms, word_by,
+};
 use keeper_book::{Five, Record};
 use std::alloc::Global;
 use word_text::{put_bare_octets, put_esp_spi, put_number, put_octets, put_spi, put_word};
 
-fn prefix_of(kind: u8) -> &'static [u8]
-    ensures { result.now ≡ prefix_of kind }
-{
-    match kind {
-        1 => b"ipv4:",
-        5 => b"ipv6:",
-        2 => b"fqdn:",
-        3 => b"mail:",
-        _ => b"key:",
-    }
-}
-
 fn put_identity(alloc: Global, out: &mut Octets, identity: &Identity) -> Result<(), Memory>
     ensures { OnOk result (out.new.octets ≡ out.old.octets ++ (32 ∷ identity_text identity.now)) }
 {
-    put_word(out, prefix_of(identity.kind))?;
+    put_word(out, word_by(&identity_forms(), identity.kind))?;
     put_bare_octets(alloc, out, identity.octets.as_slice())
 }
 

@@ -11,5 +11,5 @@ returns-in-Ok-clause-fits c = let said = line_takes _ _ _ c.in-Ok.ensures in sai
 pub returns-in-Ok-clause-only : goal.returns-in-Ok-clause-only
 returns-in-Ok-clause-only c = λ m e h. one_event _ _ _ m _ e c.in-Ok.ensures h
 
-pub returns-in-Err-At-clause-only : goal.returns-in-Err-At-clause-only
-returns-in-Err-At-clause-only c = λ m e h. absurd (no_fault c.args.last.0 c.args.line.now c.in-Err-At.fault m e (rw c.in-Err-At.field-0-is at c.in-Err-At.ensures) h)
+pub returns-in-Err-Line-clause-only : goal.returns-in-Err-Line-clause-only
+returns-in-Err-Line-clause-only c = λ m e h. absurd (no_fault c.args.last.0 c.args.line.now c.in-Err-Line.fault m e (rw c.in-Err-Line.field-0-is at c.in-Err-Line.ensures) h)
