@@ -1,5 +1,5 @@
 -- What the calls of one more turn are, and what they do to the keeper.
-use Rattle.std.proofs.Common.{◌≡◌, ℕ, ◌≤◌, Bool, true, false, Option, Some, None, List, [], ◌∷◌, ◌++◌, length, ⊎_elim, ◌⊎◌, inl, inr, arith, subst}
+use Rattle.std.proofs.Common.{◌≡◌, ℕ, ◌≤◌, Bool, true, false, Option, Some, None, List, [], ◌∷◌, length, ⊎_elim, arith, subst}
 use Rattle.events.specs.declared.turn.Turn.{Turn}
 use Rattle.keeper_book.proofs.Asking.{entered_then, failed_then, rose_after, rose_before}
 use Rattle.keeper_book.specs.Book.{Book, EntersAllTold}
