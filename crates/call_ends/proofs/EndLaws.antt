@@ -1,4 +1,5 @@
 -- How a call for a command that goes by lines ends.
+use Rattle.ha_base.specs.declared.limits.TheConstants.{INPUT_OCTETS, PIECE_OCTETS}
 use Rattle.std.proofs.Common.{ℕ, ◌+◌, ◌≤◌, inl, inr, List, [], take, length, Option, Some, None, refl, sym, append-nil, codes}
 use Rattle.std.proofs.Math.Seq.{take-length}
 use Rattle.std.specs.Io.KnownBytes.{Appends}
@@ -27,7 +28,7 @@ appends_none (Some xs) = sym (append-nil xs)
 -- the input was not read, and nothing was written
 pub unread_ends : (Makes : (input more : List ℕ) → Option InputFault → List ℕ → Type 0) (Begins : Status → (input more output : List ℕ) → Type 0)
     (input now_input output errors now_errors : Stream)
-    → ((s : Status) (octets more : List ℕ) → length octets ≤ 67108864 + 65536 → Begins s octets more [])
+    → ((s : Status) (octets more : List ℕ) → length octets ≤ INPUT_OCTETS + PIECE_OCTETS → Begins s octets more [])
     → (s : Status) → Unreads input now_input errors now_errors s
     → Ends (by_lines Makes Begins) (streams input output errors) (streams now_input output now_errors) s
 unread_ends Makes Begins input now_input output errors now_errors begins status.Done u = absurd u

@@ -1,5 +1,6 @@
 -- How a call ends whose input could not be read, or whose output was made: of its streams before
 -- and after.
+use Rattle.ha_base.specs.declared.limits.TheConstants.{INPUT_OCTETS, PIECE_OCTETS}
 use Rattle.std.specs.Prelude.{ℕ, ◌≡◌, ◌+◌, ◌≤◌, ◌⊎◌, List, length, Option, Some, None, codes}
 use Rattle.std.specs.Io.KnownBytes.{Consumes}
 use Rattle.input_lines.specs.Faults.{fault_line}
@@ -30,7 +31,7 @@ Closes text (Some fault) out now_out errors now_errors status = Writes text out 
 
 -- some octets were read, not more than an input may have and a piece
 abbrev pub ReadsSome : Option (List ℕ) → Option (List ℕ) → Type 0
-ReadsSome left still_left = (input : List ℕ) × Consumes left still_left input × (length input ≤ 67108864 + 65536)
+ReadsSome left still_left = (input : List ℕ) × Consumes left still_left input × (length input ≤ INPUT_OCTETS + PIECE_OCTETS)
 
 -- why an input was not read
 abbrev pub Unreads : (input now_input errors now_errors : Stream) → Status → Type 0

@@ -1,5 +1,6 @@
 //! An input that is read whole.
 
+ghost use Rattle.ha_base.specs.declared.limits.TheConstants.{INPUT_OCTETS, PIECE_OCTETS};
 ghost use Rattle.std.specs.Prelude.{◌≡◌, ◌+◌, ◌<◌, ◌≤◌, ◌^◌, ◌⊎◌, length, Ok, Err, IfErr, IfOk, OnErr, OnOk};
 ghost use Rattle.std.specs.Io.KnownBytes.{Consumes, IsAtEnd, Keeps};
 ghost use Rattle.ha_base.specs.Faults.{Rose};
@@ -35,8 +36,8 @@ impl From<Memory> for Unread {
 // Reads an input to its end, or until it has more octets than one may have.
 fn read_input<S: Source>(alloc: Global, source: &mut S) -> Result<Octets, Unread>
     ensures read { IfOk result (λ input. Consumes (S.left source.old) (S.left source.new) input.octets) }
-    ensures whole { IfOk result (λ input. IsAtEnd (S.left source.new) ⊎ (67108864 < length input.octets)) }
-    ensures bounded { IfOk result (λ input. length input.octets ≤ 67108864 + 65536) }
+    ensures whole { IfOk result (λ input. IsAtEnd (S.left source.new) ⊎ (INPUT_OCTETS < length input.octets)) }
+    ensures bounded { IfOk result (λ input. length input.octets ≤ INPUT_OCTETS + PIECE_OCTETS) }
     ensures some { OnErr result (ReadsSome (S.left source.old) (S.left source.new)) }
     ensures none { OnOk result (S.faults source.new ≡ S.faults source.old) }
     ensures no_memory { result ≡ Err Unread.Memory → S.faults source.new ≡ S.faults source.old }
@@ -61,8 +62,8 @@ pub fn input_of<S: Source, D: Sink>(
     diag: &mut D,
 ) -> Result<Octets, Status>
     ensures reads { IfOk result (λ input. Reads input.octets (source_told S.Source source.old) (source_told S.Source source.new)) }
-    ensures whole { IfOk result (λ input. IsAtEnd (S.left source.new) ⊎ (67108864 < length input.octets)) }
-    ensures bounded { IfOk result (λ input. length input.octets ≤ 67108864 + 65536) }
+    ensures whole { IfOk result (λ input. IsAtEnd (S.left source.new) ⊎ (INPUT_OCTETS < length input.octets)) }
+    ensures bounded { IfOk result (λ input. length input.octets ≤ INPUT_OCTETS + PIECE_OCTETS) }
     ensures quiet { OnOk result (diag.new ≡ diag.old) }
     ensures unread { IfErr result (Unreads (source_told S.Source source.old) (source_told S.Source source.new)
         (sink_told D.Sink diag.old) (sink_told D.Sink diag.new)) }

@@ -1,4 +1,5 @@
 -- What the turns of a run say of the input that was played.
+use Rattle.ha_base.specs.declared.limits.TheConstants.{INPUT_OCTETS, PIECE_OCTETS}
 use Rattle.std.specs.Prelude.{ℕ, ◌≡◌, ◌+◌, ◌<◌, ◌≤◌, ◌⊎◌, List, [], ◌∷◌, ◌++◌, length, Option}
 use Rattle.std.specs.Io.KnownBytes.{Appends, Consumes, IsAtEnd}
 use Rattle.events.specs.Events.{PlainEvent, plain}
@@ -58,9 +59,9 @@ pub record Completes (given : List Turn → Type 0) (asked : List Call → Type 
   pub input : List ℕ
   pub text : List ℕ
   pub read : Consumes left still_left input
-  pub whole : IsAtEnd still_left ⊎ (67108864 < length input)
+  pub whole : IsAtEnd still_left ⊎ (INPUT_OCTETS < length input)
   -- one that is too long is not read on: pieces are of at most 65,536 octets
-  pub bounded : length input ≤ 67108864 + 65536
+  pub bounded : length input ≤ INPUT_OCTETS + PIECE_OCTETS
   pub played : IsPlayed given asked boxes input fault text book now_book faults now_faults
   pub wrote : Appends written now_written text
 
@@ -70,8 +71,8 @@ pub record BreaksOff (given : List Turn → Type 0) (asked : List Call → Type 
   pub text : List ℕ
   pub fault : Option InputFault
   pub read : Consumes left still_left input
-  pub whole : IsAtEnd still_left ⊎ (67108864 < length input)
+  pub whole : IsAtEnd still_left ⊎ (INPUT_OCTETS < length input)
   -- one that is too long is not read on: pieces are of at most 65,536 octets
-  pub bounded : length input ≤ 67108864 + 65536
+  pub bounded : length input ≤ INPUT_OCTETS + PIECE_OCTETS
   pub played : IsPlayed given asked boxes input fault text book now_book faults now_faults
   pub wrote : AppendsFront written now_written text

@@ -1,3 +1,4 @@
+ghost use Rattle.ha_base.specs.declared.limits.TheConstants.{INPUT_OCTETS, PIECE_OCTETS};
 ghost use Rattle.std.specs.Prelude.{◌≡◌, ◌+◌, ◌<◌, ◌≤◌, ◌^◌, ◌⊎◌, length, Ok, Err, IfOk, OnOk};
 ghost use Rattle.std.specs.Io.KnownBytes.{Consumes, IsAtEnd, Keeps};
 ghost use Rattle.ha_base.specs.Faults.{Rose};
@@ -29,8 +30,8 @@ impl From<Memory> for Unread {
 /// Reads an input to its end, or until it has more octets than one may have.
 pub(crate) fn read_input<S: Source>(alloc: Global, source: &mut S) -> Result<Octets, Unread>
     ensures read { IfOk result (λ input. Consumes (S.left source.old) (S.left source.new) input.octets) }
-    ensures whole { IfOk result (λ input. IsAtEnd (S.left source.new) ⊎ (67108864 < length input.octets)) }
-    ensures bounded { IfOk result (λ input. length input.octets ≤ 67108864 + 65536) }
+    ensures whole { IfOk result (λ input. IsAtEnd (S.left source.new) ⊎ (INPUT_OCTETS < length input.octets)) }
+    ensures bounded { IfOk result (λ input. length input.octets ≤ INPUT_OCTETS + PIECE_OCTETS) }
     ensures later { S.faults source.old ≤ S.faults source.new }
     ensures none { OnOk result (S.faults source.new ≡ S.faults source.old) }
     ensures fault { result ≡ Err Unread.Fault → Rose (S.faults source.old) (S.faults source.new) }

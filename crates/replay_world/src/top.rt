@@ -1,5 +1,6 @@
 //! The top call, which is the whole program but for what standard input and output are.
 
+ghost use Rattle.ha_base.specs.declared.limits.TheConstants.{INPUT_OCTETS, PIECE_OCTETS};
 ghost use Rattle.std.specs.Prelude.{◌≡◌, ◌≢◌, ◌+◌, ◌<◌, ◌≤◌, ◌⊎◌, IfErr, IfOk, OnOk, Some, None, length, string_bytes, vec_len};
 ghost use Rattle.std.specs.List.{AllByRecursion};
 ghost use Rattle.std.specs.Io.KnownBytes.{Appends, Consumes, IsAtEnd, Keeps};
@@ -115,8 +116,8 @@ fn input_of<S: Source, D: Sink>(
     diag: &mut D,
 ) -> Result<Octets, Status>
     ensures read { IfOk result (λ input. Consumes (S.left source.old) (S.left source.new) input.octets) }
-    ensures whole { IfOk result (λ input. IsAtEnd (S.left source.new) ⊎ (67108864 < length input.octets)) }
-    ensures bounded { IfOk result (λ input. length input.octets ≤ 67108864 + 65536) }
+    ensures whole { IfOk result (λ input. IsAtEnd (S.left source.new) ⊎ (INPUT_OCTETS < length input.octets)) }
+    ensures bounded { IfOk result (λ input. length input.octets ≤ INPUT_OCTETS + PIECE_OCTETS) }
     ensures none { OnOk result (S.faults source.new ≡ S.faults source.old) }
     ensures quiet { OnOk result (diag.new ≡ diag.old) }
     ensures status { IfErr result (λ status. (status ≡ Status.Memory) ⊎ (status ≡ Status.ReadFault)) }
