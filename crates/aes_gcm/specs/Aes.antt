@@ -30,7 +30,8 @@ inverse a = inverse_below a 256
 -- the affine map over GF(2) (FIPS 197, 5.1.1)
 unfoldable pub affine : ℕ → ℕ
 affine b =
-    bit_xor (bit_xor (bit_xor (bit_xor (bit_xor b (rotate_left w8 b 1)) (rotate_left w8 b 2)) (rotate_left w8 b 3)) (rotate_left w8 b 4)) 0x63
+    bit_xor (bit_xor (bit_xor (bit_xor (bit_xor b (rotate_left w8 b 1)) (rotate_left w8 b 2))
+    (rotate_left w8 b 3)) (rotate_left w8 b 4)) 0x63
 
 -- the S-box
 unfoldable pub sub_byte : ℕ → ℕ
@@ -56,7 +57,8 @@ mix_column a b c d =
 -- each of the four columns (FIPS 197, 5.1.3)
 unfoldable pub mix_columns : List ℕ → List ℕ
 mix_columns s =
-    concat (map (λ c. mix_column (slice_index s (4 * c)) (slice_index s (4 * c + 1)) (slice_index s (4 * c + 2)) (slice_index s (4 * c + 3))) (range_with_len 0 4))
+    concat (map (λ c. mix_column (slice_index s (4 * c)) (slice_index s (4 * c + 1))
+    (slice_index s (4 * c + 2)) (slice_index s (4 * c + 3))) (range_with_len 0 4))
 
 -- octet by octet, as long as the shorter of the two
 unfoldable pub xored : List ℕ → List ℕ → List ℕ
@@ -70,7 +72,8 @@ round_key w r = take 16 (drop (16 * r) w)
 -- 5.1)
 unfoldable pub rounds : List ℕ → List ℕ → ℕ → List ℕ
 rounds w s zero = xored s (round_key w 0)
-rounds w s (suc r) = xored (mix_columns (shift_rows (sub_bytes (rounds w s r)))) (round_key w (suc r))
+rounds w s (suc r) = xored (mix_columns (shift_rows (sub_bytes (rounds w s r))))
+    (round_key w (suc r))
 
 -- the cipher with n + 1 rounds; the last one mixes no columns
 unfoldable pub cipher : List ℕ → ℕ → List ℕ → List ℕ

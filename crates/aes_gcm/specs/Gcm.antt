@@ -63,12 +63,14 @@ hash_subkey f = element (f (replicate 16 0))
 -- what the tag hashes: the associated data, the ciphertext and their lengths in bits
 unfoldable pub hashed_text : List ℕ → List ℕ → List ℕ
 hashed_text aad ciphertext =
-    padded_to_blocks aad ++ padded_to_blocks ciphertext ++ (to_be_bytes w64 (8 * length aad) ++ to_be_bytes w64 (8 * length ciphertext))
+    padded_to_blocks aad ++ padded_to_blocks ciphertext
+    ++ (to_be_bytes w64 (8 * length aad) ++ to_be_bytes w64 (8 * length ciphertext))
 
 -- the tag of a ciphertext (SP 800-38D, 7.1)
 unfoldable pub tag_under : (List ℕ → List ℕ) → List ℕ → List ℕ → List ℕ → List ℕ
 tag_under f nonce aad ciphertext =
-    xored (f (counter_block nonce 1)) (to_be_bytes w128 (ghash (hash_subkey f) (hashed_text aad ciphertext)))
+    xored (f (counter_block nonce 1)) (to_be_bytes w128
+    (ghash (hash_subkey f) (hashed_text aad ciphertext)))
 
 -- the block cipher of the octets of a key and its salt
 unfoldable pub cipher_of : List ℕ → List ℕ → List ℕ

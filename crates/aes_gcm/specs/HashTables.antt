@@ -12,9 +12,11 @@ times_power (suc n) v = next_power (times_power n v)
 -- first n windows, of what each window's lowest m bits add to the product with v.
 unfoldable pub windows : ℕ → ℕ → ℕ → ℕ → ℕ
 windows zero m a v = 0
-windows (suc n) m a v = bit_xor (windows n m a v) (product_low m (a / 2 ^ (112 - 16 * n)) (times_power (16 * n) v))
+windows (suc n) m a v = bit_xor (windows n m a v) (product_low m (a / 2 ^ (112 - 16 * n))
+    (times_power (16 * n) v))
 
 -- sixteen products for each window: those of four bits with the subkey, which is itself the entry 8
 abbrev pub IsHashTable : List ℕ → Type 0
 IsHashTable t =
-    (j : ℕ) → j < 128 → slice_index t j ≡ product_low 4 (j % 16) (times_power (16 * (j / 16)) (slice_index t 8))
+    (j : ℕ) → j < 128 → slice_index t j ≡ product_low 4 (j % 16)
+    (times_power (16 * (j / 16)) (slice_index t 8))

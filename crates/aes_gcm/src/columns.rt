@@ -54,7 +54,8 @@ fn add_round_key(s: &[u32; 4], round_keys: &[u8; 240], round: usize) -> [u32; 4]
 /// of `c` and row 3 of `d`.
 #[inline(always)]
 fn mixed_column(a: u32, b: u32, c: u32, d: u32) -> u32
-    ensures { to_le_bytes w32 result ≡ mix_column (sub_byte (a % 256)) (sub_byte (b / 2 ^ 8 % 256)) (sub_byte (c / 2 ^ 16 % 256)) (sub_byte (d / 2 ^ 24 % 256)) }
+    ensures { to_le_bytes w32 result ≡ mix_column (sub_byte (a % 256)) (sub_byte (b / 2 ^ 8 % 256))
+        (sub_byte (c / 2 ^ 16 % 256)) (sub_byte (d / 2 ^ 24 % 256)) }
 {
     ROW_0[a as usize % 256]
         ^ ROW_1[(b >> 8) as usize % 256]
@@ -65,7 +66,8 @@ fn mixed_column(a: u32, b: u32, c: u32, d: u32) -> u32
 #[inline(always)]
 fn middle_round(s: &[u32; 4], round_keys: &[u8; 240], round: usize) -> [u32; 4]
     requires { round ≤ 14 }
-    ensures { column_octets result ≡ xored (mix_columns (shift_rows (sub_bytes (column_octets s.now)))) (round_key round_keys.now round) }
+    ensures { column_octets result ≡ xored (mix_columns
+        (shift_rows (sub_bytes (column_octets s.now)))) (round_key round_keys.now round) }
 {
     let mixed = [
         mixed_column(s[0], s[1], s[2], s[3]),
@@ -79,7 +81,8 @@ fn middle_round(s: &[u32; 4], round_keys: &[u8; 240], round: usize) -> [u32; 4]
 /// A column of the last round, which mixes none.
 #[inline(always)]
 fn column(a: u32, b: u32, c: u32, d: u32) -> u32
-    ensures { to_le_bytes w32 result ≡ sub_byte (a % 256) ∷ sub_byte (b / 2 ^ 8 % 256) ∷ sub_byte (c / 2 ^ 16 % 256) ∷ sub_byte (d / 2 ^ 24 % 256) ∷ [] }
+    ensures { to_le_bytes w32 result ≡ sub_byte (a % 256) ∷ sub_byte (b / 2 ^ 8 % 256)
+        ∷ sub_byte (c / 2 ^ 16 % 256) ∷ sub_byte (d / 2 ^ 24 % 256) ∷ [] }
 {
     u32::from_le_bytes([
         S_BOX[a as usize % 256],
@@ -92,7 +95,8 @@ fn column(a: u32, b: u32, c: u32, d: u32) -> u32
 #[inline(always)]
 fn last_round(s: &[u32; 4], round_keys: &[u8; 240], round: usize) -> [u32; 4]
     requires { round ≤ 14 }
-    ensures { column_octets result ≡ xored (shift_rows (sub_bytes (column_octets s.now))) (round_key round_keys.now round) }
+    ensures { column_octets result ≡ xored (shift_rows (sub_bytes (column_octets s.now)))
+        (round_key round_keys.now round) }
 {
     let shifted = [
         column(s[0], s[1], s[2], s[3]),

@@ -28,7 +28,8 @@ fn two_blocks(
 ) -> [u8; 32]
     requires rounds { middle_rounds ≤ 13 }
     requires pair { pair ≤ MAX_LEN }
-    ensures { result ≡ cipher round_keys.now middle_rounds (counter_block nonce.now (2 * pair + 2)) ++ cipher round_keys.now middle_rounds (counter_block nonce.now (2 * pair + 3)) }
+    ensures { result ≡ cipher round_keys.now middle_rounds (counter_block nonce.now (2 * pair + 2))
+        ++ cipher round_keys.now middle_rounds (counter_block nonce.now (2 * pair + 3)) }
 {
     let first = counter_block(nonce, 2 * pair as u32 + 2);
     let second = counter_block(nonce, 2 * pair as u32 + 3);

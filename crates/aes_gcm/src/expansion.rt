@@ -69,7 +69,8 @@ fn next_word(words: &[u8; 240], nk: usize, i: usize) -> [u8; 4]
     requires key_words { (nk ≡ 4) ⊎ (nk ≡ 8) }
     requires after_key { nk ≤ i }
     requires in_schedule { i < 4 * (nk + 7) }
-    ensures { result ≡ xored (word words.now (i - nk)) (changed_word nk i (word words.now (i - 1))) }
+    ensures { result ≡ xored (word words.now (i - nk))
+        (changed_word nk i (word words.now (i - 1))) }
 {
     let mut next = copied(word(words, i - nk));
     xor_into(&mut next, &changed_word(nk, i, word(words, i - 1)));

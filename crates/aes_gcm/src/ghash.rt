@@ -103,7 +103,8 @@ pub(crate) fn load(octets: &[u8]) -> u128
 /// Hashes the blocks of `octets`, the last of them completed by zeros, onto `before`.
 pub(crate) fn hash_onto(tables: &[u128; 128], before: u128, octets: &[u8]) -> u128
     requires { IsHashTable tables.now }
-    ensures { result ≡ hashed_from (slice_index tables.now 8) before (padded_to_blocks octets.now) (block_count (length octets.now)) }
+    ensures { result ≡ hashed_from (slice_index tables.now 8) before (padded_to_blocks octets.now)
+        (block_count (length octets.now)) }
 {
     let mut sum = before;
     let whole = octets.len() / 16;

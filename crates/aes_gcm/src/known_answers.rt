@@ -86,6 +86,8 @@ pub fn definitions_give_known_answers()
     ensures aes_128 { aes KEY_128 BLOCK ≡ ENCRYPTED_128 }
     ensures aes_256 { aes KEY_256 BLOCK ≡ ENCRYPTED_256 }
     ensures empty { sealed (replicate 20 0) 0 [] [] ≡ record { ciphertext = []; tag = EMPTY_TAG } }
-    ensures associated_data { sealed SALTED_KEY SALTED_IV ASSOCIATED_DATA PLAINTEXT ≡ record { ciphertext = CIPHERTEXT; tag = CIPHERTEXT_TAG } }
-    ensures zeros { sealed (replicate 20 0) 0 [] (replicate 16 0) ≡ record { ciphertext = ZEROS_SEALED; tag = ZEROS_TAG } }
+    ensures associated_data { sealed SALTED_KEY SALTED_IV ASSOCIATED_DATA PLAINTEXT
+        ≡ record { ciphertext = CIPHERTEXT; tag = CIPHERTEXT_TAG } }
+    ensures zeros { sealed (replicate 20 0) 0 [] (replicate 16 0)
+        ≡ record { ciphertext = ZEROS_SEALED; tag = ZEROS_TAG } }
 {}

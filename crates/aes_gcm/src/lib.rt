@@ -112,10 +112,12 @@ impl Key {
 
     fn stream_into(&self, iv: u64, buf: &mut [u8])
         requires { length buf.old ≤ MAX_LEN }
-        ensures streamed { buf.new ≡ encrypted (cipher_of self.now.octets) (nonce_of self.now.octets iv) buf.old }
+        ensures streamed { buf.new ≡ encrypted (cipher_of self.now.octets)
+            (nonce_of self.now.octets iv) buf.old }
 
         // Counter mode under a key is its own inverse.
-        ensures inverse { (text : List ℕ) → let crypt = encrypted (cipher_of self.now.octets) (nonce_of self.now.octets iv) in crypt (crypt text) ≡ text }
+        ensures inverse { (text : List ℕ) → let crypt = encrypted (cipher_of self.now.octets)
+            (nonce_of self.now.octets iv) in crypt (crypt text) ≡ text }
     {
         apply_key_stream(&self.round_keys, self.middle_rounds, &self.nonce(iv), buf);
     }
@@ -169,11 +171,13 @@ pub fn open_in_place(key: &Key, iv: u64, aad: &[u8], buf: &mut [u8], tag: &[u8; 
     requires aad_size { length aad.now ≤ MAX_LEN }
     requires size { length buf.old ≤ MAX_LEN }
     ensures exact { IsTrue result ↔ (tag.now ≡ tag_of key.now.octets iv aad.now buf.old) }
-    ensures opened { OnTrue result (sealed key.now.octets iv aad.now buf.new ≡ record { ciphertext = buf.old; tag = tag.now }) }
+    ensures opened { OnTrue result (sealed key.now.octets iv aad.now buf.new
+        ≡ record { ciphertext = buf.old; tag = tag.now }) }
     ensures refused { OnFalse result (buf.new ≡ buf.old) }
 
     // What was sealed is opened, and gives the plaintext.
-    ensures unsealed { (plain : List ℕ) → sealed key.now.octets iv aad.now plain ≡ record { ciphertext = buf.old; tag = tag.now } → IsTrue result × (buf.new ≡ plain) }
+    ensures unsealed { (plain : List ℕ) → sealed key.now.octets iv aad.now plain
+        ≡ record { ciphertext = buf.old; tag = tag.now } → IsTrue result × (buf.new ≡ plain) }
     ensures key_size { HasKeySize key.now.octets }
 {
     if !is_same(tag, &key.tag(iv, aad, buf)) {

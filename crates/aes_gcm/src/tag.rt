@@ -45,10 +45,12 @@ pub(crate) fn tag(
 ) -> [u8; 16]
     requires rounds { middle_rounds ≤ 13 }
     requires tables { IsHashTable tables.now }
-    requires hash_subkey { slice_index tables.now 8 ≡ hash_subkey (cipher round_keys.now middle_rounds) }
+    requires hash_subkey { slice_index tables.now 8
+        ≡ hash_subkey (cipher round_keys.now middle_rounds) }
     requires aad_size { length aad.now ≤ MAX_LEN }
     requires size { length ciphertext.now ≤ MAX_LEN }
-    ensures { result ≡ tag_under (cipher round_keys.now middle_rounds) nonce.now aad.now ciphertext.now }
+    ensures { result ≡ tag_under
+        (cipher round_keys.now middle_rounds) nonce.now aad.now ciphertext.now }
 {
     let mut tag = encrypt_block(round_keys, middle_rounds, &counter_block(nonce, 1));
     xor_into(&mut tag, &hash(tables, aad, ciphertext).to_be_bytes());

@@ -17,4 +17,9 @@ pub record Job : Type 1 where
 -- the job of a command that goes by lines
 abbrev pub by_lines : ((input more : List ℕ) → Option InputFault → List ℕ → Type 0)
     → (Status → (input more : List ℕ) → List ℕ → Type 0) → Job
-by_lines Makes Begins = record { Fault = InputFault; diagnosis = fault_line; Makes = Makes; Begins = Begins }
+by_lines Makes Begins = record {
+  Fault = InputFault;
+  diagnosis = fault_line;
+  Makes = Makes;
+  Begins = Begins;
+}

@@ -5,8 +5,8 @@ use Rattle.ha_base.specs.Faults.{AppendsFront, Rose}
 use Rattle.ha_base.specs.declared.streams.Source as source
 use Rattle.ha_base.specs.declared.streams.Sink as sink
 
--- a stream: the octets that are left in it, or that were written to it, where it tells them, and how
--- many of its calls failed
+-- a stream: the octets that are left in it, or that were written to it, where it tells them, and
+-- how many of its calls failed
 pub record Stream : Type 0 where
   pub octets : Option (List ℕ)
   pub faults : ℕ
@@ -22,7 +22,8 @@ source_told s x = record { octets = s.left x; faults = s.faults x }
 abbrev pub sink_told : {O : Type 0} → sink.Ghosts O → O → Stream
 sink_told o x = record { octets = o.written x; faults = o.faults x }
 
-abbrev pub outside : {S O D : Type 0} → source.Ghosts S → sink.Ghosts O → sink.Ghosts D → S → O → D → Outside
+abbrev pub outside : {S O D : Type 0} → source.Ghosts S → sink.Ghosts O → sink.Ghosts D → S → O → D
+    → Outside
 outside s o d input output errors =
     record { input = source_told s input; output = sink_told o output; errors = sink_told d errors }
 

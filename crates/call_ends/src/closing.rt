@@ -40,7 +40,8 @@ pub fn put_output<O: Sink, D: Sink>(
     text: &Octets,
     fault: Option<InputFault>,
 ) -> Status
-    ensures closes { Closes text.now.octets fault (sink_told O.Sink out.old) (sink_told O.Sink out.new)
+    ensures closes { Closes text.now.octets fault (sink_told O.Sink out.old)
+        (sink_told O.Sink out.new)
         (sink_told D.Sink diag.old) (sink_told D.Sink diag.new) result }
     ensures quiet { result ≡ Status.Done → diag.new ≡ diag.old }
 {

@@ -35,8 +35,10 @@ impl From<Memory> for Unread {
 
 // Reads an input to its end, or until it has more octets than one may have.
 fn read_input<S: Source>(alloc: Global, source: &mut S) -> Result<Octets, Unread>
-    ensures read { IfOk result (λ input. Consumes (S.left source.old) (S.left source.new) input.octets) }
-    ensures whole { IfOk result (λ input. IsAtEnd (S.left source.new) ⊎ (INPUT_OCTETS < length input.octets)) }
+    ensures read { IfOk result (λ input. Consumes (S.left source.old)
+        (S.left source.new) input.octets) }
+    ensures whole { IfOk result (λ input. IsAtEnd (S.left source.new)
+        ⊎ (INPUT_OCTETS < length input.octets)) }
     ensures bounded { IfOk result (λ input. length input.octets ≤ INPUT_OCTETS + PIECE_OCTETS) }
     ensures some { OnErr result (ReadsSome (S.left source.old) (S.left source.new)) }
     ensures none { OnOk result (S.faults source.new ≡ S.faults source.old) }
@@ -61,11 +63,14 @@ pub fn input_of<S: Source, D: Sink>(
     source: &mut S,
     diag: &mut D,
 ) -> Result<Octets, Status>
-    ensures reads { IfOk result (λ input. Reads input.octets (source_told S.Source source.old) (source_told S.Source source.new)) }
-    ensures whole { IfOk result (λ input. IsAtEnd (S.left source.new) ⊎ (INPUT_OCTETS < length input.octets)) }
+    ensures reads { IfOk result (λ input. Reads input.octets (source_told S.Source source.old)
+        (source_told S.Source source.new)) }
+    ensures whole { IfOk result (λ input. IsAtEnd (S.left source.new)
+        ⊎ (INPUT_OCTETS < length input.octets)) }
     ensures bounded { IfOk result (λ input. length input.octets ≤ INPUT_OCTETS + PIECE_OCTETS) }
     ensures quiet { OnOk result (diag.new ≡ diag.old) }
-    ensures unread { IfErr result (Unreads (source_told S.Source source.old) (source_told S.Source source.new)
+    ensures unread { IfErr result (Unreads (source_told S.Source source.old)
+        (source_told S.Source source.new)
         (sink_told D.Sink diag.old) (sink_told D.Sink diag.new)) }
 {
     match read_input(alloc, source) {

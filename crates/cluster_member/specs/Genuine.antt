@@ -12,5 +12,8 @@ use Rattle.turn_rules.specs.MemberPackets.{IsReceiver, inbound_of}
 -- a covered genuine packet is accepted at first delivery
 abbrev pub GenuineAreAccepted : List Held → List ℕ → List Call → EspVerdict → List ℕ → Type 0
 GenuineAreAccepted old octets calls answer after =
-    (spir number : ℕ) (held : Held) (payload : List ℕ) → IsReceiver (held_at old) (spi_of octets) spir held → IsGenuine (inbound_of held) number payload octets
-    → IsAcknowledged held number calls → IsTakenAs (counter_name held.sa counter.EspIn) number payload answer after
+    (spir number : ℕ) (held : Held) (payload : List ℕ)
+    → IsReceiver (held_at old) (spi_of octets) spir held
+    → IsGenuine (inbound_of held) number payload octets
+    → IsAcknowledged held number calls → IsTakenAs
+    (counter_name held.sa counter.EspIn) number payload answer after

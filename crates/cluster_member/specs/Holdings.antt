@@ -20,7 +20,8 @@ pub record IsHorizon (sa : Record) (epoch : ℕ) (c : Counter) (horizon : Reach)
   pub end_is : horizon.end ≡ end_of sa c
 
 -- there is one for each counter
-pub record AreHorizons (sa : Record) (epoch : ℕ) (esp_out esp_in iv ask answer : Reach) : Type 0 where
+pub record AreHorizons (sa : Record) (epoch : ℕ)
+    (esp_out esp_in iv ask answer : Reach) : Type 0 where
   pub of_esp_out : IsHorizon sa epoch counter.EspOut esp_out
   pub of_esp_in : IsHorizon sa epoch counter.EspIn esp_in
   pub of_iv : IsHorizon sa epoch counter.Iv iv
@@ -28,7 +29,8 @@ pub record AreHorizons (sa : Record) (epoch : ℕ) (esp_out esp_in iv ask answer
   pub of_answer : IsHorizon sa epoch counter.Answer answer
 
 -- what is sent and received with is that of the record, and the window begins where the epoch does
-pub record AreOfRecord (sa : Record) (esp_in : Reach) (outbound : Outbound) (inbound : Inbound) : Type 0 where
+pub record AreOfRecord (sa : Record) (esp_in : Reach) (outbound : Outbound)
+    (inbound : Inbound) : Type 0 where
   pub sent_name : outbound.key.name ≡ counter_name sa counter.EspOut
   pub sent_key : outbound.key.octets ≡ sa.child.to_peer
   pub sent_spi : outbound.spi ≡ sa.spi_out
@@ -37,7 +39,8 @@ pub record AreOfRecord (sa : Record) (esp_in : Reach) (outbound : Outbound) (inb
   pub received_spi : inbound.spi ≡ sa.spi_in
   pub received_base : inbound.window.base ≡ esp_in.base
 
-pub record IsHolding (sa : Record) (epoch : ℕ) (esp_out esp_in iv ask answer : Reach) (outbound : Outbound) (inbound : Inbound) : Type 0 where
+pub record IsHolding (sa : Record) (epoch : ℕ) (esp_out esp_in iv ask answer : Reach)
+    (outbound : Outbound) (inbound : Inbound) : Type 0 where
   pub horizons : AreHorizons sa epoch esp_out esp_in iv ask answer
   pub packets : AreOfRecord sa esp_in outbound inbound
 

@@ -32,7 +32,8 @@ pub record Holder : Type 0 where
 
 -- each association is held as the turn makes it of what was held, with receive windows of this size
 abbrev pub HoldsAfter : ℕ → Task → List Call → Step → List Held → List Held → Type 0
-HoldsAfter size asked calls step old new = (spir : ℕ) → held_at new spir ≡ held_after size spir asked calls step (held_at old spir)
+HoldsAfter size asked calls step old new = (spir : ℕ)
+    → held_at new spir ≡ held_after size spir asked calls step (held_at old spir)
 
 -- the same, whatever the size is: no association is granted
 abbrev pub HoldsOn : Task → List Call → Step → List Held → List Held → Type 0
@@ -40,10 +41,12 @@ HoldsOn asked calls step old new = (size : ℕ) → HoldsAfter size asked calls 
 
 -- the same of a packet, by the step that words the answer
 abbrev pub ReceivesOn : List Call → EspVerdict → List ℕ → List Held → List Held → Type 0
-ReceivesOn calls answered after old new = (step : Step) → IsVerdictOf answered after step.verdict → HoldsOn task.Receive calls step old new
+ReceivesOn calls answered after old new = (step : Step) → IsVerdictOf answered after step.verdict
+    → HoldsOn task.Receive calls step old new
 
 -- what a member is after a task
-pub record IsAfter (asked : Task) (calls : List Call) (step : Step) (old new : Holder) : Type 0 where
+pub record IsAfter (asked : Task) (calls : List Call) (step : Step)
+    (old new : Holder) : Type 0 where
   pub number : new.number ≡ old.number
   pub config : new.config ≡ old.config
   pub fresh : new.fresh ≡ old.fresh
@@ -51,9 +54,11 @@ pub record IsAfter (asked : Task) (calls : List Call) (step : Step) (old new : H
 
 -- the same of a packet, by the step that words the answer
 abbrev pub IsAfterPacket : List Call → EspVerdict → List ℕ → Holder → Holder → Type 0
-IsAfterPacket calls answered after old new = (step : Step) → IsVerdictOf answered after step.verdict → IsAfter task.Receive calls step old new
+IsAfterPacket calls answered after old new = (step : Step) → IsVerdictOf answered after step.verdict
+    → IsAfter task.Receive calls step old new
 
 -- for want of memory: the keeper is as it was, or it was asked once and lacked the memory itself
 abbrev pub AsksInVain : {K : Type 0} → Ghosts K → K → K → Type 0
 AsksInVain keeper old new = (new ≡ old)
-    ⊎ ((call : Call) × (seen call ≡ answer.Refused fault.Memory) × Asks keeper old (call ∷ []) new × (keeper.held new ≡ keeper.held old))
+    ⊎ ((call : Call) × (seen call ≡ answer.Refused fault.Memory) × Asks keeper old (call ∷ []) new
+    × (keeper.held new ≡ keeper.held old))

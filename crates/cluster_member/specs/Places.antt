@@ -32,13 +32,16 @@ abbrev pub EachFrom : ℕ → ℕ → List Held → Type 0
 EachFrom spi least [] = Unit {0}
 EachFrom spi least (h ∷ hs) = (h.sa.spi_in ≡ spi → least ≤ h.sa.spir) × EachFrom spi least hs
 
--- what stands at this place receives at the SPI, and of these it has the least responder's SPI that does
+-- what stands at this place receives at the SPI, and of these it has the least responder's SPI that
+-- does
 pub record IsLeastAt (spi place : ℕ) (seen held : List Held) : Type 0 where
   pub within : place < length held
-  pub here : (h : Held) → h ≡ slice_index_or held place h → (h.sa.spi_in ≡ spi) × EachFrom spi h.sa.spir seen
+  pub here : (h : Held) → h ≡ slice_index_or held place h
+      → (h.sa.spi_in ≡ spi) × EachFrom spi h.sa.spir seen
 
 -- of what stands at two places, this is where the lesser responder's SPI is
 abbrev pub IsLesser : List Held → Option ℕ → ℕ → ℕ → Type 0
 IsLesser held None place result = result ≡ place
-IsLesser held (Some other) place result = (a b : Held) → a ≡ slice_index_or held other a → b ≡ slice_index_or held place b
+IsLesser held (Some other) place result = (a b : Held) → a ≡ slice_index_or held other a
+    → b ≡ slice_index_or held place b
     → ((result ≡ other) × (a.sa.spir ≤ b.sa.spir)) ⊎ ((result ≡ place) × (b.sa.spir < a.sa.spir))

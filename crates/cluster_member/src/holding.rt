@@ -54,7 +54,12 @@ impl Model for Holding {
 
 // the cluster's counter of an association
 fn name_of(sa: &Record, kind: Kind, child: u32) -> CounterName
-    ensures { result ≡ record { origin = sa.now.origin; kind = kind; child = child; end = End.Cluster } }
+    ensures { result ≡ record {
+      origin = sa.now.origin;
+      kind = kind;
+      child = child;
+      end = End.Cluster;
+    } }
 {
     CounterName {
         origin: sa.origin,
@@ -75,8 +80,8 @@ fn peer_out(sa: &Record) -> CounterName {
 }
 
 impl Holding {
-    /// What a takeover granted: each counter begins at its base, and nothing was received in the window, which has this
-    /// size.
+    /// What a takeover granted: each counter begins at its base, and nothing was received in the
+    /// window, which has this size.
     #[tactic(auto, using(crate::proofs::KeySizes::sized_to_cluster, crate::proofs::KeySizes::sized_to_peer))]
     pub fn begin(taken: Taken, window: u32) -> Holding
         requires bases { AreWithinEnds taken.bases }
@@ -149,7 +154,8 @@ impl Holding {
 
     /// Draws the next ESP number and gives it up.
     pub fn draw<K: Keeper>(&mut self, keeper: &mut K) -> Step
-        ensures draws { AsksFor K.Keeper keeper.old keeper.new (λ calls. DrawsNext self.old calls result self.new) }
+        ensures draws { AsksFor K.Keeper keeper.old keeper.new
+            (λ calls. DrawsNext self.old calls result self.new) }
         ensures sa { self.new.sa ≡ self.old.sa }
     {
         match self.esp_out.send_number(keeper) {
@@ -166,7 +172,8 @@ impl Holding {
     pub fn send<K: Keeper>(&mut self, keeper: &mut K, room: Room, payload: &[u8]) -> Step
         requires size { length payload.now ≤ PAYLOAD_OCTETS }
         requires room { length payload.now ≤ room }
-        ensures sends { AsksFor K.Keeper keeper.old keeper.new (λ calls. SendsNext self.old payload.now calls result self.new) }
+        ensures sends { AsksFor K.Keeper keeper.old keeper.new
+            (λ calls. SendsNext self.old payload.now calls result self.new) }
         ensures sa { self.new.sa ≡ self.old.sa }
     {
         match self.esp_out.send_number(keeper) {
@@ -180,7 +187,8 @@ impl Holding {
         requires fresh { judged self.old.window packet.number ≡ judgement.Fresh }
         requires from_base { self.old.window.base ≤ packet.number }
         requires below { packet.number < end_of self.old.sa counter.EspIn }
-        ensures takes { AsksFor K.Keeper keeper.old keeper.new (λ calls. Notes self.old (Ok packet) calls result self.new) }
+        ensures takes { AsksFor K.Keeper keeper.old keeper.new
+            (λ calls. Notes self.old (Ok packet) calls result self.new) }
         ensures same { TookPacket packet result }
         ensures sa { self.new.sa ≡ self.old.sa }
     {
@@ -199,7 +207,8 @@ impl Holding {
     /// Opens in place a packet that came. Its number is noted where the packet is accepted.
     pub fn receive<K: Keeper>(&mut self, keeper: &mut K, bytes: &mut [u8]) -> EspVerdict
         requires { length bytes.old ≤ DATAGRAM_OCTETS }
-        ensures receives { AsksFor K.Keeper keeper.old keeper.new (λ calls. NotesPacket self.old bytes.old calls result bytes.new self.new) }
+        ensures receives { AsksFor K.Keeper keeper.old keeper.new
+            (λ calls. NotesPacket self.old bytes.old calls result bytes.new self.new) }
         ensures within { LiesWithin result (length bytes.new) }
         ensures sa { self.new.sa ≡ self.old.sa }
     {

@@ -34,14 +34,18 @@ impl Model for Holdings {
 
     ghost Value = { AllHeld };
 
-    ghost view = { λ h. record { held = h.items.items; spare = vec_capacity h.items - vec_len h.items } };
+    ghost view = { λ h. record {
+      held = h.items.items;
+      spare = vec_capacity h.items - vec_len h.items;
+    } };
 
     ghost invariant = { λ h. AreApart h.items.items };
 }
 
 /// Where the holding of a responder's SPI stands.
 fn place_of(items: &[Holding], spir: u64) -> Option<usize>
-    ensures { MatchOption result (held_at items.now spir ≡ None) (λ place. IsHoldingPlace spir place items.now) }
+    ensures { MatchOption result (held_at items.now spir ≡ None)
+        (λ place. IsHoldingPlace spir place items.now) }
 {
     for (place, holding) in items.iter().enumerate() {
         if holding.spir() == spir {
@@ -51,7 +55,8 @@ fn place_of(items: &[Holding], spir: u64) -> Option<usize>
     None
 }
 
-// of the holding that was found, if there is one, and another one, where the one of the lesser responder's SPI stands
+// of the holding that was found, if there is one, and another one, where the one of the lesser
+// responder's SPI stands
 fn lesser(items: &[Holding], found: Option<usize>, place: usize) -> usize
     requires within { place < length items.now }
     requires found { IfSome found (λ other. other < length items.now) }
@@ -65,9 +70,11 @@ fn lesser(items: &[Holding], found: Option<usize>, place: usize) -> usize
     }
 }
 
-/// Where the holding stands that receives at an SPI. Of several it is the one of the least responder's SPI.
+/// Where the holding stands that receives at an SPI. Of several it is the one of the least
+/// responder's SPI.
 fn receiver_of(items: &[Holding], spi: u32) -> Option<usize>
-    ensures { MatchOption result (NoneReceives spi items.now) (λ place. IsLeastAt spi place items.now items.now) }
+    ensures { MatchOption result (NoneReceives spi items.now)
+        (λ place. IsLeastAt spi place items.now items.now) }
 {
     let mut found = None;
     for (place, holding) in items.iter().enumerate() {
@@ -119,7 +126,8 @@ impl Holdings {
 
     /// Draws the next ESP number of an association that is held.
     pub fn draw<K: Keeper>(&mut self, keeper: &mut K, spir: u64) -> Step
-        ensures draws { AsksFor K.Keeper keeper.old keeper.new (λ calls. DrawsOf (held_at self.old.held spir) calls result
+        ensures draws { AsksFor K.Keeper keeper.old keeper.new
+            (λ calls. DrawsOf (held_at self.old.held spir) calls result
             × HoldsOn (task.Draw spir) calls result self.old.held self.new.held) }
     {
         match place_of(&self.items, spir) {
@@ -135,7 +143,8 @@ impl Holdings {
     pub fn send<K: Keeper>(&mut self, keeper: &mut K, spir: u64, room: Room, payload: &[u8]) -> Step
         requires size { length payload.now ≤ PAYLOAD_OCTETS }
         requires room { length payload.now ≤ room }
-        ensures sends { AsksFor K.Keeper keeper.old keeper.new (λ calls. SendsOf (held_at self.old.held spir) payload.now calls result
+        ensures sends { AsksFor K.Keeper keeper.old keeper.new
+            (λ calls. SendsOf (held_at self.old.held spir) payload.now calls result
             × HoldsOn (task.Send spir payload.now) calls result self.old.held self.new.held) }
     {
         match place_of(&self.items, spir) {
@@ -166,7 +175,8 @@ impl Holdings {
         requires size { length bytes.old ≤ DATAGRAM_OCTETS }
         requires spi { spi ≡ spi_of bytes.old }
         ensures receives { AsksFor K.Keeper keeper.old keeper.new (λ calls.
-            ((ReceivesNowhere (held_at self.old.held) (spi_of bytes.old) × DropsQuietly drop.WrongSpi bytes.old calls result bytes.new)
+            ((ReceivesNowhere (held_at self.old.held) (spi_of bytes.old)
+            × DropsQuietly drop.WrongSpi bytes.old calls result bytes.new)
             ⊎ IsReceived (held_at self.old.held) bytes.old calls result bytes.new)
             × ReceivesOn calls result bytes.new self.old.held self.new.held) }
         ensures within { LiesWithin result (length bytes.new) }

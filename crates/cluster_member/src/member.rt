@@ -39,7 +39,12 @@ impl Model for Member {
 
     ghost Value = { Holder };
 
-    ghost view = { λ m. record { number = m.number; config = configuration_of m.config; fresh = m.fresh; held = m.holdings.held } };
+    ghost view = { λ m. record {
+      number = m.number;
+      config = configuration_of m.config;
+      fresh = m.fresh;
+      held = m.holdings.held;
+    } };
 
     ghost invariant = { λ m. IsWindowSize m.config.window };
 }
@@ -48,7 +53,12 @@ impl Member {
     /// A member that holds nothing. Its fresh octets are its own alone.
     pub fn join(alloc: Global, number: u32, config: Config, fresh: [u8; 24]) -> Member
         requires { IsWindowSize config.window }
-        ensures { result ≡ record { number = number; config = configuration_of config; fresh = fresh; held = [] } }
+        ensures { result ≡ record {
+          number = number;
+          config = configuration_of config;
+          fresh = fresh;
+          held = [];
+        } }
     {
         Member {
             alloc,
@@ -59,9 +69,9 @@ impl Member {
         }
     }
 
-    /// Takes over an association: an epoch begins, in which this member may use numbers. What it held of the association
-    /// begins anew. An error is want of memory; the member is then as it was, and the keeper was asked only where it lacked
-    /// the memory itself.
+    /// Takes over an association: an epoch begins, in which this member may use numbers. What it
+    /// held of the association begins anew. An error is want of memory; the member is then as it
+    /// was, and the keeper was asked only where it lacked the memory itself.
     pub fn take_over<K: Keeper>(&mut self, keeper: &mut K, spir: u64) -> Result<Step, Memory>
         ensures takes { IfOk result (λ step. AsksFor K.Keeper keeper.old keeper.new (λ calls.
             Quietly (TakesOver spir self.old.number) calls step × IsAfter (task.TakeOver spir) calls step self.old self.new)) }
@@ -87,15 +97,17 @@ impl Member {
 
     /// Draws the next ESP number of an association and gives it up. It takes no memory.
     pub fn draw<K: Keeper>(&mut self, keeper: &mut K, spir: u64) -> Step
-        ensures draws { AsksFor K.Keeper keeper.old keeper.new (λ calls. DrawsOf (held_at self.old.held spir) calls result
+        ensures draws { AsksFor K.Keeper keeper.old keeper.new
+            (λ calls. DrawsOf (held_at self.old.held spir) calls result
             × IsAfter (task.Draw spir) calls result self.old self.new) }
     {
         self.holdings.draw(keeper, spir)
     }
 
-    /// Sends a payload of at most 1,400 octets in an ESP packet of an association, under the next ESP number. It is refused
-    /// `NotOwner` exactly where the association is not held, and else by the name of the stop of this number. An error is
-    /// want of memory; then no keeper was asked, and the member is as it was.
+    /// Sends a payload of at most 1,400 octets in an ESP packet of an association, under the next
+    /// ESP number. It is refused `NotOwner` exactly where the association is not held, and else by
+    /// the name of the stop of this number. An error is want of memory; then no keeper was asked,
+    /// and the member is as it was.
     pub fn send_data<K: Keeper>(
         &mut self,
         keeper: &mut K,
@@ -112,8 +124,8 @@ impl Member {
         Ok(self.holdings.send(keeper, spir, room, payload))
     }
 
-    /// Opens in place an ESP packet that came, and notes its number where it is accepted (RFC 4303, section 3.4): the number
-    /// has to be ready first. It takes no memory.
+    /// Opens in place an ESP packet that came, and notes its number where it is accepted (RFC 4303,
+    /// section 3.4): the number has to be ready first. It takes no memory.
     pub fn receive_esp<K: Keeper>(&mut self, keeper: &mut K, bytes: &mut [u8]) -> EspVerdict
         requires { length bytes.old ≤ DATAGRAM_OCTETS }
         ensures receives { AsksFor K.Keeper keeper.old keeper.new (λ calls.

@@ -108,8 +108,8 @@ fn draws(member: &mut Member, keeper: &mut MemoryKeeper, spir: u64) -> Answer {
     answer_of(&member.draw(keeper, spir).verdict)
 }
 
-// Two members draw from one association; the first covers the numbers below 1025, the second those below 2049. What a
-// member held begins anew with its takeover.
+// Two members draw from one association; the first covers the numbers below 1025, the second those
+// below 2049. What a member held begins anew with its takeover.
 fn answers(alloc: Global, keeper: &mut MemoryKeeper) -> [Answer; 9] {
     let mut first = Member::join(alloc, 1, config(), [0x01; 24]);
     let mut second = Member::join(alloc, 2, config(), [0x02; 24]);

@@ -8,7 +8,8 @@ use Rattle.turn_rules.specs.Packets.{Inbound, Outbound}
 use Rattle.turn_rules.specs.Slots.{peer_counter}
 
 -- the numbers that are left, and what is sent and received with, are those of the record
-pub record IsOfRecord (sa : Record) (lot : Remaining) (outbound : Outbound) (inbound : Inbound) : Type 0 where
+pub record IsOfRecord (sa : Record) (lot : Remaining) (outbound : Outbound)
+    (inbound : Inbound) : Type 0 where
   pub numbers : lot.name ≡ peer_counter sa counter.EspOut
   pub end : lot.end ≡ end_of sa counter.EspOut
   pub sent_name : outbound.key.name ≡ peer_counter sa counter.EspOut

@@ -9,5 +9,6 @@ use Rattle.turn_rules.specs.Slots.{Slot, first_slot, peer_counter, receives_at, 
 -- a covered genuine packet is accepted at first delivery
 abbrev pub PeerAcceptsGenuine : List Slot → List ℕ → EspVerdict → List ℕ → Type 0
 PeerAcceptsGenuine old octets answer after =
-    (number : ℕ) (slot : Slot) (payload : List ℕ) → first_slot (receives_at (spi_of octets)) old ≡ Some slot → IsGenuine (slot_inbound slot) number payload octets
+    (number : ℕ) (slot : Slot) (payload : List ℕ) → first_slot (receives_at (spi_of octets)) old
+    ≡ Some slot → IsGenuine (slot_inbound slot) number payload octets
     → IsTakenAs (peer_counter slot.sa counter.EspIn) number payload answer after

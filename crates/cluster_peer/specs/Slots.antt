@@ -10,8 +10,8 @@ use Rattle.turn_rules.specs.Slots.{Slot, first_slot, slots_after}
 use Rattle.turn_rules.specs.Tasks as task
 use Rattle.turn_rules.specs.Tasks.{Task}
 
--- what the peer holds: its gateway, the receive window of associations that come, its associations, and for how many more
--- there is room
+-- what the peer holds: its gateway, the receive window of associations that come, its associations,
+-- and for how many more there is room
 pub record PeerHeld : Type 0 where
   pub gateway : GatewayId
   pub window : ℕ
@@ -29,9 +29,11 @@ pub record IsFirst (test : Slot → Bool) (place : ℕ) (slots : List Slot) : Ty
   pub none_before : first_slot test (take place slots) ≡ None
   pub here : (slot : Slot) → slot ≡ slice_index_or slots place slot → test slot ≡ true
 
--- what an association is once its answer to a packet was given: the number of a packet that was accepted is noted
+-- what an association is once its answer to a packet was given: the number of a packet that was
+-- accepted is noted
 abbrev pub slot_noted : EspVerdict → Slot → Slot
-slot_noted (esp.Accepted counter packet) slot = record slot { window = with_noted slot.window packet.number }
+slot_noted (esp.Accepted counter packet) slot =
+    record slot { window = with_noted slot.window packet.number }
 slot_noted answer slot = slot
 
 -- what the peer is after a task
@@ -42,4 +44,5 @@ pub record IsPeerAfter (asked : Task) (step : Step) (old new : PeerHeld) : Type 
 
 -- the same of a packet, by the step that words the answer
 abbrev pub IsPeerAfterPacket : EspVerdict → List ℕ → PeerHeld → PeerHeld → Type 0
-IsPeerAfterPacket answer after old new = (step : Step) → IsVerdictOf answer after step.verdict → IsPeerAfter task.Receive step old new
+IsPeerAfterPacket answer after old new = (step : Step) → IsVerdictOf answer after step.verdict
+    → IsPeerAfter task.Receive step old new

@@ -15,7 +15,8 @@ use keeper_book::{Counter, Record};
 use spend_once::Lot;
 use std::marker::Model;
 
-/// An association of the peer: the numbers that it may still send, and what it sends and receives with.
+/// An association of the peer: the numbers that it may still send, and what it sends and receives
+/// with.
 #[derive(Drop)]
 pub struct Association {
     sa: Record,
@@ -103,19 +104,22 @@ impl Association {
         self.sa.spi_out
     }
 
-    /// The other association has the same responder's SPI, or the peer would receive at the same SPI.
+    /// The other association has the same responder's SPI, or the peer would receive at the same
+    /// SPI.
     pub fn is_clash(&self, sa: &Record) -> bool
         ensures { result ≡ clashes sa.now self.now.sa }
     {
         self.sa.spir == sa.spir || self.sa.spi_out == sa.spi_out
     }
 
-    /// Sends a payload of at most 1,400 octets. It is refused `Exhausted` exactly where the counter is at its end.
+    /// Sends a payload of at most 1,400 octets. It is refused `Exhausted` exactly where the counter
+    /// is at its end.
     pub fn send(&mut self, room: Room, payload: &[u8]) -> Step
         requires size { length payload.now ≤ PAYLOAD_OCTETS }
         requires room { length payload.now ≤ room }
         ensures sends { SlotSends self.old payload.now result }
-        ensures within { self.old.next < end_of self.old.sa counter.EspOut → self.new ≡ record self.old { next = self.old.next + 1 } }
+        ensures within { self.old.next < end_of self.old.sa counter.EspOut
+            → self.new ≡ record self.old { next = self.old.next + 1 } }
         ensures ended { end_of self.old.sa counter.EspOut ≤ self.old.next → self.new ≡ self.old }
         ensures sa { self.new.sa ≡ self.old.sa }
     {

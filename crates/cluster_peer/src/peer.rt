@@ -19,7 +19,8 @@ use keeper_book::Record;
 use std::alloc::Global;
 use std::marker::Model;
 
-/// What the peer holds: its gateway, the receive window of associations that come, and its associations.
+/// What the peer holds: its gateway, the receive window of associations that come, and its
+/// associations.
 #[derive(Drop)]
 pub struct Peer {
     alloc: Global,
@@ -34,14 +35,19 @@ impl Model for Peer {
 
     ghost Value = { PeerHeld };
 
-    ghost view = { λ p. record { gateway = p.gateway; window = p.window; slots = p.slots.slots; spare = p.slots.spare } };
+    ghost view = { λ p. record {
+      gateway = p.gateway;
+      window = p.window;
+      slots = p.slots.slots;
+      spare = p.slots.spare;
+    } };
 
     ghost invariant = { λ p. IsWindowSize p.window };
 }
 
 impl Peer {
-    /// A peer with no association, which talks to a gateway. The receive window of ESP has 64, 128, 256, 512 or 1,024
-    /// numbers.
+    /// A peer with no association, which talks to a gateway. The receive window of ESP has 64, 128,
+    /// 256, 512 or 1,024 numbers.
     pub fn new(alloc: Global, gateway: GatewayId, window: u32) -> Peer
         requires { IsWindowSize window }
         ensures gateway { result.gateway ≡ gateway }
@@ -66,7 +72,8 @@ impl Peer {
         self.window = window;
     }
 
-    /// Whether the peer has no association with this responder's SPI, and receives nowhere at this one's SPI.
+    /// Whether the peer has no association with this responder's SPI, and receives nowhere at this
+    /// one's SPI.
     pub fn admits(&self, sa: &Record) -> bool
         ensures { result ≡ admits (records self.now.slots) sa.now }
     {
@@ -81,22 +88,33 @@ impl Peer {
         self.slots.reserve()
     }
 
-    /// Takes an association that was set up before the run, is admitted, and has room. It takes no memory.
+    /// Takes an association that was set up before the run, is admitted, and has room. It takes no
+    /// memory.
     pub fn add(&mut self, sa: &Record)
         requires admitted { admits (records self.old.slots) sa.now ≡ true }
         requires room { 0 < self.old.spare }
-        ensures { self.new ≡ record self.old { slots = self.old.slots ++ entered_slot self.old.window sa.now ∷ []; spare = self.new.spare } }
+        ensures { self.new ≡ record self.old {
+          slots = self.old.slots
+              ++ entered_slot self.old.window sa.now ∷ [];
+          spare = self.new.spare;
+        } }
     {
         self.slots.push(sa.copied(), self.window);
     }
 
-    /// Takes an association that was set up before the run. It is refused `SpiInUse` exactly where it is not admitted. An
-    /// error is want of memory, and the peer is then as it was.
+    /// Takes an association that was set up before the run. It is refused `SpiInUse` exactly where
+    /// it is not admitted. An error is want of memory, and the peer is then as it was.
     pub fn enter(&mut self, sa: &Record) -> Result<Step, Memory>
-        ensures entered { admits (records self.old.slots) sa.now ≡ true → IfOk result (Says Verdict.Entered) }
+        ensures entered { admits (records self.old.slots) sa.now ≡ true
+            → IfOk result (Says Verdict.Entered) }
         ensures slot { admits (records self.old.slots) sa.now ≡ true
-            → OnOk result (self.new ≡ record self.old { slots = self.old.slots ++ entered_slot self.old.window sa.now ∷ []; spare = self.new.spare }) }
-        ensures refused { admits (records self.old.slots) sa.now ≡ false → IfOk result (Says (Verdict.Refused refusal.SpiInUse)) }
+            → OnOk result (self.new ≡ record self.old {
+              slots = self.old.slots
+                  ++ entered_slot self.old.window sa.now ∷ [];
+              spare = self.new.spare;
+            }) }
+        ensures refused { admits (records self.old.slots) sa.now ≡ false
+            → IfOk result (Says (Verdict.Refused refusal.SpiInUse)) }
         ensures unchanged { admits (records self.old.slots) sa.now ≡ false → self.new ≡ self.old }
         ensures err { OnErr result (self.new ≡ record self.old { spare = self.new.spare }) }
     {
@@ -108,21 +126,22 @@ impl Peer {
         Ok(Step::quiet(Verdict::Entered))
     }
 
-    /// Sends a payload of at most 1,400 octets in an ESP packet of an association. It is refused `Unknown` where there is no
-    /// such association, and `Exhausted` where its numbers are at their end. An error is want of memory, and the peer is
-    /// then as it was.
+    /// Sends a payload of at most 1,400 octets in an ESP packet of an association. It is refused
+    /// `Unknown` where there is no such association, and `Exhausted` where its numbers are at their
+    /// end. An error is want of memory, and the peer is then as it was.
     pub fn send_data(&mut self, spir: u64, payload: &[u8]) -> Result<Step, Memory>
         requires { length payload.now ≤ PAYLOAD_OCTETS }
         ensures sends { IfOk result (λ step. PeerSends spir self.old.slots payload.now step) }
-        ensures after { IfOk result (λ step. IsPeerAfter (task.Send spir payload.now) step self.old self.new) }
+        ensures after { IfOk result (λ step. IsPeerAfter
+            (task.Send spir payload.now) step self.old self.new) }
         ensures err { OnErr result (self.new ≡ self.old) }
     {
         let room = Room::new(self.alloc, payload.len())?;
         Ok(self.slots.send(spir, room, payload))
     }
 
-    /// Opens in place an ESP packet that came, of at most 2,048 octets, and notes its number where it is accepted (RFC 4303,
-    /// section 3.4). It takes no memory.
+    /// Opens in place an ESP packet that came, of at most 2,048 octets, and notes its number where
+    /// it is accepted (RFC 4303, section 3.4). It takes no memory.
     pub fn receive_esp(&mut self, bytes: &mut [u8]) -> EspVerdict
         requires { length bytes.old ≤ DATAGRAM_OCTETS }
         ensures receives { PeerReceives self.old.slots bytes.old result bytes.new }

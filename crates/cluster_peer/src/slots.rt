@@ -32,14 +32,18 @@ impl Model for Slots {
 
     ghost Value = { Slotted };
 
-    ghost view = { λ s. record { slots = s.items.items; spare = vec_capacity s.items - vec_len s.items } };
+    ghost view = { λ s. record {
+      slots = s.items.items;
+      spare = vec_capacity s.items - vec_len s.items;
+    } };
 
     ghost invariant = { λ s. AreDistinct (records s.items.items) };
 }
 
 /// Where the association of a responder's SPI stands.
 fn place_of(items: &[Association], spir: u64) -> Option<usize>
-    ensures { MatchOption result (first_slot (has_spir spir) items.now ≡ None) (λ place. IsFirst (has_spir spir) place items.now) }
+    ensures { MatchOption result (first_slot (has_spir spir) items.now ≡ None)
+        (λ place. IsFirst (has_spir spir) place items.now) }
 {
     for (place, association) in items.iter().enumerate() {
         if association.spir() == spir {
@@ -51,7 +55,8 @@ fn place_of(items: &[Association], spir: u64) -> Option<usize>
 
 /// Where the association stands that receives at an SPI.
 fn receiver_at(items: &[Association], spi: u32) -> Option<usize>
-    ensures { MatchOption result (first_slot (receives_at spi) items.now ≡ None) (λ place. IsFirst (receives_at spi) place items.now) }
+    ensures { MatchOption result (first_slot (receives_at spi) items.now ≡ None)
+        (λ place. IsFirst (receives_at spi) place items.now) }
 {
     for (place, association) in items.iter().enumerate() {
         if association.spi() == spi {
@@ -108,7 +113,8 @@ impl Slots {
         requires size { length payload.now ≤ PAYLOAD_OCTETS }
         requires room { length payload.now ≤ room }
         ensures sends { PeerSends spir self.old.slots payload.now result }
-        ensures after { self.new.slots ≡ map (slot_after (task.Send spir payload.now) result) self.old.slots }
+        ensures after { self.new.slots ≡ map (slot_after
+            (task.Send spir payload.now) result) self.old.slots }
     {
         match place_of(&self.items, spir) {
             Some(place) => {
@@ -123,7 +129,8 @@ impl Slots {
     pub fn receive(&mut self, bytes: &mut [u8]) -> EspVerdict
         requires { length bytes.old ≤ DATAGRAM_OCTETS }
         ensures receives { PeerReceives self.old.slots bytes.old result bytes.new }
-        ensures after { (step : Step) → IsVerdictOf result bytes.new step.verdict → self.new.slots ≡ map (slot_after task.Receive step) self.old.slots }
+        ensures after { (step : Step) → IsVerdictOf result bytes.new step.verdict
+            → self.new.slots ≡ map (slot_after task.Receive step) self.old.slots }
         ensures within { LiesWithin result (length bytes.new) }
     {
         match packet_spi(bytes) {
@@ -138,7 +145,8 @@ impl Slots {
         ensures receives { MatchOption (first_slot (receives_at spi) self.old.slots)
             (Drops drop.WrongSpi bytes.old result bytes.new)
             (λ slot. SlotReceives slot bytes.old result bytes.new) }
-        ensures after { (step : Step) → IsVerdictOf result bytes.new step.verdict → self.new.slots ≡ map (slot_after task.Receive step) self.old.slots }
+        ensures after { (step : Step) → IsVerdictOf result bytes.new step.verdict
+            → self.new.slots ≡ map (slot_after task.Receive step) self.old.slots }
         ensures within { LiesWithin result (length bytes.new) }
     {
         match receiver_at(&self.items, spi) {

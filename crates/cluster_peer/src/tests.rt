@@ -66,7 +66,8 @@ fn gateway() -> GatewayId {
 #[test]
 fn an_association_comes_once(rt: HostRuntime) -> Result<(), Fail> {
     let mut peer = Peer::new(rt.alloc(), gateway(), 64);
-    // the SPI at which the cluster receives may be that of another association: the keeper looks at it
+    // the SPI at which the cluster receives may be that of another association: the keeper looks at
+    // it
     for (spir, spi_in, spi_out, admitted) in [
         (SPIR, 0x0001_0001, 0x0001_0002, true),
         (SPIR, 0x0001_0001, 0x0001_0002, false),

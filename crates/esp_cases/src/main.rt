@@ -1,9 +1,10 @@
 //! Seals ESP packets and asks receive windows, to compare them with another program's answers.
 //!
-//! A line `packet` has a key with its salt, an SPI, a sequence number and a payload, with `-` for no octets. Its answer
-//! ends with the packet, or with `lost` where that does not open again. A line `window` has a size, a base and the low
-//! halves of numbers in the order in which they come. Its answer has for each the number that is meant and what the
-//! window says of it; a fresh number is then noted.
+//! A line `packet` has a key with its salt, an SPI, a sequence number and a payload, with `-` for
+//! no octets. Its answer ends with the packet, or with `lost` where that does not open again. A
+//! line `window` has a size, a base and the low halves of numbers in the order in which they come.
+//! Its answer has for each the number that is meant and what the window says of it; a fresh number
+//! is then noted.
 #![tactic(auto)]
 
 mod packets;

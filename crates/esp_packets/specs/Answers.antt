@@ -13,7 +13,8 @@ abbrev pub IsNumberAnswer : Window → ℕ → Result ℕ EspDrop → Type 0
 IsNumberAnswer window low32 (Ok number) =
     IsMeant window low32 number × (number < SEQUENCE_END) × (judged window number ≡ Fresh)
 IsNumberAnswer window low32 (Err drops.Stale) =
-    (number : ℕ) → IsMeant window low32 number → number < SEQUENCE_END → judged window number ≡ Stale
+    (number : ℕ) → IsMeant window low32 number → number < SEQUENCE_END
+    → judged window number ≡ Stale
 IsNumberAnswer window low32 (Err drops.Seen) =
     (number : ℕ) × IsMeant window low32 number × (number < SEQUENCE_END)
     × (judged window number ≡ Seen)

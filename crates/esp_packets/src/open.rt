@@ -73,7 +73,8 @@ fn open_text(key: &Key, spi: u32, number: u64, bytes: &mut [u8]) -> bool
         × OpensPacket key.now.octets spi number bytes.old plain
         × (length plain + 32 ≡ length bytes.old) × (bytes.new ≡ opened bytes.old plain)) }
     ensures refused { OnFalse result ((bytes.new ≡ bytes.old)
-        × ((plain : List ℕ) → ¬ IsPacket key.now.octets spi number (iv_of bytes.old) plain bytes.old)) }
+        × ((plain : List ℕ) → ¬ IsPacket key.now.octets spi number
+        (iv_of bytes.old) plain bytes.old)) }
 {
     // Sealing keeps lengths, so a packet has its parts in one way only.
     sealing_laws();

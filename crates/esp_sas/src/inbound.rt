@@ -26,7 +26,12 @@ impl Model for InboundSa {
 
     ghost Value = { Inbound };
 
-    ghost view = { λ a. record { counter = a.counter; key = a.key.octets; spi = a.spi; window = a.set } };
+    ghost view = { λ a. record {
+      counter = a.counter;
+      key = a.key.octets;
+      spi = a.spi;
+      window = a.set;
+    } };
 }
 
 impl InboundSa {

@@ -31,11 +31,13 @@ numbered_in (Err reason) = Err reason
 
 -- a datagram
 abbrev pub which_of : List ℕ → Result Which LineReason
-which_of w = if bytes_eq w (codes "last") then Ok whiches.Last else numbered_in (number_in_word 1 (2 ^ 32) w)
+which_of w = if bytes_eq w (codes "last") then Ok whiches.Last
+    else numbered_in (number_in_word 1 (2 ^ 32) w)
 
 -- what a datagram carries
 abbrev pub medium_of : List ℕ → Result Medium LineReason
-medium_of w = if bytes_eq w (codes "ike") then Ok mediums.Ike else if bytes_eq w (codes "esp") then Ok mediums.Esp else Err reasons.Word
+medium_of w = if bytes_eq w (codes "ike") then Ok mediums.Ike
+    else if bytes_eq w (codes "esp") then Ok mediums.Esp else Err reasons.Word
 
 abbrev pub is_window_size : ℕ → Bool
 is_window_size n = n == 64 || n == 128 || n == 256 || n == 512 || n == 1024
@@ -52,7 +54,8 @@ abbrev pub is_ticket_key_size : ℕ → Bool
 is_ticket_key_size n = n == 0 || n == 20 || n == 36
 
 abbrev pub ticket_key_in : Result (List ℕ) LineReason → Result (List ℕ) LineReason
-ticket_key_in (Ok octets) = if is_ticket_key_size (length octets) then Ok octets else Err reasons.Size
+ticket_key_in (Ok octets) = if is_ticket_key_size (length octets) then Ok octets
+    else Err reasons.Size
 ticket_key_in (Err reason) = Err reason
 
 -- a ticket key with its salt, or none

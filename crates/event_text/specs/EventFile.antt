@@ -15,7 +15,8 @@ SayEvents last (line ∷ lines) (x ∷ xs) = EventLine last line x.0 x.1 × SayE
 SayEvents last [] (x ∷ xs) = ⊥
 SayEvents last (line ∷ lines) [] = ⊥
 
--- The octets are an event file of these events: behind the version line each line that is not passed over says one.
+-- The octets are an event file of these events: behind the version line each line that is not
+-- passed over says one.
 pub record EventText (events : List (Moment × PlainEvent)) (octets : List ℕ) : Type 0 where
   pub lines : List (List ℕ)
   pub file : IsFile (codes "ha 1" ∷ lines) octets

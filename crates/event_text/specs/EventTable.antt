@@ -166,4 +166,5 @@ read_fields (Then kind rest) s = kind.reading s >>= λ x. read_fields (rest x.0)
 -- the event that a word names is read, by rows of a table; the word's column first
 abbrev pub read_row : List EventRow → ℕ → List ℕ → Cursor → Result (PlainEvent × Cursor) LineFault
 read_row [] c w s = Err (fault_at c reasons.Word)
-read_row (row ∷ rows) c w s = if bytes_eq w row.word then read_fields row.fields s else read_row rows c w s
+read_row (row ∷ rows) c w s = if bytes_eq w row.word then read_fields row.fields s
+    else read_row rows c w s

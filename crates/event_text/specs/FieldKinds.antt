@@ -30,7 +30,8 @@ pub record FieldKind (A : Type 0) : Type 1 where
   pub reading : Cursor → Result (A × Cursor) LineFault
 
 -- a kind of one word
-abbrev pub one_word : {A : Type 0} → (A → List ℕ) → (A → Type 0) → (List ℕ → Result A LineReason) → FieldKind A
+abbrev pub one_word : {A : Type 0} → (A → List ℕ) → (A → Type 0) → (List ℕ → Result A LineReason)
+    → FieldKind A
 one_word text range read = record { text = λ x. text x ∷ []; range = range; reading = field read }
 
 abbrev pub member_number : FieldKind ℕ
@@ -85,7 +86,11 @@ abbrev pub ike_keys : KeySize → FieldKind SaKeys
 ike_keys size = record { text = sa_key_words; range = AreSaKeys size; reading = sa_keys_at size }
 
 abbrev pub esp_keys : KeySize → FieldKind ChildKeys
-esp_keys size = record { text = child_key_words; range = AreChildKeys size; reading = child_keys_at size }
+esp_keys size = record {
+  text = child_key_words;
+  range = AreChildKeys size;
+  reading = child_keys_at size;
+}
 
 abbrev pub five_starts : FieldKind Five
 five_starts = record { text = five_words; range = AreStarts; reading = starts_at }

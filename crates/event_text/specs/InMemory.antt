@@ -14,7 +14,8 @@ FailsInLine faults.Memory read = Unit {0}
 FailsInLine (faults.Line f) read = read ≡ Err f
 
 -- What a reader gave, seen by view, and what it left are what reading gives, unless memory ran out.
-abbrev pub GivesInLine : {X Y : Type 0} → (X → Y) → Result X ReadFault → Cursor → Result (Y × Cursor) LineFault → Type 0
+abbrev pub GivesInLine : {X Y : Type 0} → (X → Y) → Result X ReadFault → Cursor
+    → Result (Y × Cursor) LineFault → Type 0
 GivesInLine view (Ok x) new read = read ≡ Ok (view x, new)
 GivesInLine view (Err e) new read = FailsInLine e read
 

@@ -21,7 +21,14 @@ pub record Contents : Type 0 where
 
 abbrev pub faulty_contents : ℕ → LineFault → Contents
 faulty_contents line f =
-    record { events = []; fault = Some (record { line = line; column = f.column; reason = f.reason }) }
+    record {
+      events = [];
+      fault = Some (record {
+        line = line;
+        column = f.column;
+        reason = f.reason;
+      });
+    }
 
 abbrev pub with_event : Moment × PlainEvent → Contents → Contents
 with_event x rest = record { events = x ∷ rest.events; fault = rest.fault }
@@ -31,7 +38,8 @@ abbrev pub plain_event_of : Option (Moment × Event) → Option (Moment × Plain
 plain_event_of None = None
 plain_event_of (Some x) = Some (x.0, plain x.1)
 
-abbrev pub some_event : Result (Moment × PlainEvent) LineFault → Result (Option (Moment × PlainEvent)) LineFault
+abbrev pub some_event : Result (Moment × PlainEvent) LineFault
+    → Result (Option (Moment × PlainEvent)) LineFault
 some_event (Ok x) = Ok (Some x)
 some_event (Err f) = Err f
 
@@ -65,7 +73,8 @@ abbrev pub with_events : Option (Moment × PlainEvent) → Contents → Contents
 with_events None rest = rest
 with_events (Some x) rest = with_event x rest
 
-abbrev pub on_line : ℕ → Result (Option (Moment × PlainEvent)) LineFault → (Option (Moment × PlainEvent) → Contents) → Contents
+abbrev pub on_line : ℕ → Result (Option (Moment × PlainEvent)) LineFault
+    → (Option (Moment × PlainEvent) → Contents) → Contents
 on_line line (Err f) rest = faulty_contents line f
 on_line line (Ok event) rest = with_events event (rest event)
 
@@ -96,7 +105,8 @@ contents_in (line ∷ lines) =
     on_version (version_in (length line) (without_line_feed line))
     (contents_at lines (second_line (length line)))
 
--- What an input says. Its first line is `ha 1`, and each other line that is not passed over is an event.
+-- What an input says. Its first line is `ha 1`, and each other line that is not passed over is an
+-- event.
 abbrev pub contents_of : List ℕ → Contents
 contents_of input = contents_in (lines_of input)
 

@@ -24,7 +24,16 @@ sa_keys_at size s = do
   sk_er ← field (sealing_key_of size) sk_ei.1
   sk_pi ← field (sized 32 32) sk_er.1
   sk_pr ← field (sized 32 32) sk_pi.1
-  Ok (record { sk_d = sk_d.0; sk_ei = sk_ei.0; sk_er = sk_er.0; sk_pi = sk_pi.0; sk_pr = sk_pr.0 }, sk_pr.1)
+  Ok (
+    record {
+      sk_d = sk_d.0;
+      sk_ei = sk_ei.0;
+      sk_er = sk_er.0;
+      sk_pi = sk_pi.0;
+      sk_pr = sk_pr.0;
+    },
+    sk_pr.1,
+  )
 
 unfoldable pub child_keys_at : KeySize → Cursor → Result (ChildKeys × Cursor) LineFault
 child_keys_at size s = do
@@ -39,4 +48,13 @@ starts_at s = do
   iv ← field (number_in_word 0 IV_END) esp_in.1
   ask ← field (number_in_word 0 MESSAGE_ID_END) iv.1
   answer ← field (number_in_word 0 MESSAGE_ID_END) ask.1
-  Ok (record { esp_out = esp_out.0; esp_in = esp_in.0; iv = iv.0; ask = ask.0; answer = answer.0 }, answer.1)
+  Ok (
+    record {
+      esp_out = esp_out.0;
+      esp_in = esp_in.0;
+      iv = iv.0;
+      ask = ask.0;
+      answer = answer.0;
+    },
+    answer.1,
+  )

@@ -60,7 +60,8 @@ fn event(
 ) -> Result<Option<(Moment, Event)>, ReadFault>
     requires file { place.before ≤ INPUT_OCTETS }
     requires line { octets < ALLOCATION_END }
-    ensures value { MatchResult result (λ event. event_in place octets line.now ≡ Ok (plain_event_of event))
+    ensures value { MatchResult result (λ event. event_in place octets line.now
+        ≡ Ok (plain_event_of event))
         (λ e. FailsInLine e (event_in place octets line.now)) }
     ensures within { IfOk result (λ _. place.before + octets ≤ INPUT_OCTETS) }
     ensures few { IfOk result (λ event. OnSome event (place.count ≢ MAX_EVENTS)) }
@@ -148,12 +149,16 @@ impl<'a> EventReader<'a> {
     /// Takes the next line. An error leaves the reader as it was.
     #[tactic(auto, unfolding(crate::specs::Input::contents_at))]
     fn take_line(&mut self, alloc: Global) -> Result<Line, EventFault>
-        ensures end { IfOk result (λ line. line ≡ Line.End → left_contents self.old ≡ record { events = []; fault = None }) }
-        ensures passed { IfOk result (λ line. line ≡ Line.Passed → left_contents self.old ≡ left_contents self.new) }
+        ensures end { IfOk result (λ line. line ≡ Line.End
+            → left_contents self.old ≡ record { events = []; fault = None }) }
+        ensures passed { IfOk result (λ line. line ≡ Line.Passed
+            → left_contents self.old ≡ left_contents self.new) }
         ensures event { IfOk result (λ line. (x : Moment × Event) → line ≡ Line.Said x.0 x.1
             → left_contents self.old ≡ with_event (x.0, plain x.1) (left_contents self.new)) }
-        ensures fits { IfOk result (λ line. (x : Moment × Event) → line ≡ Line.Said x.0 x.1 → Fits (plain x.1)) }
-        ensures fewer { IfOk result (λ line. line ≢ Line.End → length self.new.lines < length self.old.lines) }
+        ensures fits { IfOk result (λ line. (x : Moment × Event) → line ≡ Line.Said x.0 x.1
+            → Fits (plain x.1)) }
+        ensures fewer { IfOk result (λ line. line ≢ Line.End
+            → length self.new.lines < length self.old.lines) }
         ensures fault { IfErr result (λ e. EndsAtFault e (left_contents self.old)) }
     {
         if self.rest.is_empty() {
@@ -183,8 +188,10 @@ impl<'a> EventReader<'a> {
         ensures event { IfOk result (λ next. IfSome next (λ x.
             left_contents self.old ≡ with_event (x.0, plain x.1) (left_contents self.new))) }
         ensures fits { IfOk result (λ next. IfSome next (λ x. Fits (plain x.1))) }
-        ensures fewer { IfOk result (λ next. OnSome next (length self.new.lines < length self.old.lines)) }
-        ensures end { IfOk result (λ next. IfNone next (left_contents self.old ≡ record { events = []; fault = None })) }
+        ensures fewer { IfOk result (λ next. OnSome next
+            (length self.new.lines < length self.old.lines)) }
+        ensures end { IfOk result (λ next. IfNone next
+            (left_contents self.old ≡ record { events = []; fault = None })) }
         ensures fault { IfErr result (λ e. EndsAtFault e (left_contents self.old)) }
     {
         'lines: loop {
@@ -196,14 +203,17 @@ impl<'a> EventReader<'a> {
         }
     }
 
-    /// The next event, with its moment, or `None` at the end of the input. Empty lines and comments are passed over. An error is
-    /// the first fault of the input, or want of memory, and leaves the reader as it was.
+    /// The next event, with its moment, or `None` at the end of the input. Empty lines and comments
+    /// are passed over. An error is the first fault of the input, or want of memory, and leaves the
+    /// reader as it was.
     pub fn next_event(&mut self, alloc: Global) -> Result<Option<(Moment, Event)>, EventFault>
         ensures event { IfOk result (λ next. IfSome next (λ x.
             left_contents self.old ≡ with_event (x.0, plain x.1) (left_contents self.new))) }
         ensures fits { IfOk result (λ next. IfSome next (λ x. Fits (plain x.1))) }
-        ensures fewer { IfOk result (λ next. OnSome next (length self.new.lines < length self.old.lines)) }
-        ensures end { IfOk result (λ next. IfNone next (left_contents self.old ≡ record { events = []; fault = None })) }
+        ensures fewer { IfOk result (λ next. OnSome next
+            (length self.new.lines < length self.old.lines)) }
+        ensures end { IfOk result (λ next. IfNone next
+            (left_contents self.old ≡ record { events = []; fault = None })) }
         ensures fault { IfErr result (λ e. EndsAtFault e (left_contents self.old)) }
         ensures err { OnErr result (self.new ≡ self.old) }
     {

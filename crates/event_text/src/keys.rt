@@ -21,7 +21,8 @@ fn key_octets(size: KeySize) -> usize
 
 /// A sealing key.
 pub(crate) fn sealing_key(words: &mut Words<'_>, size: KeySize) -> Result<OctetList<36>, LineFault>
-    ensures value { Reads (λ x. x) result words.new (field (sized (sealing_octets size) (sealing_octets size)) words.old) }
+    ensures value { Reads (λ x. x) result words.new
+        (field (sized (sealing_octets size) (sealing_octets size)) words.old) }
     ensures long { IfOk result (λ key. length key ≡ sealing_octets size) }
 {
     let octets = key_octets(size);

@@ -210,7 +210,8 @@ fn inject(alloc: Global, words: &mut Words<'_>) -> Result<Event, ReadFault>
 
 /// An event whose fields take no memory, by its word.
 fn short_event(column: u32, word: &[u8], words: &mut Words<'_>) -> Result<Event, LineFault>
-    ensures { Reads plain result words.new (read_row (drop 2 event_table) column word.now words.old) }
+    ensures { Reads plain result words.new (read_row
+        (drop 2 event_table) column word.now words.old) }
 {
     if word == b"cluster".as_slice() {
         return cluster(words);
@@ -277,7 +278,8 @@ fn moment(words: &mut Words<'_>, last: Moment) -> Result<u64, LineFault>
 
 #[tactic(auto, unfolding(crate::specs::Reading::line_at, crate::specs::Reading::moment_and_event_at))]
 fn line_event(alloc: Global, line: &[u8], last: Moment) -> Result<(Moment, Event), ReadFault>
-    ensures { MatchResult result (λ x. line_at last.0 line.now ≡ Ok (x.0, plain x.1)) (λ e. FailsInLine e (line_at last.0 line.now)) }
+    ensures { MatchResult result (λ x. line_at last.0 line.now ≡ Ok (x.0, plain x.1))
+        (λ e. FailsInLine e (line_at last.0 line.now)) }
 {
     if line.len() > LINE_OCTETS {
         return Err(ReadFault::Line(LineFault {
@@ -292,7 +294,8 @@ fn line_event(alloc: Global, line: &[u8], last: Moment) -> Result<(Moment, Event
     Ok((Moment(seconds), event))
 }
 
-/// The event that a line spells, with its moment, in seconds. `last` is the moment of the event before, or 0.
+/// The event that a line spells, with its moment, in seconds. `last` is the moment of the event
+/// before, or 0.
 ///
 /// An error is the first fault of the line from left to right, or want of memory.
 pub fn read_line(alloc: Global, line: &[u8], last: Moment) -> Result<(Moment, Event), ReadFault>

@@ -56,7 +56,8 @@ pub data PlainEvent : Type 0 where
   Inject : Party → Medium → List ℕ → PlainEvent
 
 abbrev pub plain : Event → PlainEvent
-plain (events.Cluster identity lifetime window ticket_key) = Cluster identity lifetime window ticket_key
+plain (events.Cluster identity lifetime window ticket_key) =
+    Cluster identity lifetime window ticket_key
 plain (events.Import sa) = Import (association sa)
 plain (events.Join fresh) = Join fresh
 plain (events.Own member spir) = Own member spir

@@ -72,13 +72,15 @@ IsWhich whiches.Last = Unit {0}
 
 -- what the fields of a line may be
 abbrev pub Fits : PlainEvent → Type 0
-Fits (Cluster identity lifetime window ticket_key) = IsConfiguration identity lifetime window ticket_key
+Fits (Cluster identity lifetime window ticket_key) =
+    IsConfiguration identity lifetime window ticket_key
 Fits (Import a) = IsAssociation a
 Fits (Join fresh) = IsOctetField 24 24 fresh
 Fits (Own member spir) = (member < NUMBER_END) × (spir < 2 ^ 64)
 Fits (Draw member spir) = (member < NUMBER_END) × (spir < 2 ^ 64)
 Fits (Crash member) = member < NUMBER_END
-Fits (Send from spir payload) = IsParty from × (spir < 2 ^ 64) × IsOctetField 0 PAYLOAD_OCTETS payload
+Fits (Send from spir payload) = IsParty from × (spir < 2 ^ 64)
+    × IsOctetField 0 PAYLOAD_OCTETS payload
 Fits (Deliver which to) = IsWhich which × IsParty to
 Fits (Alter which to place octet) = IsWhich which × IsParty to × (place < 2 ^ 32) × (octet < 256)
 Fits (Cut which to keep) = IsWhich which × IsParty to × (keep < 2 ^ 32)

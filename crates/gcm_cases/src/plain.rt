@@ -1,11 +1,13 @@
-//! AES-GCM by the plainest bodies: a block of counter mode at a time over the cipher octet by octet, and GHASH bit by bit
-//! (NIST SP 800-38D, sections 6.3 to 6.5 and 7.1). It defines nothing: the sealing by tables is compared with it.
+//! AES-GCM by the plainest bodies: a block of counter mode at a time over the cipher octet by
+//! octet, and GHASH bit by bit (NIST SP 800-38D, sections 6.3 to 6.5 and 7.1). It defines nothing:
+//! the sealing by tables is compared with it.
 
 ghost use Rattle.std.specs.Prelude.{◌≤◌, length};
 
 use aes_gcm::{Key, MAX_LEN, aes_block};
 
-/// What x^128 is modulo the field's polynomial: 1 + x + x^2 + x^7, whose first coefficient is the highest bit.
+/// What x^128 is modulo the field's polynomial: 1 + x + x^2 + x^7, whose first coefficient is the
+/// highest bit.
 const REDUCTION: u128 = 0xe1 << 120;
 
 // the product of two elements of the field

@@ -1,7 +1,7 @@
 //! Seals a buffer again and again, so that `bench/gcm` can measure it.
 //!
-//! A line has the buffer's size in octets and how often it is sealed. The answer repeats them and has
-//! the tag of the last time.
+//! A line has the buffer's size in octets and how often it is sealed. The answer repeats them and
+//! has the tag of the last time.
 #![tactic(auto)]
 
 ghost use Rattle.std.specs.Prelude.{◌≤◌, length};

@@ -1,11 +1,13 @@
-//! The ID types of identities and of gateways, each with its word in a line and the octets that it may have.
+//! The ID types of identities and of gateways, each with its word in a line and the octets that it
+//! may have.
 
 ghost use Rattle.std.specs.Prelude.{◌≡◌, ◌↔◌, IsTrue};
 ghost use Rattle.ha_base.specs.IdForms.{HasSize, fqdn, gateway_forms, identity_forms, word_by};
 
 use std::marker::Model;
 
-/// An ID type: its number, the word that a line has for it, and how many octets an identity of it has.
+/// An ID type: its number, the word that a line has for it, and how many octets an identity of it
+/// has.
 #[derive(Drop)]
 pub struct IdForm {
     pub kind: u8,
@@ -19,7 +21,12 @@ impl Model for IdForm {
 
     ghost Value = { Form };
 
-    ghost view = { λ form. record { kind = form.kind; word = form.word.now; least = form.least; most = form.most } };
+    ghost view = { λ form. record {
+      kind = form.kind;
+      word = form.word.now;
+      least = form.least;
+      most = form.most;
+    } };
 }
 
 /// A fully-qualified domain name (RFC 7296, section 3.5).

@@ -94,7 +94,8 @@ impl Source for MemorySource {
         ensures none { OnOk result (self.new.faults ≡ self.old.faults) }
         ensures failed { OnErr result (self.new.faults ≡ one_more self.old.faults) }
         ensures fails { IsErr result ↔ Contains self.old.fails self.old.calls }
-        ensures most { IfOk result (λ n. n ≡ min (min self.old.piece (length buf.old)) (length self.old.left)) }
+        ensures most { IfOk result (λ n. n ≡ min (min self.old.piece (length buf.old))
+            (length self.old.left)) }
         ensures calls { self.new.calls ≡ min (self.old.calls + 1) 256 }
         ensures piece { self.new.piece ≡ self.old.piece }
         ensures plan { self.new.fails ≡ self.old.fails }
@@ -186,12 +187,15 @@ impl Sink for MemorySink {
     fn write(&mut self, piece: &[u8]) -> Result<usize, Failed>
         ensures bound { WritesAtMost result piece.now }
         ensures some { IfOk result (λ n. 0 < length piece.now → 0 < n) }
-        ensures octets { WriteAppends (Some self.old.written) (Some self.new.written) result piece.now }
+        ensures octets { WriteAppends (Some self.old.written)
+            (Some self.new.written) result piece.now }
         ensures later { self.old.faults ≤ self.new.faults }
         ensures none { OnOk result (self.new.faults ≡ self.old.faults) }
         ensures failed { OnErr result (self.new.faults ≡ one_more self.old.faults) }
-        ensures fails { IsErr result ↔ (Contains self.old.fails self.old.calls ⊎ ((0 < length piece.now) × (self.old.room ≡ 0))) }
-        ensures most { IfOk result (λ n. n ≡ min (min self.old.piece (length piece.now)) self.old.room) }
+        ensures fails { IsErr result ↔ (Contains self.old.fails self.old.calls
+            ⊎ ((0 < length piece.now) × (self.old.room ≡ 0))) }
+        ensures most { IfOk result (λ n. n ≡ min (min self.old.piece
+            (length piece.now)) self.old.room) }
         ensures room { IfOk result (λ n. self.new.room + n ≡ self.old.room) }
         ensures calls { self.new.calls ≡ min (self.old.calls + 1) 256 }
         ensures same { (self.new.piece ≡ self.old.piece) × (self.new.fails ≡ self.old.fails) }

@@ -17,7 +17,10 @@ impl Model for Octets {
 
     ghost Value = { WithRoom };
 
-    ghost view = { λ o. record { octets = o.kept.items; spare = vec_capacity o.kept - vec_len o.kept } };
+    ghost view = { λ o. record {
+      octets = o.kept.items;
+      spare = vec_capacity o.kept - vec_len o.kept;
+    } };
 }
 
 impl Octets {

@@ -36,7 +36,8 @@ pub trait Service: Drop {
         ensures counted { count self.new ≡ count self.old + 1 }
         ensures last { last self.new ≡ Some request.now }
         ensures gives { gives self.old (count self.old + 1) request.now result.octets }
-        ensures same { (n : ℕ) (request reply : List ℕ) → gives self.new n request reply ↔ gives self.old n request reply };
+        ensures same { (n : ℕ) (request reply : List ℕ)
+            → gives self.new n request reply ↔ gives self.old n request reply };
 
     /// How many requests were executed.
     fn executed(&self) -> u64
@@ -73,7 +74,9 @@ impl TallyService {
     pub fn new() -> TallyService
         ensures count { ⟦<TallyService as Service>⟧.count result ≡ 0 }
         ensures last { ⟦<TallyService as Service>⟧.last result ≡ None }
-        ensures gives { (n : ℕ) (request reply : List ℕ) → ⟦<TallyService as Service>⟧.gives result n request reply ↔ (reply ≡ bytes_high_first 8 n) }
+        ensures gives { (n : ℕ) (request reply : List ℕ)
+            → ⟦<TallyService as Service>⟧.gives result n request reply
+            ↔ (reply ≡ bytes_high_first 8 n) }
     {
         TallyService {
             executed: 0,

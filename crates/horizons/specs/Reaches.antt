@@ -5,8 +5,8 @@ use Rattle.keeper_book.specs.Counters.{counter_of_kind}
 use Rattle.keeper_book.specs.declared.counters.Counter.{Counter}
 use Rattle.keeper_book.specs.declared.counters.Counter.TheVariants as counter
 
--- The epoch of a counter: where it began, the number that is used next, and the high below which the keeper
--- acknowledged all numbers. No number reaches the end.
+-- The epoch of a counter: where it began, the number that is used next, and the high below which
+-- the keeper acknowledged all numbers. No number reaches the end.
 pub record Reach : Type 0 where
   pub name : CounterName
   pub counter : Counter

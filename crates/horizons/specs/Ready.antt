@@ -1,5 +1,6 @@
--- What makes a number of a counter ready to be used. A rule reads the calls of a turn one after another: `stops` says what
--- holds of the calls that are left after a stop, and `goes` what holds of them, and of the high, where the number is ready.
+-- What makes a number of a counter ready to be used. A rule reads the calls of a turn one after
+-- another: `stops` says what holds of the calls that are left after a stop, and `goes` what holds
+-- of them, and of the high, where the number is ready.
 use Rattle.std.specs.Prelude.{ℕ, ◌+◌, ◌<◌, ◌≤◌, ◌≡◌, MatchOption, List, [], ◌∷◌, Result, Ok, Err}
 use Rattle.horizons.specs.Reaches.{Reach, cover_of}
 use Rattle.horizons.specs.Stops.{stop_of}
@@ -19,14 +20,17 @@ Answered (answer.Taken taken) stops goes = ⊥
 Answered (answer.Refused why) stops goes = MatchOption (stop_of why) ⊥ stops
 
 -- the next call is the cover that the number asks for
-abbrev pub Covers : Reach → ℕ → List Call → (Stop → List Call → Type 0) → (ℕ → List Call → Type 0) → Type 0
+abbrev pub Covers : Reach → ℕ → List Call → (Stop → List Call → Type 0) → (ℕ → List Call → Type 0)
+    → Type 0
 Covers h at [] stops goes = ⊥
 Covers h at (call ∷ calls) stops goes =
     (call.asked ≡ ask.Cover h.spir h.name.kind h.name.child h.epoch (cover_of h at))
     × Answered (seen call) (λ why. stops why calls) (goes (cover_of h at) calls)
 
--- a number below the high is ready, one at the end of the counter never is, and any other one asks for a cover
-pub record Ready (h : Reach) (at : ℕ) (calls : List Call) (stops : Stop → List Call → Type 0) (goes : ℕ → List Call → Type 0) : Type 0 where
+-- a number below the high is ready, one at the end of the counter never is, and any other one asks
+-- for a cover
+pub record Ready (h : Reach) (at : ℕ) (calls : List Call) (stops : Stop → List Call → Type 0)
+    (goes : ℕ → List Call → Type 0) : Type 0 where
   pub within : at < h.high → goes h.high calls
   pub ended : h.high ≤ at → h.end ≤ at → stops stop.Exhausted calls
   pub asked : h.high ≤ at → at < h.end → Covers h at calls stops goes
@@ -51,4 +55,5 @@ Readies old at calls result new = Ready old at calls
 abbrev pub ReadiesNext : Reach → List Call → Result Drawn Stop → Reach → Type 0
 ReadiesNext old calls result new = Ready old old.next calls
     (λ why rest. Leaves rest result (Err why) new old)
-    (λ high rest. Leaves rest result (Ok (next_number old)) new (record old { next = old.next + 1; high = high }))
+    (λ high rest. Leaves rest result (Ok (next_number old)) new
+    (record old { next = old.next + 1; high = high }))

@@ -53,8 +53,8 @@ fn lead(counter: Counter) -> u64
 }
 
 impl Horizon {
-    /// The beginning of an epoch: the counter goes on at the base, and numbers below the high are acknowledged. Sequence
-    /// numbers are extended.
+    /// The beginning of an epoch: the counter goes on at the base, and numbers below the high are
+    /// acknowledged. Sequence numbers are extended.
     pub fn begin(name: CounterName, spir: u64, epoch: u64, base: u64, high: u64) -> Horizon
         requires named { IsSome (counter_of_kind name.kind) }
         requires from_base { base ≤ high }
@@ -129,9 +129,10 @@ impl Horizon {
         }
     }
 
-    /// Makes a number ready to be used: nothing is asked where it lies below the high, and one cover elsewhere. After an
-    /// error nothing has changed. `Exhausted` comes exactly where the number is at or above the high and the counter's end;
-    /// the other errors as the keeper answered.
+    /// Makes a number ready to be used: nothing is asked where it lies below the high, and one
+    /// cover elsewhere. After an error nothing has changed. `Exhausted` comes exactly where the
+    /// number is at or above the high and the counter's end; the other errors as the keeper
+    /// answered.
     pub fn ready<K: Keeper>(&mut self, keeper: &mut K, at: u64) -> Result<(), Stop>
         requires { self.old.next ≤ at }
         ensures calls { AsksFor K.Keeper keeper.old keeper.new
@@ -156,7 +157,8 @@ impl Horizon {
         }
     }
 
-    /// Gives the next number, once it is ready. The errors are those of `ready`, and nothing has changed then.
+    /// Gives the next number, once it is ready. The errors are those of `ready`, and nothing has
+    /// changed then.
     pub fn send_number<K: Keeper>(&mut self, keeper: &mut K) -> Result<Number, Stop>
         ensures calls { AsksFor K.Keeper keeper.old keeper.new
             (λ calls. ReadiesNext self.old calls result self.new) }

@@ -19,7 +19,8 @@ pub fn encode_body(payload: &Payload, out: &mut Octets) -> Result<(), Memory>
     requires { FitsBody (payload_value payload.now) }
     ensures written { OnOk result (out.new.octets ≡ out.old.octets
         ++ body_written (payload_value payload.now)) }
-    ensures spare { OnOk result (out.old.spare ≤ out.new.spare + length (body_written (payload_value payload.now))) }
+    ensures spare { OnOk result (out.old.spare ≤ out.new.spare
+        + length (body_written (payload_value payload.now))) }
     ensures room { length (body_written (payload_value payload.now)) ≤ out.old.spare → IsOk result }
 {
     match payload {
@@ -44,7 +45,8 @@ pub fn encode_body(payload: &Payload, out: &mut Octets) -> Result<(), Memory>
 fn put_numbered(out: &mut Octets, number: u8, content: &[u8]) -> Result<(), Memory>
     ensures written { OnOk result (out.new.octets ≡ out.old.octets
         ++ numbered_written number content.now) }
-    ensures spare { OnOk result (out.old.spare ≤ out.new.spare + length (numbered_written number content.now)) }
+    ensures spare { OnOk result (out.old.spare ≤ out.new.spare
+        + length (numbered_written number content.now)) }
     ensures room { length (numbered_written number content.now) ≤ out.old.spare → IsOk result }
 {
     out.extend(&[number, 0, 0, 0])?;

@@ -16,7 +16,8 @@ pub(crate) fn put_proposals(out: &mut Octets, proposals: &[Proposal]) -> Result<
     requires { AllByRecursion FitsProposal (map proposal_value proposals.now) }
     ensures written { OnOk result (out.new.octets ≡ out.old.octets
         ++ proposals_written (map proposal_value proposals.now)) }
-    ensures spare { OnOk result (out.old.spare ≤ out.new.spare + length (proposals_written (map proposal_value proposals.now))) }
+    ensures spare { OnOk result (out.old.spare ≤ out.new.spare
+        + length (proposals_written (map proposal_value proposals.now))) }
     ensures room { length (proposals_written (map proposal_value proposals.now)) ≤ out.old.spare →
         IsOk result }
 {
@@ -32,7 +33,8 @@ fn put_proposal(out: &mut Octets, last: bool, proposal: &Proposal) -> Result<(),
     requires { FitsProposal (proposal_value proposal.now) }
     ensures written { OnOk result (out.new.octets ≡ out.old.octets
         ++ proposal_written (proposal_value proposal.now) last) }
-    ensures spare { OnOk result (out.old.spare ≤ out.new.spare + length (proposal_written (proposal_value proposal.now) last)) }
+    ensures spare { OnOk result (out.old.spare ≤ out.new.spare
+        + length (proposal_written (proposal_value proposal.now) last)) }
     ensures room { length (proposal_written (proposal_value proposal.now) last) ≤ out.old.spare →
         IsOk result }
 {
@@ -61,8 +63,10 @@ fn put_transforms(out: &mut Octets, transforms: &[Transform]) -> Result<(), Memo
     requires { AllByRecursion FitsTransform (map transform_value transforms.now) }
     ensures written { OnOk result (out.new.octets ≡ out.old.octets
         ++ transforms_written (map transform_value transforms.now)) }
-    ensures spare { OnOk result (out.old.spare ≤ out.new.spare + length (transforms_written (map transform_value transforms.now))) }
-    ensures room { length (transforms_written (map transform_value transforms.now)) ≤ out.old.spare → IsOk result }
+    ensures spare { OnOk result (out.old.spare ≤ out.new.spare
+        + length (transforms_written (map transform_value transforms.now))) }
+    ensures room { length (transforms_written (map transform_value transforms.now)) ≤ out.old.spare
+        → IsOk result }
 {
     let mut rest = transforms;
     while let [first, others @ ..] = rest {
@@ -76,8 +80,10 @@ fn put_transform(out: &mut Octets, last: bool, transform: &Transform) -> Result<
     requires { FitsTransform (transform_value transform.now) }
     ensures written { OnOk result (out.new.octets ≡ out.old.octets
         ++ transform_written (transform_value transform.now) last) }
-    ensures spare { OnOk result (out.old.spare ≤ out.new.spare + length (transform_written (transform_value transform.now) last)) }
-    ensures room { length (transform_written (transform_value transform.now) last) ≤ out.old.spare → IsOk result }
+    ensures spare { OnOk result (out.old.spare ≤ out.new.spare
+        + length (transform_written (transform_value transform.now) last)) }
+    ensures room { length (transform_written (transform_value transform.now) last) ≤ out.old.spare
+        → IsOk result }
 {
     let attributes = transform.attributes.as_slice();
     out.extend(&[mark(3, last), 0])?;
@@ -91,8 +97,10 @@ fn put_attributes(out: &mut Octets, attributes: &[Attribute]) -> Result<(), Memo
     requires { AllByRecursion FitsAttribute (map attribute_value attributes.now) }
     ensures written { OnOk result (out.new.octets ≡ out.old.octets
         ++ attributes_spelling (map attribute_value attributes.now)) }
-    ensures spare { OnOk result (out.old.spare ≤ out.new.spare + length (attributes_spelling (map attribute_value attributes.now))) }
-    ensures room { length (attributes_spelling (map attribute_value attributes.now)) ≤ out.old.spare → IsOk result }
+    ensures spare { OnOk result (out.old.spare ≤ out.new.spare
+        + length (attributes_spelling (map attribute_value attributes.now))) }
+    ensures room { length (attributes_spelling (map attribute_value attributes.now)) ≤ out.old.spare
+        → IsOk result }
 {
     let mut rest = attributes;
     while let [first, others @ ..] = rest {
@@ -106,7 +114,8 @@ fn put_attribute(out: &mut Octets, attribute: &Attribute) -> Result<(), Memory>
     requires { FitsAttribute (attribute_value attribute.now) }
     ensures written { OnOk result (out.new.octets ≡ out.old.octets
         ++ attribute_spelling (attribute_value attribute.now)) }
-    ensures spare { OnOk result (out.old.spare ≤ out.new.spare + length (attribute_spelling (attribute_value attribute.now))) }
+    ensures spare { OnOk result (out.old.spare ≤ out.new.spare
+        + length (attribute_spelling (attribute_value attribute.now))) }
     ensures room { length (attribute_spelling (attribute_value attribute.now)) ≤ out.old.spare →
         IsOk result }
 {

@@ -12,9 +12,14 @@ use ike_values::Selector;
 
 pub(crate) fn put_traffic(out: &mut Octets, selectors: &[Selector]) -> Result<(), Memory>
     requires { FitsSelectors (map selector_value selectors.now) }
-    ensures written { OnOk result (out.new.octets ≡ out.old.octets ++ numbered_written (length (map selector_value selectors.now)) (selectors_spelling (map selector_value selectors.now))) }
-    ensures spare { OnOk result (out.old.spare ≤ out.new.spare + length (numbered_written (length (map selector_value selectors.now)) (selectors_spelling (map selector_value selectors.now)))) }
-    ensures room { length (numbered_written (length (map selector_value selectors.now)) (selectors_spelling (map selector_value selectors.now))) ≤ out.old.spare → IsOk result }
+    ensures written { OnOk result (out.new.octets ≡ out.old.octets
+        ++ numbered_written (length (map selector_value selectors.now))
+        (selectors_spelling (map selector_value selectors.now))) }
+    ensures spare { OnOk result (out.old.spare ≤ out.new.spare
+        + length (numbered_written (length (map selector_value selectors.now))
+        (selectors_spelling (map selector_value selectors.now)))) }
+    ensures room { length (numbered_written (length (map selector_value selectors.now))
+        (selectors_spelling (map selector_value selectors.now))) ≤ out.old.spare → IsOk result }
 {
     out.extend(&[selectors.len() as u8, 0, 0, 0])?;
     put_selectors(out, selectors)
@@ -24,7 +29,8 @@ fn put_selectors(out: &mut Octets, selectors: &[Selector]) -> Result<(), Memory>
     requires { AllByRecursion FitsSelector (map selector_value selectors.now) }
     ensures written { OnOk result (out.new.octets ≡ out.old.octets
         ++ selectors_spelling (map selector_value selectors.now)) }
-    ensures spare { OnOk result (out.old.spare ≤ out.new.spare + length (selectors_spelling (map selector_value selectors.now))) }
+    ensures spare { OnOk result (out.old.spare ≤ out.new.spare
+        + length (selectors_spelling (map selector_value selectors.now))) }
     ensures room { length (selectors_spelling (map selector_value selectors.now)) ≤ out.old.spare →
         IsOk result }
 {
@@ -40,7 +46,8 @@ fn put_selector(out: &mut Octets, selector: &Selector) -> Result<(), Memory>
     requires { FitsSelector (selector_value selector.now) }
     ensures written { OnOk result (out.new.octets ≡ out.old.octets
         ++ selector_spelling (selector_value selector.now)) }
-    ensures spare { OnOk result (out.old.spare ≤ out.new.spare + length (selector_spelling (selector_value selector.now))) }
+    ensures spare { OnOk result (out.old.spare ≤ out.new.spare
+        + length (selector_spelling (selector_value selector.now))) }
     ensures room { length (selector_spelling (selector_value selector.now)) ≤ out.old.spare →
         IsOk result }
 {

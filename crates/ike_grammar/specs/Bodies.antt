@@ -11,13 +11,16 @@ abbrev pub numbered_tests : ℕ → List ℕ → List (Bool × Bad)
 numbered_tests end body = refuse (nat_lt (length body) 4) (end - length body) Short ∷ []
 
 unfoldable pub id_at : ℕ → List ℕ → Result IdValue Bad
-id_at end body = unless (numbered_tests end body) (Ok (record { kind = slice_index body 0; content = drop 4 body }))
+id_at end body = unless (numbered_tests end body) (Ok
+    (record { kind = slice_index body 0; content = drop 4 body }))
 
 unfoldable pub auth_at : ℕ → List ℕ → Result AuthValue Bad
-auth_at end body = unless (numbered_tests end body) (Ok (record { method = slice_index body 0; content = drop 4 body }))
+auth_at end body = unless (numbered_tests end body)
+    (Ok (record { method = slice_index body 0; content = drop 4 body }))
 
 abbrev pub nonce_tests : ℕ → List ℕ → List (Bool × Bad)
-nonce_tests end body = refuse (nat_lt (length body) 16 || nat_lt 256 (length body)) (end - length body - 2) Length ∷ []
+nonce_tests end body = refuse (nat_lt (length body) 16 || nat_lt 256 (length body))
+    (end - length body - 2) Length ∷ []
 
 unfoldable pub nonce_at : ℕ → List ℕ → Result (List ℕ) Bad
 nonce_at end body = unless (nonce_tests end body) (Ok body)
@@ -30,7 +33,13 @@ notify_tests end body =
     ∷ []
 
 abbrev pub notify_read : List ℕ → NotifyValue
-notify_read body = record { protocol = slice_index body 0; spi = take (slice_index body 1) (drop 4 body); kind = two_at body 2; content = drop (slice_index body 1) (drop 4 body) }
+notify_read body = record {
+  protocol = slice_index body 0;
+  spi = take (slice_index body 1) (drop 4 body);
+  kind = two_at body 2;
+  content =
+      drop (slice_index body 1) (drop 4 body);
+}
 
 unfoldable pub notify_at : ℕ → List ℕ → Result NotifyValue Bad
 notify_at end body = unless (notify_tests end body) (Ok (notify_read body))
@@ -39,11 +48,17 @@ notify_at end body = unless (notify_tests end body) (Ok (notify_read body))
 abbrev pub delete_tests : ℕ → List ℕ → List (Bool × Bad)
 delete_tests end body =
     refuse (nat_lt (length body) 4) (end - length body) Short
-    ∷ refuse (not (length (drop 4 body) == slice_index body 1 * two_at body 2)) (end - length body + 2) Length
+    ∷ refuse (not (length (drop 4 body) == slice_index body 1 * two_at body 2))
+    (end - length body + 2) Length
     ∷ []
 
 abbrev pub delete_read : List ℕ → DeleteValue
-delete_read body = record { protocol = slice_index body 0; size = slice_index body 1; number = two_at body 2; spis = drop 4 body }
+delete_read body = record {
+  protocol = slice_index body 0;
+  size = slice_index body 1;
+  number = two_at body 2;
+  spis = drop 4 body;
+}
 
 unfoldable pub delete_at : ℕ → List ℕ → Result DeleteValue Bad
 delete_at end body = unless (delete_tests end body) (Ok (delete_read body))

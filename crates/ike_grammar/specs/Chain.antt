@@ -41,8 +41,10 @@ body_at Other end number next body = Ok (values.other (record { kind = number; b
 abbrev pub payload_tests : ℕ → ℕ → Bool → List ℕ → List (Bool × Bad)
 payload_tests end number inner bytes =
     refuse (nat_lt (length bytes) 4) (end - length bytes) Short
-    ∷ refuse (nat_lt (two_at bytes 2) 4 || nat_lt (length bytes) (two_at bytes 2)) (end - length bytes + 2) Length
-    ∷ refuse (is_other (payload_kind number) && nat_le 128 (slice_index bytes 1)) (end - length bytes) (UnknownCritical number)
+    ∷ refuse (nat_lt (two_at bytes 2) 4 || nat_lt (length bytes) (two_at bytes 2))
+    (end - length bytes + 2) Length
+    ∷ refuse (is_other (payload_kind number) && nat_le 128 (slice_index bytes 1))
+    (end - length bytes) (UnknownCritical number)
     ∷ refuse (is_sk (payload_kind number) && inner) (end - length bytes) Field
     ∷ []
 
@@ -63,7 +65,8 @@ leads_to kind end next left payload = Ok (payload, next, left)
 -- a payload, the type of the next one, and what stands behind it
 unfoldable pub payload_at : ℕ → ℕ → Bool → List ℕ → Result (PayloadValue × ℕ × List ℕ) Bad
 payload_at end number inner bytes = unless (payload_tests end number inner bytes) (do
-  payload ← body_at (payload_kind number) (end - length (behind_payload bytes)) number (slice_index bytes 0) (body_of bytes)
+  payload ← body_at (payload_kind number) (end - length (behind_payload bytes)) number
+      (slice_index bytes 0) (body_of bytes)
   leads_to (payload_kind number) end (slice_index bytes 0) (behind_payload bytes) payload)
 
 abbrev pub end_tests : ℕ → List ℕ → List (Bool × Bad)
@@ -85,4 +88,5 @@ chain_at end inner first bytes = chain_by (length bytes + 1) end inner first byt
 -- The first test that is met, from the left, refuses the chain there and for this reason. Places
 -- count from the first octet.
 abbrev pub Refused : ℕ → Bool → List ℕ → ℕ → Reason → Type 0
-Refused first inner bytes place reason = chain_at (length bytes) inner first bytes ≡ Err (record { place = place; reason = reason })
+Refused first inner bytes place reason = chain_at (length bytes) inner first bytes
+    ≡ Err (record { place = place; reason = reason })

@@ -40,7 +40,8 @@ abbrev pub two_at : List ℕ → ℕ → ℕ
 two_at bytes i = 256 * slice_index bytes i + slice_index bytes (i + 1)
 
 -- Items one after another, each of which takes some octets, until no octet is left.
-unfoldable pub many_by : {X : Type 0} → (List ℕ → Result (X × List ℕ) Bad) → ℕ → List ℕ → Result (List X) Bad
+unfoldable pub many_by : {X : Type 0} → (List ℕ → Result (X × List ℕ) Bad) → ℕ → List ℕ
+    → Result (List X) Bad
 many_by one zero bytes = Ok []
 many_by one (suc n) [] = Ok []
 many_by one (suc n) (b ∷ bytes) = do
@@ -52,7 +53,8 @@ abbrev pub many : {X : Type 0} → (List ℕ → Result (X × List ℕ) Bad) →
 many one bytes = many_by one (length bytes) bytes
 
 -- this many items, and the octets after them
-unfoldable pub counted : {X : Type 0} → (List ℕ → Result (X × List ℕ) Bad) → ℕ → List ℕ → Result (List X × List ℕ) Bad
+unfoldable pub counted : {X : Type 0} → (List ℕ → Result (X × List ℕ) Bad) → ℕ → List ℕ
+    → Result (List X × List ℕ) Bad
 counted one zero bytes = Ok ([], bytes)
 counted one (suc n) bytes = do
   first ← one bytes

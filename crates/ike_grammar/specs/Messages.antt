@@ -12,10 +12,13 @@ use Rattle.ike_grammar.specs.Chain.{chain_at}
 
 -- the numbers in the four and in the eight octets there, big-endian
 abbrev pub four_at : List ℕ → ℕ → ℕ
-four_at bytes i = from_be_bytes w32 (slice_index bytes i ∷ slice_index bytes (i + 1) ∷ slice_index bytes (i + 2) ∷ slice_index bytes (i + 3) ∷ [])
+four_at bytes i = from_be_bytes w32 (slice_index bytes i ∷ slice_index bytes (i + 1)
+    ∷ slice_index bytes (i + 2) ∷ slice_index bytes (i + 3) ∷ [])
 
 abbrev pub eight_at : List ℕ → ℕ → ℕ
-eight_at bytes i = from_be_bytes w64 (slice_index bytes i ∷ slice_index bytes (i + 1) ∷ slice_index bytes (i + 2) ∷ slice_index bytes (i + 3) ∷ slice_index bytes (i + 4) ∷ slice_index bytes (i + 5) ∷ slice_index bytes (i + 6) ∷ slice_index bytes (i + 7) ∷ [])
+eight_at bytes i = from_be_bytes w64 (slice_index bytes i ∷ slice_index bytes (i + 1)
+    ∷ slice_index bytes (i + 2) ∷ slice_index bytes (i + 3) ∷ slice_index bytes (i + 4)
+    ∷ slice_index bytes (i + 5) ∷ slice_index bytes (i + 6) ∷ slice_index bytes (i + 7) ∷ [])
 
 abbrev pub header_tests : List ℕ → List (Bool × Bad)
 header_tests bytes =
@@ -46,4 +49,5 @@ message_at bytes = do
 
 -- The first test that is met, from the left, refuses the message there and for this reason.
 abbrev pub MessageRefused : List ℕ → ℕ → Reason → Type 0
-MessageRefused bytes place reason = message_at bytes ≡ Err (record { place = place; reason = reason })
+MessageRefused bytes place reason = message_at bytes
+    ≡ Err (record { place = place; reason = reason })

@@ -10,8 +10,10 @@ use Rattle.ike_grammar.specs.Faults.{◌>>=◌, refuse, unless, two_at, counted}
 abbrev pub selector_tests : ℕ → List ℕ → List (Bool × Bad)
 selector_tests end bytes =
     refuse (nat_lt (length bytes) 8) (end - length bytes) Short
-    ∷ refuse (not (slice_index bytes 0 == 7) && not (slice_index bytes 0 == 8)) (end - length bytes) Field
-    ∷ refuse (not (two_at bytes 2 == 8 + 2 * address_len (slice_index bytes 0))) (end - length bytes + 2) Length
+    ∷ refuse (not (slice_index bytes 0 == 7) && not (slice_index bytes 0 == 8))
+    (end - length bytes) Field
+    ∷ refuse (not (two_at bytes 2 == 8 + 2 * address_len (slice_index bytes 0)))
+    (end - length bytes + 2) Length
     ∷ refuse (nat_lt (length bytes) (two_at bytes 2)) (end - length bytes) Short
     ∷ []
 

@@ -49,7 +49,8 @@ fn payload_of(
     bytes: &[u8],
 ) -> Result<(Payload, u8, &[u8]), Unread>
     requires { length bytes.now ≤ end }
-    ensures { Gives (λ x. (payload_value x.0, x.1, x.2.now)) result (payload_at end number inner bytes.now) }
+    ensures { Gives (λ x. (payload_value x.0, x.1, x.2.now)) result
+        (payload_at end number inner bytes.now) }
 {
     let kind = kind_of(number);
     if bytes.len() < 4 {
@@ -120,7 +121,8 @@ fn leading(
     payload: Payload,
 ) -> Result<(Payload, u8, &[u8]), Unread>
     requires { length behind.now ≤ end }
-    ensures { Gives (λ x. (payload_value x.0, x.1, x.2.now)) result (leads_to kind end next behind.now (payload_value payload)) }
+    ensures { Gives (λ x. (payload_value x.0, x.1, x.2.now)) result
+        (leads_to kind end next behind.now (payload_value payload)) }
 {
     match kind {
         Kind::Sk if !behind.is_empty() => Err(bad_at(place(end, behind), Reason::SkNotLast)),

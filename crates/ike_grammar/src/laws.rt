@@ -15,9 +15,15 @@ pub fn one_reading()
     ensures some { (first : ℕ) (inner : Bool) (bytes : List ℕ) → IsOctets bytes →
         ((payloads : List PayloadValue) × Spells payloads first inner bytes)
         ⊎ ((place : ℕ) × (reason : Reason) × Refused first inner bytes place reason) }
-    ensures one_value { (first : ℕ) (inner : Bool) (bytes : List ℕ) (payloads others : List PayloadValue) → Spells payloads first inner bytes → Spells others first inner bytes → payloads ≡ others }
-    ensures one_fault { (first : ℕ) (inner : Bool) (bytes : List ℕ) (place place' : ℕ) (reason reason' : Reason) → Refused first inner bytes place reason → Refused first inner bytes place' reason' → (place ≡ place') × (reason ≡ reason') }
-    ensures not_both { (first : ℕ) (inner : Bool) (bytes : List ℕ) (payloads : List PayloadValue) (place : ℕ) (reason : Reason) → Spells payloads first inner bytes → Refused first inner bytes place reason → ⊥ }
+    ensures one_value { (first : ℕ) (inner : Bool) (bytes : List ℕ)
+        (payloads others : List PayloadValue) → Spells payloads first inner bytes
+        → Spells others first inner bytes → payloads ≡ others }
+    ensures one_fault { (first : ℕ) (inner : Bool) (bytes : List ℕ) (place place' : ℕ)
+        (reason reason' : Reason) → Refused first inner bytes place reason
+        → Refused first inner bytes place' reason' → (place ≡ place') × (reason ≡ reason') }
+    ensures not_both { (first : ℕ) (inner : Bool) (bytes : List ℕ) (payloads : List PayloadValue)
+        (place : ℕ) (reason : Reason) → Spells payloads first inner bytes
+        → Refused first inner bytes place reason → ⊥ }
 {}
 
 /// Octets spell one message, or are refused at one place for one reason, and never both.

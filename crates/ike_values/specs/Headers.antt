@@ -19,7 +19,9 @@ pub record HeaderParts : Type 0 where
 
 -- two SPIs, next payload, version, exchange, flags, Message ID, and the length of the whole message
 pub record SpellsHeader (h : Header) (bytes : List ℕ) (p : HeaderParts) : Type 0 where
-  pub bytes_are : bytes ≡ to_be_bytes w64 h.spii ++ to_be_bytes w64 h.spir ++ (p.first ∷ p.version ∷ h.exchange ∷ p.flags ∷ []) ++ to_be_bytes w32 h.id ++ to_be_bytes w32 (28 + length p.rest) ++ p.rest
+  pub bytes_are : bytes ≡ to_be_bytes w64 h.spii ++ to_be_bytes w64 h.spir
+      ++ (p.first ∷ p.version ∷ h.exchange ∷ p.flags ∷ []) ++ to_be_bytes w32 h.id
+      ++ to_be_bytes w32 (28 + length p.rest) ++ p.rest
   pub spii_fits : h.spii < 2 ^ 64
   pub spir_fits : h.spir < 2 ^ 64
   pub id_fits : h.id < 2 ^ 32
@@ -33,4 +35,5 @@ IsHeader h bytes = (p : HeaderParts) × SpellsHeader h bytes p
 
 -- the octets spell the message
 abbrev pub IsMessage : Message → List ℕ → Type 0
-IsMessage m bytes = (p : HeaderParts) × SpellsHeader m.header bytes p × Spells m.payloads p.first false p.rest
+IsMessage m bytes = (p : HeaderParts) × SpellsHeader m.header bytes p
+    × Spells m.payloads p.first false p.rest

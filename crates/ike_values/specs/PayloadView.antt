@@ -16,10 +16,20 @@ abbrev pub auth_value : AuthBody → AuthValue
 auth_value x = record { method = x.method; content = x.content.octets }
 
 abbrev pub notify_value : NotifyBody → NotifyValue
-notify_value x = record { protocol = x.protocol; spi = x.spi.octets; kind = x.kind; content = x.content.octets }
+notify_value x = record {
+  protocol = x.protocol;
+  spi = x.spi.octets;
+  kind = x.kind;
+  content = x.content.octets;
+}
 
 abbrev pub delete_value : DeleteBody → DeleteValue
-delete_value x = record { protocol = x.protocol; size = x.size; number = x.number; spis = x.spis.octets }
+delete_value x = record {
+  protocol = x.protocol;
+  size = x.size;
+  number = x.number;
+  spis = x.spis.octets;
+}
 
 abbrev pub sk_value : SkBody → SkValue
 sk_value x = record { first = x.first; iv = x.iv; ciphertext = x.ciphertext.octets; icv = x.icv }

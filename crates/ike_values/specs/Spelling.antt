@@ -21,7 +21,8 @@ is_last (x ∷ xs) = false
 abbrev pub last_mark : ℕ → Bool → ℕ
 last_mark more last = if last then 0 else more
 
--- ---- attributes (section 3.3.5): type and value, or type, length and value; the first bit tells which
+-- ---- attributes (section 3.3.5): type and value, or type, length and value; the first bit tells
+-- which
 
 abbrev pub attribute_spelling : AttributeValue → List ℕ
 attribute_spelling (fixed kind value) = two (32768 + kind) ++ two value
@@ -43,17 +44,21 @@ pub record TransformParts : Type 0 where
   pub reserved_behind : ℕ
   pub rest : List ℕ
 
-pub record SpellsTransform (x : TransformValue) (last : Bool) (bytes : List ℕ) (p : TransformParts) : Type 0 where
-  pub bytes_are : bytes ≡ last_mark 3 last ∷ p.reserved ∷ two (8 + length (attributes_spelling x.attributes)) ++ (x.kind ∷ p.reserved_behind ∷ two x.id) ++ attributes_spelling x.attributes ++ p.rest
+pub record SpellsTransform (x : TransformValue) (last : Bool) (bytes : List ℕ)
+    (p : TransformParts) : Type 0 where
+  pub bytes_are : bytes ≡ last_mark 3 last ∷ p.reserved
+      ∷ two (8 + length (attributes_spelling x.attributes))
+      ++ (x.kind ∷ p.reserved_behind ∷ two x.id) ++ attributes_spelling x.attributes ++ p.rest
   pub length_fits : 8 + length (attributes_spelling x.attributes) < LENGTH_END
   pub attributes : AllByRecursion FitsAttribute x.attributes
 
 abbrev pub SpellsTransforms : List TransformValue → List ℕ → Type 0
 SpellsTransforms [] bytes = bytes ≡ []
-SpellsTransforms (x ∷ xs) bytes = (p : TransformParts) × SpellsTransform x (is_last xs) bytes p × SpellsTransforms xs p.rest
+SpellsTransforms (x ∷ xs) bytes = (p : TransformParts) × SpellsTransform x (is_last xs) bytes p
+    × SpellsTransforms xs p.rest
 
--- ---- proposals (section 3.3.1): 0 or 2, reserved, length, number, protocol, SPI size, number of transforms, SPI,
--- transforms
+-- ---- proposals (section 3.3.1): 0 or 2, reserved, length, number, protocol, SPI size, number of
+-- transforms, SPI, transforms
 
 -- what is free in a proposal, the octets of its transforms, and what stands behind it
 pub record ProposalParts : Type 0 where
@@ -61,8 +66,11 @@ pub record ProposalParts : Type 0 where
   pub inside : List ℕ
   pub rest : List ℕ
 
-pub record SpellsProposal (x : ProposalValue) (last : Bool) (bytes : List ℕ) (p : ProposalParts) : Type 0 where
-  pub bytes_are : bytes ≡ last_mark 2 last ∷ p.reserved ∷ two (8 + length (x.spi ++ p.inside)) ++ (x.number ∷ x.protocol ∷ length x.spi ∷ length x.transforms ∷ []) ++ (x.spi ++ p.inside) ++ p.rest
+pub record SpellsProposal (x : ProposalValue) (last : Bool) (bytes : List ℕ)
+    (p : ProposalParts) : Type 0 where
+  pub bytes_are : bytes ≡ last_mark 2 last ∷ p.reserved ∷ two (8 + length (x.spi ++ p.inside))
+      ++ (x.number ∷ x.protocol ∷ length x.spi ∷ length x.transforms ∷ []) ++ (x.spi ++ p.inside)
+      ++ p.rest
   pub length_fits : 8 + length (x.spi ++ p.inside) < LENGTH_END
   pub spi_fits : length x.spi < 256
   pub count_fits : length x.transforms < 256
@@ -70,7 +78,8 @@ pub record SpellsProposal (x : ProposalValue) (last : Bool) (bytes : List ℕ) (
 
 abbrev pub SpellsProposals : List ProposalValue → List ℕ → Type 0
 SpellsProposals [] bytes = bytes ≡ []
-SpellsProposals (x ∷ xs) bytes = (p : ProposalParts) × SpellsProposal x (is_last xs) bytes p × SpellsProposals xs p.rest
+SpellsProposals (x ∷ xs) bytes = (p : ProposalParts) × SpellsProposal x (is_last xs) bytes p
+    × SpellsProposals xs p.rest
 
 -- ---- selectors (section 3.13.1): type, protocol, length, two ports, two addresses
 
@@ -79,7 +88,8 @@ abbrev pub address_len : ℕ → ℕ
 address_len kind = if kind == 7 then 4 else 16
 
 abbrev pub selector_spelling : SelectorValue → List ℕ
-selector_spelling x = x.kind ∷ x.protocol ∷ two (8 + 2 * address_len x.kind) ++ two x.start_port ++ two x.end_port ++ x.start ++ x.end
+selector_spelling x = x.kind ∷ x.protocol ∷ two (8 + 2 * address_len x.kind) ++ two x.start_port
+    ++ two x.end_port ++ x.start ++ x.end
 
 pub record FitsSelector (x : SelectorValue) : Type 0 where
   pub kind_known : IsTrue (x.kind == 7 || x.kind == 8)
@@ -91,7 +101,8 @@ selectors_spelling [] = []
 selectors_spelling (x ∷ xs) = selector_spelling x ++ selectors_spelling xs
 
 -- number of selectors, three reserved octets, selectors
-pub record SpellsTraffic (xs : List SelectorValue) (body : List ℕ) (reserved : ℕ × ℕ × ℕ) : Type 0 where
+pub record SpellsTraffic (xs : List SelectorValue) (body : List ℕ)
+    (reserved : ℕ × ℕ × ℕ) : Type 0 where
   pub bytes_are : body ≡ length xs ∷ reserved.0 ∷ reserved.1 ∷ reserved.2 ∷ selectors_spelling xs
   pub some : 0 < length xs
   pub count_fits : length xs < 256
@@ -195,15 +206,18 @@ pub record SpellsFront (item : PayloadValue) (first : ℕ) (bytes : List ℕ) (f
 -- What stands behind a payload are the other payloads. SK stands in no inner chain, is the last of
 -- an outer one, and has the type of the first inner payload for a next one.
 abbrev pub GoesOn : PayloadValue → Bool → List PayloadValue → Front → Type 0 → Type 0
-GoesOn (sk x) inner items f others = (inner ≡ false) × (items ≡ []) × (f.rest ≡ []) × (f.next ≡ x.first)
+GoesOn (sk x) inner items f others = (inner ≡ false) × (items ≡ []) × (f.rest ≡ [])
+    × (f.next ≡ x.first)
 GoesOn item inner items f others = others
 
 -- The octets spell the payloads, the first of which has this type, 0 where there is none. An inner
 -- chain is the content of an SK payload.
 abbrev pub Spells : List PayloadValue → ℕ → Bool → List ℕ → Type 0
 Spells [] first inner bytes = (first ≡ 0) × (bytes ≡ [])
-Spells (item ∷ items) first inner bytes = (f : Front) × SpellsFront item first bytes f × GoesOn item inner items f (Spells items f.next inner f.rest)
+Spells (item ∷ items) first inner bytes = (f : Front) × SpellsFront item first bytes f
+    × GoesOn item inner items f (Spells items f.next inner f.rest)
 
 -- some octets spell the payloads
 abbrev pub HasSpelling : List PayloadValue → Type 0
-HasSpelling payloads = (first : ℕ) × (inner : Bool) × (bytes : List ℕ) × Spells payloads first inner bytes
+HasSpelling payloads = (first : ℕ) × (inner : Bool) × (bytes : List ℕ)
+    × Spells payloads first inner bytes

@@ -7,7 +7,9 @@ use Rattle.ike_values.specs.Values.{TransformValue, ProposalValue, SelectorValue
 use Rattle.ike_values.specs.Spelling.{two, is_last, last_mark, attributes_spelling, FitsAttribute, selectors_spelling, FitsSelector, is_unknown, type_of}
 
 abbrev pub transform_written : TransformValue → Bool → List ℕ
-transform_written x last = last_mark 3 last ∷ 0 ∷ two (8 + length (attributes_spelling x.attributes)) ++ (x.kind ∷ 0 ∷ two x.id) ++ attributes_spelling x.attributes
+transform_written x last = last_mark 3 last ∷ 0 ∷ two
+    (8 + length (attributes_spelling x.attributes)) ++ (x.kind ∷ 0 ∷ two x.id)
+    ++ attributes_spelling x.attributes
 
 abbrev pub transforms_written : List TransformValue → List ℕ
 transforms_written [] = []
@@ -18,7 +20,10 @@ pub record FitsTransform (x : TransformValue) : Type 0 where
   pub length_fits : 8 + length (attributes_spelling x.attributes) < LENGTH_END
 
 abbrev pub proposal_written : ProposalValue → Bool → List ℕ
-proposal_written x last = last_mark 2 last ∷ 0 ∷ two (8 + length (x.spi ++ transforms_written x.transforms)) ++ (x.number ∷ x.protocol ∷ length x.spi ∷ length x.transforms ∷ []) ++ (x.spi ++ transforms_written x.transforms)
+proposal_written x last = last_mark 2 last ∷ 0 ∷ two
+    (8 + length (x.spi ++ transforms_written x.transforms))
+    ++ (x.number ∷ x.protocol ∷ length x.spi ∷ length x.transforms ∷ [])
+    ++ (x.spi ++ transforms_written x.transforms)
 
 abbrev pub proposals_written : List ProposalValue → List ℕ
 proposals_written [] = []
@@ -88,7 +93,8 @@ next_type_of item items = first_type_of items
 
 abbrev pub chain_written : List PayloadValue → List ℕ
 chain_written [] = []
-chain_written (item ∷ items) = next_type_of item items ∷ 0 ∷ two (4 + length (body_written item)) ++ body_written item ++ chain_written items
+chain_written (item ∷ items) = next_type_of item items ∷ 0 ∷ two (4 + length (body_written item))
+    ++ body_written item ++ chain_written items
 
 -- whether SK may stand here, in an inner chain or not, before these payloads
 abbrev pub MayStand : PayloadValue → Bool → List PayloadValue → Type 0

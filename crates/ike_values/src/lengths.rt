@@ -71,7 +71,8 @@ pub(crate) fn capped(len: usize) -> usize
 }
 
 pub(crate) fn proposals_len(proposals: &[Proposal]) -> usize
-    ensures { result ≡ min LENGTH_END (length (proposals_written (map proposal_value proposals.now))) }
+    ensures { result ≡ min LENGTH_END (length (proposals_written
+        (map proposal_value proposals.now))) }
 {
     let mut len = 0;
     let mut rest = proposals;
@@ -84,14 +85,16 @@ pub(crate) fn proposals_len(proposals: &[Proposal]) -> usize
 
 /// The octets of a proposal, or 65,536 where there are more.
 pub fn proposal_len(proposal: &Proposal) -> usize
-    ensures { result ≡ min LENGTH_END (8 + (length (proposal_value proposal.now).spi + length (transforms_written (proposal_value proposal.now).transforms))) }
+    ensures { result ≡ min LENGTH_END (8 + (length (proposal_value proposal.now).spi
+        + length (transforms_written (proposal_value proposal.now).transforms))) }
 {
     let spi = capped(proposal.spi.as_slice().len());
     capped(8 + spi + transforms_len(proposal.transforms.as_slice()))
 }
 
 pub(crate) fn transforms_len(transforms: &[Transform]) -> usize
-    ensures { result ≡ min LENGTH_END (length (transforms_written (map transform_value transforms.now))) }
+    ensures { result ≡ min LENGTH_END (length (transforms_written
+        (map transform_value transforms.now))) }
 {
     let mut len = 0;
     let mut rest = transforms;
@@ -104,7 +107,8 @@ pub(crate) fn transforms_len(transforms: &[Transform]) -> usize
 
 /// The octets of attributes, or 65,536 where there are more.
 pub fn attributes_len(attributes: &[Attribute]) -> usize
-    ensures { result ≡ min LENGTH_END (length (attributes_spelling (map attribute_value attributes.now))) }
+    ensures { result ≡ min LENGTH_END (length (attributes_spelling
+        (map attribute_value attributes.now))) }
 {
     let mut len = 0;
     let mut rest = attributes;
@@ -116,7 +120,8 @@ pub fn attributes_len(attributes: &[Attribute]) -> usize
 }
 
 fn attribute_len(attribute: &Attribute) -> usize
-    ensures { result ≡ min LENGTH_END (length (attribute_spelling (attribute_value attribute.now))) }
+    ensures { result ≡ min LENGTH_END (length (attribute_spelling
+        (attribute_value attribute.now))) }
 {
     match attribute {
         Attribute::Fixed { .. } => 4,
@@ -125,7 +130,8 @@ fn attribute_len(attribute: &Attribute) -> usize
 }
 
 fn selectors_len(selectors: &[Selector]) -> usize
-    ensures { result ≡ min LENGTH_END (length (selectors_spelling (map selector_value selectors.now))) }
+    ensures { result ≡ min LENGTH_END (length (selectors_spelling
+        (map selector_value selectors.now))) }
 {
     let mut len = 0;
     let mut rest = selectors;

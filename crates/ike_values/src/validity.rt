@@ -33,7 +33,8 @@ pub(crate) fn fits_chain(payloads: &[Payload]) -> bool
 }
 
 fn may_stand_before(payload: &Payload, others: &[Payload]) -> bool
-    ensures { IsTrue result ↔ MayStand (payload_value payload.now) false (map payload_value others.now) }
+    ensures { IsTrue result ↔ MayStand (payload_value payload.now) false
+        (map payload_value others.now) }
 {
     match payload {
         Payload::Sk(_) => others.is_empty(),
@@ -83,7 +84,8 @@ fn fits_sk(sk: &SkBody) -> bool
 }
 
 fn fits_proposals(proposals: &[Proposal]) -> bool
-    ensures { IsTrue result ↔ ((0 < length (map proposal_value proposals.now)) × AllByRecursion FitsProposal (map proposal_value proposals.now)) }
+    ensures { IsTrue result ↔ ((0 < length (map proposal_value proposals.now))
+        × AllByRecursion FitsProposal (map proposal_value proposals.now)) }
 {
     !proposals.is_empty() && all_proposals_fit(proposals)
 }

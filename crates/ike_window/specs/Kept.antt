@@ -16,7 +16,8 @@ has_message_id ids id = list_any (λ other. other == id) ids
 -- the octets that are kept under a Message ID, and none where it is not among them
 abbrev pub kept_octets : ℕ → List KeptMessage → Option (List ℕ)
 kept_octets id [] = None
-kept_octets id (message ∷ rest) = if message.id == id then Some message.octets else kept_octets id rest
+kept_octets id (message ∷ rest) = if message.id == id then Some message.octets
+    else kept_octets id rest
 
 -- the Message IDs rise, from at least this one on
 abbrev pub RiseFrom : ℕ → List KeptMessage → Type 0

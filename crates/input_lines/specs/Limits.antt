@@ -4,12 +4,14 @@ use Rattle.line_fields.specs.declared.fault.LineFault.{LineFault}
 use Rattle.line_fields.specs.declared.fault.LineReason.TheVariants as reasons
 use Rattle.line_fields.specs.Fields.{fault_at}
 
--- The fault of a line that is too long, or that passes the end that an input may have: of its octets, with the line feed, and
--- of those of the input before it. The earlier of the two counts.
+-- The fault of a line that is too long, or that passes the end that an input may have: of its
+-- octets, with the line feed, and of those of the input before it. The earlier of the two counts.
 abbrev pub overlong : ℕ → ℕ → ℕ → Option LineFault
 overlong before octets size =
-    if nat_lt 16384 size && nat_le (before + 16385) 67108865 then Some (fault_at 16385 reasons.LineTooLong)
-    else if nat_lt 67108864 (before + octets) then Some (fault_at (67108865 - before) reasons.FileTooLong)
+    if nat_lt 16384 size && nat_le (before + 16385) 67108865
+    then Some (fault_at 16385 reasons.LineTooLong)
+    else if nat_lt 67108864 (before + octets) then Some
+    (fault_at (67108865 - before) reasons.FileTooLong)
     else None
 
 abbrev pub unless_fault : {A : Type 0} → Option LineFault → Result A LineFault → Result A LineFault

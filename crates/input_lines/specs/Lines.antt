@@ -21,7 +21,8 @@ has_filled_last (line ∷ next ∷ lines) = has_filled_last (next ∷ lines)
 -- The octets are these lines. The last may lack its line feed where it is not empty.
 abbrev pub IsFile : List (List ℕ) → List ℕ → Type 0
 IsFile lines octets =
-    (octets ≡ with_line_feeds lines) ⊎ ((octets ++ 10 ∷ [] ≡ with_line_feeds lines) × (has_filled_last lines ≡ true))
+    (octets ≡ with_line_feeds lines) ⊎ ((octets ++ 10 ∷ [] ≡ with_line_feeds lines)
+    × (has_filled_last lines ≡ true))
 
 abbrev pub no_feed : ℕ → Bool
 no_feed c = not (c == 10)

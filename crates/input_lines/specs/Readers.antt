@@ -7,9 +7,9 @@ use Rattle.input_lines.specs.declared.reader.Took.{Took}
 use Rattle.input_lines.specs.declared.reader.Took.TheVariants as took
 use Rattle.input_lines.specs.declared.taking.Limits.{Limits}
 
--- a reader: its limits, the line that was taken last, or the front of one, the octets that were read
--- and are not taken, how many octets of the input were taken as lines, and whether the last of them
--- lacked its line feed
+-- a reader: its limits, the line that was taken last, or the front of one, the octets that were
+-- read and are not taken, how many octets of the input were taken as lines, and whether the last of
+-- them lacked its line feed
 pub record Reading : Type 0 where
   pub limits : Limits
   pub line : List ℕ
@@ -45,7 +45,8 @@ TakesAs old new left still_left faults now_faults took.Line =
     (TakesLine old new left still_left ⊎ TakesLast old new left still_left) × (now_faults ≡ faults)
 TakesAs old new left still_left faults now_faults took.End =
     (new.kept ≡ []) × (now_faults ≡ faults) × ((IsAtEnd still_left
-    × TakesFrom old.limits old.before old.kept [] [] left still_left) ⊎ ((old.unfed ≡ true) × (still_left ≡ left)))
+    × TakesFrom old.limits old.before old.kept [] [] left still_left)
+    ⊎ ((old.unfed ≡ true) × (still_left ≡ left)))
 TakesAs old new left still_left faults now_faults took.LineTooLong =
     TakesFront old new left still_left × (length new.line ≡ old.limits.line)
     × BeginsUnfed new.kept × (now_faults ≡ faults)

@@ -14,8 +14,8 @@ EndsFront limits before size [] = Unit {0}
 EndsFront limits before size (c ∷ kept) =
     (c ≡ 10) ⊎ ((size ≡ limits.line) ⊎ (before + size ≡ limits.file))
 
--- A line, or the front of one, is taken of the octets that were kept and of those that were read, and
--- some stand behind it.
+-- A line, or the front of one, is taken of the octets that were kept and of those that were read,
+-- and some stand behind it.
 pub record TakesFrom (limits : Limits) (before : ℕ) (kept line behind : List ℕ)
     (left still_left : Option (List ℕ)) : Type 0 where
   pub read : List ℕ
@@ -48,13 +48,16 @@ Finds limits before kept line now_kept left still_left faults now_faults found.F
     TakesFrom limits before kept line (10 ∷ now_kept) left still_left
     × (before + length line < limits.file) × (now_faults ≡ faults)
 Finds limits before kept line now_kept left still_left faults now_faults found.End =
-    TakesFrom limits before kept line now_kept left still_left × (now_kept ≡ []) × IsAtEnd still_left
+    TakesFrom limits before kept line now_kept left still_left × (now_kept ≡ [])
+    × IsAtEnd still_left
     × (now_faults ≡ faults)
 Finds limits before kept line now_kept left still_left faults now_faults found.LineTooLong =
     TakesFrom limits before kept line now_kept left still_left × (length line ≡ limits.line)
     × BeginsUnfed now_kept × (now_faults ≡ faults)
 Finds limits before kept line now_kept left still_left faults now_faults found.FileTooLong =
-    TakesFrom limits before kept line now_kept left still_left × (before + length line ≡ limits.file)
+    TakesFrom limits before kept line now_kept left still_left
+    × (before + length line ≡ limits.file)
     × (now_kept ≢ []) × (BeginsUnfed now_kept → length line < limits.line) × (now_faults ≡ faults)
 Finds limits before kept line now_kept left still_left faults now_faults found.Failed =
-    TakesFrom limits before kept line now_kept left still_left × (now_kept ≡ []) × Rose faults now_faults
+    TakesFrom limits before kept line now_kept left still_left × (now_kept ≡ [])
+    × Rose faults now_faults

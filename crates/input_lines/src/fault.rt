@@ -18,7 +18,8 @@ pub struct InputFault {
     pub reason: LineReason,
 }
 
-/// Appends the line that says where an input is faulty, and why. After an error some of it may be appended.
+/// Appends the line that says where an input is faulty, and why. After an error some of it may be
+/// appended.
 pub fn write_fault(alloc: Global, fault: InputFault, out: &mut Octets) -> Result<(), Memory>
     ensures ok { OnOk result (out.new.octets ≡ out.old.octets ++ fault_line fault) }
 {

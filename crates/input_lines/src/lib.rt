@@ -1,5 +1,5 @@
-//! The lines of an input: the first of them, those that are too long, those that are passed over, a reader that
-//! takes them one by one, and the first fault of an input.
+//! The lines of an input: the first of them, those that are too long, those that are passed over, a
+//! reader that takes them one by one, and the first fault of an input.
 #![tactic(auto)]
 
 mod fault;

@@ -11,8 +11,8 @@ pub const LINE_OCTETS: usize = 16_384;
 /// How many octets an input may have.
 pub const INPUT_OCTETS: usize = 67_108_864;
 
-/// The fault of a line that is too long, or that passes the end that an input may have: `before` octets stand before the line,
-/// which has `octets` with its line feed and `size` without.
+/// The fault of a line that is too long, or that passes the end that an input may have: `before`
+/// octets stand before the line, which has `octets` with its line feed and `size` without.
 pub fn overlong(before: usize, octets: usize, size: usize) -> Option<LineFault>
     requires file { before ≤ 67108864 }
     requires line { octets < 2 ^ 63 }

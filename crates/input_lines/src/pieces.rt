@@ -76,8 +76,8 @@ impl Piece {
         self.start += count;
     }
 
-    /// Reads the next octets, where none is left, and says how many. None is the end of the input, and an
-    /// error a fault of the source.
+    /// Reads the next octets, where none is left, and says how many. None is the end of the input,
+    /// and an error a fault of the source.
     pub(crate) fn fill<S: Source>(&mut self, source: &mut S) -> Result<usize, Failed>
         requires { self.old ≡ [] }
         ensures read { Consumes (S.left source.old) (S.left source.new) self.new }

@@ -1,5 +1,5 @@
-//! A reader that takes the lines of an input one by one, in pieces of whatever size, and takes no memory
-//! for it.
+//! A reader that takes the lines of an input one by one, in pieces of whatever size, and takes no
+//! memory for it.
 
 ghost use Rattle.std.specs.Prelude.{◌≡◌, ◌≤◌, ◌+◌, [], false, length, IfOk};
 ghost use Rattle.input_lines.specs.Readers.{TakesAs};
@@ -57,12 +57,14 @@ impl Model for LineReader {
 }
 
 impl LineReader {
-    /// A reader of an event file, or of messages, of which nothing was read. An error is want of memory.
+    /// A reader of an event file, or of messages, of which nothing was read. An error is want of
+    /// memory.
     pub fn new(alloc: Global) -> Result<LineReader, Memory>
         ensures none { IfOk result (λ r. r.kept ≡ []) }
         ensures first { IfOk result (λ r. r.before ≡ 0) }
         ensures fed { IfOk result (λ r. r.unfed ≡ false) }
-        ensures limits { IfOk result (λ r. r.limits ≡ record { line = LINE_OCTETS; file = INPUT_OCTETS }) }
+        ensures limits { IfOk result (λ r. r.limits
+            ≡ record { line = LINE_OCTETS; file = INPUT_OCTETS }) }
     {
         let limits = Limits {
             line: LINE_OCTETS,
@@ -91,8 +93,8 @@ impl LineReader {
         })
     }
 
-    /// Takes the next line, and reads for it what is needed; behind a last line that lacks its line feed
-    /// it reads nothing. It is not to be called after another answer than a line.
+    /// Takes the next line, and reads for it what is needed; behind a last line that lacks its line
+    /// feed it reads nothing. It is not to be called after another answer than a line.
     pub fn take<S: Source>(&mut self, source: &mut S) -> Took
         ensures takes { TakesAs self.old self.new (S.left source.old) (S.left source.new)
             (S.faults source.old) (S.faults source.new) result }

@@ -37,11 +37,13 @@ fn take_front(limits: Limits, before: usize, line: &mut Vec<u8>, piece: &mut Pie
     requires within { before + length line.old.items ≤ limits.file }
     requires room { limits.line ≤ vec_capacity line.old }
     ensures parts { line.new.items ++ piece.new ≡ line.old.items ++ piece.old }
-    ensures feedless { list_all no_feed line.old.items ≡ true → list_all no_feed line.new.items ≡ true }
+    ensures feedless { list_all no_feed line.old.items ≡ true
+        → list_all no_feed line.new.items ≡ true }
     ensures short { length line.new.items ≤ limits.line }
     ensures within { before + length line.new.items ≤ limits.file }
     ensures room { limits.line ≤ vec_capacity line.new }
-    ensures longer { 0 < length piece.old → piece.new ≡ [] → length line.old.items < length line.new.items }
+    ensures longer { 0 < length piece.old → piece.new ≡ []
+        → length line.old.items < length line.new.items }
     ensures stops { EndsFront limits before (length line.new.items) piece.new }
 {
     let octets = piece.as_slice();
@@ -53,7 +55,8 @@ fn take_front(limits: Limits, before: usize, line: &mut Vec<u8>, piece: &mut Pie
     piece.advance(size);
 }
 
-// Where octets end that were taken up to a line feed or to a limit, if more are left. A line feed is taken.
+// Where octets end that were taken up to a line feed or to a limit, if more are left. A line feed
+// is taken.
 fn ending(limits: Limits, before: usize, len: usize, piece: &mut Piece) -> Option<Found>
     requires stops { EndsFront limits before len piece.old }
     requires within { before + len ≤ limits.file }

@@ -28,7 +28,8 @@ fn is_line(reader: &mut LineReader, source: &mut MemorySource, line: &[u8]) -> b
     matches!(reader.take(source), Took::Line) && reader.line() == line
 }
 
-// Whether these octets are read as these three lines, the last without its line feed, in pieces of some size.
+// Whether these octets are read as these three lines, the last without its line feed, in pieces of
+// some size.
 fn are_lines(alloc: Global, piece: usize) -> Result<bool, Memory>
     requires { 0 < piece }
 {

@@ -55,7 +55,10 @@ taken_over member e = record e { owner = Some member; bases = e.bases ++ e.highs
 
 -- the high of the counter is no less than the number, as far as the counter goes
 abbrev pub entry_raised : Counter → ℕ → Entry → Entry
-entry_raised c upto e = record e { highs = with_five c (max (five_at e.highs c) (min upto (end_of e.sa c))) e.highs }
+entry_raised c upto e = record e {
+  highs = with_five c
+      (max (five_at e.highs c) (min upto (end_of e.sa c))) e.highs;
+}
 
 abbrev pub raised_at : Option Counter → ℕ → Entry → Entry
 raised_at None upto e = e
@@ -93,18 +96,27 @@ cover_refusal (Some e) (Some c) epoch =
 abbrev pub refusal : Book → KeeperAsk → Option KeeperFault
 refusal book (ask.Enter sa) = enter_refusal sa book.entries
 refusal book (ask.TakeOver spir member) = take_over_refusal (entry_of spir book.entries)
-refusal book (ask.Cover spir kind child epoch upto) = cover_refusal (entry_of spir book.entries) (counter_named kind child) epoch
+refusal book (ask.Cover spir kind child epoch upto) =
+    cover_refusal (entry_of spir book.entries) (counter_named kind child) epoch
 
 -- the book with the entry that a call makes
 abbrev pub book_entered : Book → KeeperAsk → Book
 book_entered book (ask.Enter sa) = record book { entries = book.entries ++ fresh sa ∷ [] }
-book_entered book (ask.TakeOver spir member) = record book { entries = edit_at spir (taken_over member) book.entries }
-book_entered book (ask.Cover spir kind child epoch upto) = record book { entries = edit_at spir (raised_at (counter_named kind child) upto) book.entries }
+book_entered book (ask.TakeOver spir member) = record book {
+  entries = edit_at spir
+      (taken_over member) book.entries;
+}
+book_entered book (ask.Cover spir kind child epoch upto) =
+    record book { entries = edit_at spir (raised_at (counter_named kind child) upto) book.entries }
 
 -- what a takeover is told: the epoch that begins, its bases, and the record
 abbrev pub takeover_answer : Option Entry → KeeperAnswer
 takeover_answer None = answer.Refused fault.Unknown
-takeover_answer (Some e) = answer.Taken (record { epoch = length e.bases + 1; bases = e.highs; sa = e.sa })
+takeover_answer (Some e) = answer.Taken (record {
+  epoch = length e.bases + 1;
+  bases = e.highs;
+  sa = e.sa;
+})
 
 -- what a call is answered that is not refused
 abbrev pub answer_given : Book → KeeperAsk → KeeperAnswer
@@ -135,7 +147,8 @@ takes_memory (ask.Cover spir kind child epoch upto) = false
 -- where nothing else is refused, and changes nothing; any other answer is the one by the book.
 abbrev pub Answers : Book → KeeperAsk → KeeperAnswer → Book → Type 0
 Answers old asked (answer.Refused fault.Failed) new = (new ≡ old) ⊎ (new ≡ book_after old asked)
-Answers old asked (answer.Refused fault.Memory) new = (takes_memory asked ≡ true) × (refusal old asked ≡ None) × (new ≡ old)
+Answers old asked (answer.Refused fault.Memory) new =
+    (takes_memory asked ≡ true) × (refusal old asked ≡ None) × (new ≡ old)
 Answers old asked answered new = (answered ≡ answer_to old asked) × (new ≡ book_after old asked)
 
 -- a call leads from one book to the next, whether or not its answer was hidden from the caller

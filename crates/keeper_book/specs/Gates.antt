@@ -34,8 +34,11 @@ missed_one calls missed = missed || not (has_room calls)
 
 -- A call that was passed on and answered as the keeper below answered it: what that keeper says of
 -- a call holds of the one that it was asked. Calls and answers are recorded as they were.
-pub record PassedOn {K : Type 0} (book : K → Option Book) (told : K → Option (List Call)) (faults : K → ℕ) (gives : K → Call → K → Type 0) (old : Gated K) (call : Call) (new : Gated K) : Type 0 where
+pub record PassedOn {K : Type 0} (book : K → Option Book) (told : K → Option (List Call))
+    (faults : K → ℕ) (gives : K → Call → K → Type 0) (old : Gated K) (call : Call)
+    (new : Gated K) : Type 0 where
   pub open_answer : call.hidden ≡ false
   pub recorded : new.first ≡ kept old.first call
   pub counted : new.missed ≡ missed_one old.first old.missed
-  pub below : (called : Call) × IsCallOf call.asked call.answer called × Spoken book told faults gives old.keeper (called ∷ []) new.keeper
+  pub below : (called : Call) × IsCallOf call.asked call.answer called
+      × Spoken book told faults gives old.keeper (called ∷ []) new.keeper

@@ -31,7 +31,13 @@ impl Model for Association {
 
     ghost Value = { Entry };
 
-    ghost view = { λ a. record { sa = a.sa; closed = a.closed; owner = a.owner; bases = a.bases.items; highs = a.highs } };
+    ghost view = { λ a. record {
+      sa = a.sa;
+      closed = a.closed;
+      owner = a.owner;
+      bases = a.bases.items;
+      highs = a.highs;
+    } };
 
     ghost invariant = { λ a. AreWithinEnds a.highs };
 }
@@ -108,7 +114,8 @@ impl Association {
         ensures err { IfErr result
             (λ why. (cover_refusal (Some self.old) (counter_named kind child) epoch ≡ Some why)
             × (self.new ≡ self.old)) }
-        ensures refusals { IfErr result (IsRefusalOf (ask.Cover self.old.sa.spir kind child epoch upto)) }
+        ensures refusals { IfErr result (IsRefusalOf
+            (ask.Cover self.old.sa.spir kind child epoch upto)) }
     {
         let Some(counter) = Counter::named(kind, child) else {
             return Err(KeeperFault::Unknown);

@@ -42,7 +42,8 @@ pub trait Keeper {
     /// `Memory`, and `Failed`, after which the epoch began or not. After every other error nothing
     /// has changed.
     fn take_over(&mut self, spir: u64, member: u32) -> Result<Taken, KeeperFault>
-        ensures call { (call : Call) × IsCallOf (ask.TakeOver spir member) (taken_answer result) call
+        ensures call { (call : Call) × IsCallOf (ask.TakeOver spir member)
+            (taken_answer result) call
             × Spoken book calls faults call_gives self.old (call ∷ []) self.new }
         ensures refusals { IfErr result (IsRefusalOf (ask.TakeOver spir member)) }
         ensures record_asked { IfOk result (λ t. t.sa.spir ≡ spir) }
@@ -61,7 +62,8 @@ pub trait Keeper {
         epoch: u64,
         upto: u64,
     ) -> Result<(), KeeperFault>
-        ensures call { (call : Call) × IsCallOf (ask.Cover spir kind child epoch upto) (done result) call
+        ensures call { (call : Call) × IsCallOf (ask.Cover spir kind child epoch upto)
+            (done result) call
             × Spoken book calls faults call_gives self.old (call ∷ []) self.new }
         ensures refusals { IfErr result (IsRefusalOf (ask.Cover spir kind child epoch upto)) }
         ensures held { held self.new ≡ held self.old };

@@ -1,8 +1,8 @@
 //! Reads the inputs of key schedules and prints each with the keys and codes that are made of it.
 //!
 //! A case is the lines `bits`, `old-sk-d`, `ni`, `nr`, `spii`, `spir`, `message` and `id-body`, in
-//! this order, each with its value behind a space. The values but the first are hexadecimal. Between
-//! two cases there is an empty line.
+//! this order, each with its value behind a space. The values but the first are hexadecimal.
+//! Between two cases there is an empty line.
 #![tactic(auto)]
 
 mod case;

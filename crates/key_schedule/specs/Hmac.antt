@@ -21,4 +21,5 @@ masked_octets mask octets = map (λ octet. bit_xor octet mask) octets
 -- H(K XOR opad, H(K XOR ipad, text)), where opad is 0x5c and ipad 0x36 at each octet
 unfoldable pub hmac : List ℕ → List ℕ → List ℕ
 hmac key text =
-    sha256 (masked_octets 0x5c (block_key key) ++ sha256 (masked_octets 0x36 (block_key key) ++ text))
+    sha256 (masked_octets 0x5c (block_key key) ++ sha256
+    (masked_octets 0x36 (block_key key) ++ text))

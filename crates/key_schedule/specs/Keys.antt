@@ -31,7 +31,8 @@ sa_keys key_octets stream = record {
   sk_pr = slice_range stream (64 + 2 * key_octets) (96 + 2 * key_octets);
 }
 
--- the first octets of KEYMAT = prf+ (SK_d, Ni | Nr) (RFC 7296, section 2.17), as many as two keys have
+-- the first octets of KEYMAT = prf+ (SK_d, Ni | Nr) (RFC 7296, section 2.17), as many as two keys
+-- have
 unfoldable pub keymat : ℕ → List ℕ → List ℕ → List ℕ → List ℕ
 keymat key_octets sk_d ni nr = prf_plus sk_d (ni ++ nr) (2 * key_octets)
 

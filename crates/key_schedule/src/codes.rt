@@ -3,9 +3,9 @@ ghost use Rattle.key_schedule.specs.Codes.{auth_code, cookie, difference_of};
 
 use crate::mac::{hmac, hmac_of_parts};
 
-/// The code in the AUTH payload of an end (RFC 5723, section 4.3.3; RFC 7296, section 2.15) under its
-/// SK_pi or SK_pr (RFC 5723, section 5.1): `message` is the message that the end sent, `nonce` that of
-/// the other end, and `id_body` the end's own identification payload without its header.
+/// The code in the AUTH payload of an end (RFC 5723, section 4.3.3; RFC 7296, section 2.15) under
+/// its SK_pi or SK_pr (RFC 5723, section 5.1): `message` is the message that the end sent, `nonce`
+/// that of the other end, and `id_body` the end's own identification payload without its header.
 pub fn auth_code(sk_p: &[u8; 32], message: &[u8], nonce: &[u8], id_body: &[u8]) -> [u8; 32]
     ensures { result ≡ auth_code sk_p.now message.now nonce.now id_body.now }
 {

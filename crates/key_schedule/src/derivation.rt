@@ -57,7 +57,8 @@ fn split_sa_keys(stream: &[u8], key_octets: usize) -> SaKeys
     requires within { key_octets ≤ 36 }
     requires whole { length stream.now ≡ 96 + 2 * key_octets }
     ensures keys { result ≡ sa_keys key_octets stream.now }
-    ensures stream { result.sk_d ++ result.sk_ei ++ result.sk_er ++ result.sk_pi ++ result.sk_pr ≡ stream.now }
+    ensures stream { result.sk_d ++ result.sk_ei ++ result.sk_er ++ result.sk_pi
+        ++ result.sk_pr ≡ stream.now }
     ensures initiator_size { length result.sk_ei ≡ key_octets }
     ensures responder_size { length result.sk_er ≡ key_octets }
 {
@@ -84,8 +85,8 @@ fn split_child_keys(stream: &[u8], key_octets: usize) -> ChildKeys
     }
 }
 
-/// The keys of a resumed IKE SA (RFC 5723, section 5.1), from the SK_d of the old one, the new nonces
-/// and the new SPIs.
+/// The keys of a resumed IKE SA (RFC 5723, section 5.1), from the SK_d of the old one, the new
+/// nonces and the new SPIs.
 pub fn resumed_keys(
     old_sk_d: &[u8; 32],
     size: KeySize,
@@ -112,14 +113,15 @@ pub fn resumed_keys(
     split_sa_keys(stream, key_octets)
 }
 
-/// The keys of the Child SA that is made with an IKE SA, without a key exchange of its own (RFC 7296,
-/// section 2.17). The peer is the initiator.
+/// The keys of the Child SA that is made with an IKE SA, without a key exchange of its own (RFC
+/// 7296, section 2.17). The peer is the initiator.
 pub fn child_keys(sk_d: &[u8; 32], size: KeySize, ni: &[u8; 32], nr: &[u8; 32]) -> ChildKeys
     ensures keys { let key_octets = sealing_octets size in
         result ≡ keys_of_child key_octets (keymat key_octets sk_d.now ni.now nr.now) }
 
     // The keys are the key material, one after the other.
-    ensures stream { result.to_cluster ++ result.to_peer ≡ keymat (sealing_octets size) sk_d.now ni.now nr.now }
+    ensures stream { result.to_cluster ++ result.to_peer
+        ≡ keymat (sealing_octets size) sk_d.now ni.now nr.now }
     ensures to_cluster_size { length result.to_cluster ≡ sealing_octets size }
     ensures to_peer_size { length result.to_peer ≡ sealing_octets size }
 {

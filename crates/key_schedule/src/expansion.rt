@@ -6,8 +6,8 @@ use crate::mac::hmac_of_parts;
 /// How many octets HMAC with SHA-256 gives.
 const CODE: usize = 32;
 
-/// Fills `out` with the first octets of prf+ (RFC 7296, section 2.13), of which there are 255 blocks
-/// of 32.
+/// Fills `out` with the first octets of prf+ (RFC 7296, section 2.13), of which there are 255
+/// blocks of 32.
 pub fn prf_plus(key: &[u8], seed: &[u8], out: &mut [u8])
     requires { length out.old ≤ 8160 }
     ensures { out.new ≡ prf_plus key.now seed.now (length out.old) }

@@ -9,7 +9,8 @@ use Rattle.line_fields.specs.declared.fault.LineFault.{LineFault}
 use Rattle.line_fields.specs.Words.{Cursor}
 
 infixl 10 ◌>>=◌
-abbrev pub ◌>>=◌ : {A B : Type 0} → Result A LineFault → (A → Result B LineFault) → Result B LineFault
+abbrev pub ◌>>=◌ : {A B : Type 0} → Result A LineFault → (A → Result B LineFault)
+    → Result B LineFault
 (Ok x) >>= f = f x
 (Err e) >>= f = Err e
 
@@ -17,7 +18,8 @@ abbrev pub fault_at : ℕ → LineReason → LineFault
 fault_at c r = record { column = c; reason = r }
 
 -- What a reader gave, seen by view, and what it left are what reading gives, or its fault is.
-abbrev pub Reads : {X Y : Type 0} → (X → Y) → Result X LineFault → Cursor → Result (Y × Cursor) LineFault → Type 0
+abbrev pub Reads : {X Y : Type 0} → (X → Y) → Result X LineFault → Cursor
+    → Result (Y × Cursor) LineFault → Type 0
 Reads view (Ok x) new read = read ≡ Ok (view x, new)
 Reads view (Err f) new read = read ≡ Err f
 
@@ -46,14 +48,16 @@ located c (Ok x) = Ok x
 located c (Err r) = Err (fault_at c r)
 
 -- A field is one word.
-unfoldable pub field : {A : Type 0} → (List ℕ → Result A LineReason) → Cursor → Result (A × Cursor) LineFault
+unfoldable pub field : {A : Type 0} → (List ℕ → Result A LineReason) → Cursor
+    → Result (A × Cursor) LineFault
 field read s = do
   w ← word_at s
   x ← located s.column (read w.0)
   Ok (x, w.1)
 
 abbrev pub key_size_of : List ℕ → Result KeySize LineReason
-key_size_of w = if bytes_eq w (codes "128") then Ok Bits128 else if bytes_eq w (codes "256") then Ok Bits256 else Err reasons.Word
+key_size_of w = if bytes_eq w (codes "128") then Ok Bits128
+    else if bytes_eq w (codes "256") then Ok Bits256 else Err reasons.Word
 
 abbrev pub size_text : KeySize → List ℕ
 size_text Bits128 = codes "128"

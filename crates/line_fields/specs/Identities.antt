@@ -40,7 +40,8 @@ abbrev pub with_kind : ℕ → Result (List ℕ) LineReason → Result (ℕ × L
 with_kind kind (Ok octets) = Ok (kind, octets)
 with_kind kind (Err reason) = Err reason
 
-abbrev pub of_form : Form → Option (List ℕ) → Result (ℕ × List ℕ) LineReason → Result (ℕ × List ℕ) LineReason
+abbrev pub of_form : Form → Option (List ℕ) → Result (ℕ × List ℕ) LineReason
+    → Result (ℕ × List ℕ) LineReason
 of_form form (Some octets) other = with_kind form.kind (sized form.least form.most octets)
 of_form form None other = other
 

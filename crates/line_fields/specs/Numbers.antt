@@ -19,7 +19,8 @@ is_numeral w = list_all is_digit w && begins_well w
 
 -- the number that a word spells, in 64 bits
 abbrev pub numeral_of : List ℕ → Option ℕ
-numeral_of w = if is_numeral w && nat_lt (digits_value 10 w) (2 ^ 64) then Some (digits_value 10 w) else None
+numeral_of w = if is_numeral w && nat_lt (digits_value 10 w) (2 ^ 64) then Some (digits_value 10 w)
+    else None
 
 abbrev pub in_range : ℕ → ℕ → Option ℕ → Result ℕ LineReason
 in_range least limit None = Err Number

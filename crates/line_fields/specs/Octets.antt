@@ -41,7 +41,8 @@ spells_octets w = bytes_eq w dash || is_hex w
 -- how many octets a word has, from least to most
 abbrev pub size_of : ℕ → ℕ → List ℕ → Result ℕ LineReason
 size_of least most w =
-    if spells_octets w then (if nat_le least (length w / 2) && nat_le (length w / 2) most then Ok (length w / 2) else Err Size)
+    if spells_octets w then (if nat_le least (length w / 2) && nat_le (length w / 2) most
+    then Ok (length w / 2) else Err Size)
     else Err Hex
 
 abbrev pub octets_in : List ℕ → Result ℕ LineReason → Result (List ℕ) LineReason
@@ -68,11 +69,13 @@ esp_spi_text n = encode_lower (to_be_bytes w32 n)
 
 -- an SPI of the IKE header (RFC 7296 section 3.1), in 16 digits
 abbrev pub spi_in_word : List ℕ → Result ℕ LineReason
-spi_in_word w = if is_hex w then (if length w / 2 == 8 then Ok (from_be_bytes w64 (decoded w)) else Err Size) else Err Hex
+spi_in_word w = if is_hex w then (if length w / 2 == 8 then Ok (from_be_bytes w64 (decoded w))
+    else Err Size) else Err Hex
 
 -- an SPI of an ESP packet (RFC 4303 section 2.1), in 8 digits
 abbrev pub esp_spi_of : List ℕ → Result ℕ LineReason
-esp_spi_of w = if is_hex w then (if length w / 2 == 4 then Ok (from_be_bytes w32 (decoded w)) else Err Size) else Err Hex
+esp_spi_of w = if is_hex w then (if length w / 2 == 4 then Ok (from_be_bytes w32 (decoded w))
+    else Err Size) else Err Hex
 
 -- octets of a number from least to most
 pub record IsOctetField (least most : ℕ) (octets : List ℕ) : Type 0 where

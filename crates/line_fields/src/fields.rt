@@ -1,5 +1,5 @@
-//! The fields of a line, one reader for each kind. Each takes a word. An error is the fault at the word's column: what is wrong
-//! with the word, or that none is left.
+//! The fields of a line, one reader for each kind. Each takes a word. An error is the fault at the
+//! word's column: what is wrong with the word, or that none is left.
 
 ghost use Rattle.std.specs.Prelude.{◌≡◌, ◌≤◌, ◌<◌, ◌^◌, length, IfOk};
 ghost use Rattle.line_fields.specs.Numbers.{number_in_word};

@@ -1,4 +1,5 @@
-//! The fields of a line: its words, what each kind of field spells, and the first fault of a line with its place.
+//! The fields of a line: its words, what each kind of field spells, and the first fault of a line
+//! with its place.
 #![tactic(auto)]
 
 mod fault;

@@ -26,7 +26,8 @@ pub fn is_hex(word: &[u8]) -> bool
     all_lower(word) && !word.is_empty() && word.len() % 2 == 0
 }
 
-/// Writes the octets that a word of lower-case hexadecimal spells over `out`, which has room for just these.
+/// Writes the octets that a word of lower-case hexadecimal spells over `out`, which has room for
+/// just these.
 #[tactic(auto, using(crate::proofs::OctetLaws::hex_sized))]
 pub fn fill_hex(word: &[u8], out: &mut [u8])
     requires hex { is_hex word.now ≡ true }

@@ -76,7 +76,8 @@ impl<'a> Words<'a> {
 
     /// Fails where a word is left.
     pub fn end(&self) -> Result<(), LineFault>
-        ensures { MatchResult result (λ _. ended_at self.now ≡ Ok tt) (λ f. ended_at self.now ≡ Err f) }
+        ensures { MatchResult result (λ _. ended_at self.now ≡ Ok tt)
+            (λ f. ended_at self.now ≡ Err f) }
     {
         match self.rest {
             None => Ok(()),

@@ -1,5 +1,5 @@
--- The text of a message (RFC 7296, section 3): a line for its header and one for each payload, or one line for the place
--- and the reason at which its octets are refused.
+-- The text of a message (RFC 7296, section 3): a line for its header and one for each payload, or
+-- one line for the place and the reason at which its octets are refused.
 use Rattle.std.specs.Prelude.{ℕ, List, [], ◌∷◌, ◌++◌, codes, Result, Ok, Err}
 use Rattle.std.specs.Fmt.{decimal}
 use Rattle.std.specs.List.{flat_map}
@@ -21,11 +21,13 @@ use Rattle.ike_values.specs.declared.header.Message.{Message}
 
 -- both SPIs, the exchange type, the flags that the value has, in two digits, and the Message ID
 unfoldable pub header_words : Header → List (List ℕ)
-header_words h = spi_text h.spii ∷ spi_text h.spir ∷ decimal h.exchange ∷ encode_lower (flags_of h ∷ []) ∷ decimal h.id ∷ []
+header_words h = spi_text h.spii ∷ spi_text h.spir ∷ decimal h.exchange
+    ∷ encode_lower (flags_of h ∷ []) ∷ decimal h.id ∷ []
 
 -- the protocol, the SPI, the type and the data of a notify payload
 unfoldable pub notify_words : NotifyValue → List (List ℕ)
-notify_words x = decimal x.protocol ∷ octets_text x.spi ∷ decimal x.kind ∷ octets_text x.content ∷ []
+notify_words x = decimal x.protocol ∷ octets_text x.spi ∷ decimal x.kind ∷ octets_text x.content
+    ∷ []
 
 -- the type of the first inner payload, and the body of an encrypted payload
 unfoldable pub sk_words : SkValue → List (List ℕ)

@@ -1,4 +1,5 @@
-//! The text of an IKE message: what its octets are, or where and why they are refused, and a line for each payload.
+//! The text of an IKE message: what its octets are, or where and why they are refused, and a line
+//! for each payload.
 #![tactic(auto)]
 
 mod message;

@@ -33,7 +33,8 @@ fn put_header_words(alloc: Global, out: &mut Octets, header: &Header) -> Result<
 
 #[tactic(auto, using(line_fields::proofs::WritingLaws::line_put))]
 fn put_header(alloc: Global, out: &mut Octets, header: &Header) -> Result<(), Memory>
-    ensures { OnOk result (out.new.octets ≡ out.old.octets ++ line_text (codes "ok" ∷ header_words header.now)) }
+    ensures { OnOk result (out.new.octets ≡ out.old.octets
+        ++ line_text (codes "ok" ∷ header_words header.now)) }
 {
     out.extend(b"ok")?;
     put_header_words(alloc, out, header)?;
@@ -42,7 +43,8 @@ fn put_header(alloc: Global, out: &mut Octets, header: &Header) -> Result<(), Me
 
 fn put_payloads(alloc: Global, out: &mut Octets, payloads: &[Payload]) -> Result<(), Memory>
     requires { AreValid false (map payload_value payloads.now) }
-    ensures { OnOk result (out.new.octets ≡ out.old.octets ++ flat_map payload_text (map payload_value payloads.now)) }
+    ensures { OnOk result (out.new.octets ≡ out.old.octets
+        ++ flat_map payload_text (map payload_value payloads.now)) }
 {
     let mut rest = payloads;
     while let [first, others @ ..] = rest {
@@ -82,7 +84,8 @@ fn put_reason(alloc: Global, out: &mut Octets, reason: Reason) -> Result<(), Mem
 
 #[tactic(auto, unfolding(crate::specs::Shown::bad_words))]
 fn put_bad_words(alloc: Global, out: &mut Octets, bad: Bad) -> Result<(), Memory>
-    ensures { OnOk result (out.new.octets ≡ with_words out.old.octets (bad_words bad.place bad.reason)) }
+    ensures { OnOk result (out.new.octets ≡ with_words out.old.octets
+        (bad_words bad.place bad.reason)) }
 {
     put_number(alloc, out, bad.place as u64)?;
     put_reason(alloc, out, bad.reason)
@@ -117,13 +120,15 @@ fn put_message(alloc: Global, out: &mut Octets, octets: &[u8]) -> Result<(), Mem
     out.extend(text.as_slice())
 }
 
-/// Appends the text of the message that the octets spell (RFC 7296, section 3): a line for its header and one for each
-/// payload, or one line for the first fault. An error is want of memory.
+/// Appends the text of the message that the octets spell (RFC 7296, section 3): a line for its
+/// header and one for each payload, or one line for the first fault. An error is want of memory.
 pub fn write_message(alloc: Global, octets: &[u8], out: &mut Octets) -> Result<(), Memory>
     // The text is that of the one message that the octets spell.
-    ensures ok { (message : Message) → IsMessage message octets.now → OnOk result (out.new.octets ≡ out.old.octets ++ message_text message) }
+    ensures ok { (message : Message) → IsMessage message octets.now
+        → OnOk result (out.new.octets ≡ out.old.octets ++ message_text message) }
     // It is that of the one place and reason at which they are refused.
-    ensures bad { (place : ℕ) (reason : Reason) → MessageRefused octets.now place reason → OnOk result (out.new.octets ≡ out.old.octets ++ bad_text place reason) }
+    ensures bad { (place : ℕ) (reason : Reason) → MessageRefused octets.now place reason
+        → OnOk result (out.new.octets ≡ out.old.octets ++ bad_text place reason) }
     // They are one of the two.
     ensures shown { OnOk result (out.new.octets ≡ out.old.octets ++ shown octets.now) }
     ensures err { OnErr result (out.new.octets ≡ out.old.octets) }

@@ -18,7 +18,8 @@ use word_text::{put_number, put_octets};
 
 #[tactic(auto, unfolding(crate::specs::Shown::notify_words))]
 fn put_notify_words(alloc: Global, out: &mut Octets, notify: &NotifyBody) -> Result<(), Memory>
-    ensures { OnOk result (out.new.octets ≡ with_words out.old.octets (notify_words (notify_value notify.now))) }
+    ensures { OnOk result (out.new.octets ≡ with_words out.old.octets
+        (notify_words (notify_value notify.now))) }
 {
     put_number(alloc, out, u64::from(notify.protocol))?;
     put_octets(alloc, out, notify.spi.as_slice())?;
@@ -28,7 +29,8 @@ fn put_notify_words(alloc: Global, out: &mut Octets, notify: &NotifyBody) -> Res
 
 #[tactic(auto, using(line_fields::proofs::WritingLaws::line_put))]
 fn put_notify(alloc: Global, out: &mut Octets, notify: &NotifyBody) -> Result<(), Memory>
-    ensures { OnOk result (out.new.octets ≡ out.old.octets ++ line_text (codes "notify" ∷ notify_words (notify_value notify.now))) }
+    ensures { OnOk result (out.new.octets ≡ out.old.octets
+        ++ line_text (codes "notify" ∷ notify_words (notify_value notify.now))) }
 {
     out.extend(b"notify")?;
     put_notify_words(alloc, out, notify)?;
@@ -47,7 +49,8 @@ fn body_of(alloc: Global, payload: &Payload) -> Result<Octets, Memory>
 // A number, and the body.
 fn put_body(alloc: Global, out: &mut Octets, number: u8, payload: &Payload) -> Result<(), Memory>
     requires { FitsBody (payload_value payload.now) }
-    ensures { OnOk result (out.new.octets ≡ with_words out.old.octets (decimal number ∷ octets_text (body_written (payload_value payload.now)) ∷ [])) }
+    ensures { OnOk result (out.new.octets ≡ with_words out.old.octets
+        (decimal number ∷ octets_text (body_written (payload_value payload.now)) ∷ [])) }
 {
     let body = body_of(alloc, payload)?;
     put_number(alloc, out, u64::from(number))?;
@@ -63,7 +66,9 @@ fn put_other(
     payload: &Payload,
 ) -> Result<(), Memory>
     requires { FitsBody (payload_value payload.now) }
-    ensures { OnOk result (out.new.octets ≡ out.old.octets ++ line_text (word.now ∷ decimal number ∷ octets_text (body_written (payload_value payload.now)) ∷ [])) }
+    ensures { OnOk result (out.new.octets ≡ out.old.octets
+        ++ line_text (word.now ∷ decimal number
+        ∷ octets_text (body_written (payload_value payload.now)) ∷ [])) }
 {
     out.extend(word)?;
     put_body(alloc, out, number, payload)?;
@@ -74,7 +79,8 @@ fn put_other(
 #[tactic(auto, unfolding(crate::specs::Shown::body_words, crate::specs::Shown::sk_words))]
 pub(crate) fn put_payload(alloc: Global, out: &mut Octets, payload: &Payload) -> Result<(), Memory>
     requires { FitsBody (payload_value payload.now) }
-    ensures { OnOk result (out.new.octets ≡ out.old.octets ++ payload_text (payload_value payload.now)) }
+    ensures { OnOk result (out.new.octets ≡ out.old.octets
+        ++ payload_text (payload_value payload.now)) }
 {
     match payload {
         Payload::Notify(notify) => put_notify(alloc, out, notify),

@@ -15,22 +15,27 @@ IsLatestFirst (moment ∷ earlier) = All (λ other. other ≤ moment) earlier ×
 abbrev pub KeptFollowsDecide : Type 0
 KeptFollowsDecide =
     (follows : List ℕ) (now : ℕ) (asked : Asked) (nonce : List ℕ) (decision : Decision) →
-    IsLatestFirst follows → IsDecision (kept_of follows) now asked nonce decision → IsDecision follows now asked nonce decision
+    IsLatestFirst follows → IsDecision (kept_of follows) now asked nonce decision
+    → IsDecision follows now asked nonce decision
 
 abbrev pub DecisionIsUnique : Type 0
 DecisionIsUnique =
     (follows : List ℕ) (now : ℕ) (asked : Asked) (nonce : List ℕ) (first second : Decision) →
-    IsDecision follows now asked nonce first → IsDecision follows now asked nonce second → first ≡ second
+    IsDecision follows now asked nonce first → IsDecision follows now asked nonce second
+    → first ≡ second
 
 abbrev pub FollowingAddsTheMoment : Type 0
-FollowingAddsTheMoment = (follows : List ℕ) (now : ℕ) → kept_of (now ∷ kept_of follows) ≡ kept_of (now ∷ follows)
+FollowingAddsTheMoment = (follows : List ℕ) (now : ℕ)
+    → kept_of (now ∷ kept_of follows) ≡ kept_of (now ∷ follows)
 
 abbrev pub FollowingKeepsTheOrder : Type 0
 FollowingKeepsTheOrder =
-    (follows : List ℕ) (now : ℕ) → IsLatestFirst follows → All (λ moment. moment ≤ now) (kept_of follows) → IsLatestFirst (now ∷ follows)
+    (follows : List ℕ) (now : ℕ) → IsLatestFirst follows
+    → All (λ moment. moment ≤ now) (kept_of follows) → IsLatestFirst (now ∷ follows)
 
 -- so what is written for a gateway and a nonce is read as these
 abbrev pub ReadingIsUnique : Type 0
 ReadingIsUnique =
     (first second : GatewayId) (nonce other octets : List ℕ) →
-    SpellsRedirect first nonce octets → SpellsRedirect second other octets → (first ≡ second) × (nonce ≡ other)
+    SpellsRedirect first nonce octets → SpellsRedirect second other octets
+    → (first ≡ second) × (nonce ≡ other)

@@ -7,7 +7,8 @@ use Rattle.ha_base.specs.declared.identities.GatewayId.{GatewayId}
 abbrev pub IsGateway : GatewayId → Type 0
 IsGateway gateway = HasSize gateway_forms gateway.kind (length gateway.octets)
 
--- the octets are the type of the gateway's identity, its length, the identity, and the nonce, which takes up the rest
+-- the octets are the type of the gateway's identity, its length, the identity, and the nonce, which
+-- takes up the rest
 pub record SpellsRedirect (gateway : GatewayId) (nonce octets : List ℕ) : Type 0 where
   pub octets_are : octets ≡ gateway.kind ∷ length gateway.octets ∷ gateway.octets ++ nonce
   pub size : IsGateway gateway

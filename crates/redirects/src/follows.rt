@@ -51,8 +51,10 @@ impl Follows {
     /// Follows a redirect, where it makes no loop.
     fn follow_unless_loop(&mut self, now: u64) -> Decision
         requires { All (λ moment. moment ≤ now) self.old }
-        ensures { (IsLoop self.old now × (result ≡ Decision.Loop MAX_REDIRECTS) × (self.new ≡ self.old))
-            ⊎ ((¬ IsLoop self.old now) × (result ≡ Decision.Follow) × (self.new ≡ kept_of (now ∷ self.old))) }
+        ensures { (IsLoop self.old now × (result ≡ Decision.Loop MAX_REDIRECTS)
+            × (self.new ≡ self.old))
+            ⊎ ((¬ IsLoop self.old now) × (result ≡ Decision.Follow)
+            × (self.new ≡ kept_of (now ∷ self.old))) }
     {
         if self.recent(now) >= MAX_REDIRECTS {
             return Decision::Loop(MAX_REDIRECTS);
@@ -74,8 +76,9 @@ impl Follows {
 
 /// Decides whether a redirect is followed now, and keeps the moment where it is.
 ///
-/// `asked` is what it answers, and `nonce` is the nonce that it carries, which counts only where it answers a request
-/// to resume. No follow of the history may be later than `now`. It takes no memory.
+/// `asked` is what it answers, and `nonce` is the nonce that it carries, which counts only where it
+/// answers a request to resume. No follow of the history may be later than `now`. It takes no
+/// memory.
 pub fn follow(history: &mut Follows, now: Moment, asked: Asked, nonce: &[u8]) -> Decision
     requires { All (λ moment. moment ≤ now.0) history.old }
     ensures decision { IsDecision history.old now.0 asked nonce.now result }

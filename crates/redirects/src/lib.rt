@@ -1,7 +1,8 @@
 //! Redirects of IKEv2 (RFC 5685): what a REDIRECT notification says, and whether it is followed.
 //!
-//! [`redirect_octets`] writes the data of a notification, and [`redirect_of`] reads them. [`follow`] decides by the nonce
-//! that came and by the moments at which redirects were followed, of which [`Follows`] keeps the last five.
+//! [`redirect_octets`] writes the data of a notification, and [`redirect_of`] reads them.
+//! [`follow`] decides by the nonce that came and by the moments at which redirects were followed,
+//! of which [`Follows`] keeps the last five.
 #![tactic(auto)]
 
 mod asked;

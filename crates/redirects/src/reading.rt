@@ -5,12 +5,15 @@ ghost use Rattle.redirects.specs.Notifications.{HasRedirect, SpellsRedirect};
 use ha_base::{GatewayId, Memory, OctetArray, Octets, gateway_forms, has_size};
 use std::alloc::Global;
 
-/// The gateway that the data of a REDIRECT notification name, and the nonce behind it (RFC 5685, section 9.2).
+/// The gateway that the data of a REDIRECT notification name, and the nonce behind it (RFC 5685,
+/// section 9.2).
 ///
-/// None comes exactly where the data are no identity of a gateway with its length: IPv4 has 4 octets, IPv6 16, and
-/// FQDN 1 to 255. The nonce is all that follows, of any length. An error is want of memory for it.
+/// None comes exactly where the data are no identity of a gateway with its length: IPv4 has 4
+/// octets, IPv6 16, and FQDN 1 to 255. The nonce is all that follows, of any length. An error is
+/// want of memory for it.
 pub fn redirect_of(alloc: Global, octets: &[u8]) -> Result<Option<(GatewayId, Octets)>, Memory>
-    ensures redirect { IfOk result (λ read. IfSome read (λ redirect. SpellsRedirect redirect.0 redirect.1.octets octets.now)) }
+    ensures redirect { IfOk result (λ read. IfSome read
+        (λ redirect. SpellsRedirect redirect.0 redirect.1.octets octets.now)) }
     ensures none { IfOk result (λ read. IfNone read (¬ HasRedirect octets.now)) }
     ensures memory { OnErr result (HasRedirect octets.now) }
 {
@@ -24,7 +27,8 @@ pub fn redirect_of(alloc: Global, octets: &[u8]) -> Result<Option<(GatewayId, Oc
 
 /// The gateway and the nonce that the octets spell.
 fn parts_of(octets: &[u8]) -> Option<(GatewayId, &[u8])>
-    ensures { MatchOption result (¬ HasRedirect octets.now) (λ parts. SpellsRedirect parts.0 parts.1.now octets.now) }
+    ensures { MatchOption result (¬ HasRedirect octets.now)
+        (λ parts. SpellsRedirect parts.0 parts.1.now octets.now) }
 {
     let (kind, behind) = octets.split_first()?;
     let (len, behind) = behind.split_first()?;

@@ -1,5 +1,5 @@
-//! The command `replay`: with `run` it plays an event file from standard input, and writes the report to standard output; with
-//! `show` it reads IKE messages, and writes what each says.
+//! The command `replay`: with `run` it plays an event file from standard input, and writes the
+//! report to standard output; with `show` it reads IKE messages, and writes what each says.
 #![tactic(auto)]
 
 use ha_base::{Service, StdSink, StdSource, TallyService, are_fresh};
@@ -13,7 +13,8 @@ use std::process::ExitCode;
 /// How many members a run has services for.
 const MEMBERS: usize = 64;
 
-// The words of the command line. Words that can't be read for another cause than memory are taken as no words.
+// The words of the command line. Words that can't be read for another cause than memory are taken
+// as no words.
 fn words(rt: &HostRuntime) -> Result<Vec<String>, AllocError> {
     let mut words = Vec::new(rt.alloc());
     let args = match env::args(rt) {

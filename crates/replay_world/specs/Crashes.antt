@@ -12,7 +12,8 @@ abbrev pub ended_last : List Turn → Option ℕ
 ended_last [] = None
 ended_last (turn ∷ past) = ended_in turn
 
--- the services that are left: a member that ends drops its own, which stood at its place, counted from 1
+-- the services that are left: a member that ends drops its own, which stood at its place, counted
+-- from 1
 abbrev pub services_after : {B : Type 0} → Option ℕ → List (Option B) → List (Option B)
 services_after None services = services
 services_after (Some member) services = slice_set services (member - 1) None

@@ -30,10 +30,12 @@ titles (turn ∷ past) = titles past ++ title turn ∷ []
 abbrev pub prefixed : List (Moment × PlainEvent) → Contents → Contents
 prefixed events rest = record { events = events ++ rest.events; fault = rest.fault }
 
--- What an input was played as: the trace has one turn for each of its events up to its first fault, where it has one, each
--- explained by those before it, and the text is the report of the trace. given: what the services may give in a trace;
--- asked: which calls were asked of the keeper.
-pub record IsPlayed (given : List Turn → Type 0) (asked : List Call → Type 0) (boxes : ℕ) (input : List ℕ) (fault : Option InputFault) (text : List ℕ) (book now_book : Option Book) (faults now_faults : ℕ) : Type 0 where
+-- What an input was played as: the trace has one turn for each of its events up to its first fault,
+-- where it has one, each explained by those before it, and the text is the report of the trace.
+-- given: what the services may give in a trace; asked: which calls were asked of the keeper.
+pub record IsPlayed (given : List Turn → Type 0) (asked : List Call → Type 0) (boxes : ℕ)
+    (input : List ℕ) (fault : Option InputFault) (text : List ℕ) (book now_book : Option Book)
+    (faults now_faults : ℕ) : Type 0 where
   pub trace : List Turn
   pub events : contents_of input ≡ record { events = titles trace; fault = fault }
   pub written : text ≡ report trace
@@ -53,9 +55,11 @@ pub record IsPlayed (given : List Turn → Type 0) (asked : List Call → Type 0
   -- a call failed only where the keeper's count of faults rose
   pub caused : CausedSince faults now_faults trace
 
--- an input was read, to its end or until it was too long to be one, and what was written is the report of what it was
--- played as
-pub record Completes (given : List Turn → Type 0) (asked : List Call → Type 0) (boxes : ℕ) (left still_left written now_written : Option (List ℕ)) (book now_book : Option Book) (faults now_faults : ℕ) (fault : Option InputFault) : Type 0 where
+-- an input was read, to its end or until it was too long to be one, and what was written is the
+-- report of what it was played as
+pub record Completes (given : List Turn → Type 0) (asked : List Call → Type 0) (boxes : ℕ)
+    (left still_left written now_written : Option (List ℕ)) (book now_book : Option Book)
+    (faults now_faults : ℕ) (fault : Option InputFault) : Type 0 where
   pub input : List ℕ
   pub text : List ℕ
   pub read : Consumes left still_left input
@@ -66,7 +70,9 @@ pub record Completes (given : List Turn → Type 0) (asked : List Call → Type 
   pub wrote : Appends written now_written text
 
 -- the same, but of what was to be written only a front was
-pub record BreaksOff (given : List Turn → Type 0) (asked : List Call → Type 0) (boxes : ℕ) (left still_left written now_written : Option (List ℕ)) (book now_book : Option Book) (faults now_faults : ℕ) : Type 0 where
+pub record BreaksOff (given : List Turn → Type 0) (asked : List Call → Type 0) (boxes : ℕ)
+    (left still_left written now_written : Option (List ℕ)) (book now_book : Option Book)
+    (faults now_faults : ℕ) : Type 0 where
   pub input : List ℕ
   pub text : List ℕ
   pub fault : Option InputFault

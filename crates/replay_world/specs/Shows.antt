@@ -7,9 +7,10 @@ use Rattle.ha_base.specs.Faults.{AppendsFront}
 use Rattle.show_messages.specs.Messages.{messages_of}
 use Rattle.show_messages.specs.Shows.{shown_all}
 
--- an input was read, to its end or until it was too long to be one, and what was written is the text of its messages up to
--- its first fault, where it has one
-pub record ShowsAll (left still_left written now_written : Option (List ℕ)) (fault : Option InputFault) : Type 0 where
+-- an input was read, to its end or until it was too long to be one, and what was written is the
+-- text of its messages up to its first fault, where it has one
+pub record ShowsAll (left still_left written now_written : Option (List ℕ))
+    (fault : Option InputFault) : Type 0 where
   pub input : List ℕ
   pub read : Consumes left still_left input
   pub whole : IsAtEnd still_left ⊎ (INPUT_OCTETS < length input)

@@ -14,5 +14,6 @@ abbrev pub peer_service_of : {X : Type 0} {F : X → Type 0} → World X F → D
 peer_service_of world = world.peer_service
 
 -- those of the members, the n-th of the member that joined as the n-th, until it ends
-abbrev pub services_of : {X : Type 0} {F : X → Type 0} → World X F → List (Option (DynBox X Global F))
+abbrev pub services_of : {X : Type 0} {F : X → Type 0} → World X F
+    → List (Option (DynBox X Global F))
 services_of world = world.services.items

@@ -29,8 +29,10 @@ impl From<Memory> for Unread {
 
 /// Reads an input to its end, or until it has more octets than one may have.
 pub(crate) fn read_input<S: Source>(alloc: Global, source: &mut S) -> Result<Octets, Unread>
-    ensures read { IfOk result (λ input. Consumes (S.left source.old) (S.left source.new) input.octets) }
-    ensures whole { IfOk result (λ input. IsAtEnd (S.left source.new) ⊎ (INPUT_OCTETS < length input.octets)) }
+    ensures read { IfOk result (λ input. Consumes (S.left source.old)
+        (S.left source.new) input.octets) }
+    ensures whole { IfOk result (λ input. IsAtEnd (S.left source.new)
+        ⊎ (INPUT_OCTETS < length input.octets)) }
     ensures bounded { IfOk result (λ input. length input.octets ≤ INPUT_OCTETS + PIECE_OCTETS) }
     ensures later { S.faults source.old ≤ S.faults source.new }
     ensures none { OnOk result (S.faults source.new ≡ S.faults source.old) }

@@ -1,4 +1,5 @@
-//! A run: the members of a cluster, the peer, and the trace of what they did; and the top call that plays an event file.
+//! A run: the members of a cluster, the peer, and the trace of what they did; and the top call that
+//! plays an event file.
 #![tactic(auto)]
 
 mod input;

@@ -24,7 +24,8 @@ pub(crate) struct Played {
     pub fault: Option<InputFault>,
 }
 
-// Plays events up to the end of the input, or up to its first fault, which is answered, and appends their turns' text.
+// Plays events up to the end of the input, or up to its first fault, which is answered, and appends
+// their turns' text.
 fn play_events<K: Keeper>(
     alloc: Global,
     reader: &mut EventReader,
@@ -35,7 +36,8 @@ fn play_events<K: Keeper>(
     requires told { told_calls keeper.old ≡ Some [] }
     requires local { Local world.old.ends.boxes world.old.ends.past }
     ensures held { K.held keeper.new.keeper ≡ K.held keeper.old.keeper }
-    ensures events { IfOk result (λ fault. prefixed (titles world.old.ends.past) (left_contents reader.old)
+    ensures events { IfOk result (λ fault. prefixed (titles world.old.ends.past)
+        (left_contents reader.old)
         ≡ record { events = titles world.new.ends.past; fault = fault }) }
     ensures text { (head : List ℕ) → report.old.octets ≡ head ++ turns_text world.old.ends.past
         → OnOk result (report.new.octets ≡ head ++ turns_text world.new.ends.past) }
@@ -43,9 +45,11 @@ fn play_events<K: Keeper>(
     ensures local { Local world.new.ends.boxes world.new.ends.past }
     ensures stands { StandsTold world.old.ends.past (K.book keeper.old.keeper)
         → OnOk result (StandsTold world.new.ends.past (K.book keeper.new.keeper)) }
-    ensures caused { (start : ℕ) → CausedSince start (K.faults keeper.old.keeper) world.old.ends.past
+    ensures caused { (start : ℕ) → CausedSince start
+        (K.faults keeper.old.keeper) world.old.ends.past
         → OnOk result (CausedSince start (K.faults keeper.new.keeper) world.new.ends.past) }
-    ensures asks { (start : K) → AsksAsSeen K.Keeper start (calls_of world.old.ends.past) keeper.old.keeper
+    ensures asks { (start : K) → AsksAsSeen K.Keeper start
+        (calls_of world.old.ends.past) keeper.old.keeper
         → OnOk result (AsksAsSeen K.Keeper start (calls_of world.new.ends.past) keeper.new.keeper) }
 {
     loop {
@@ -61,7 +65,8 @@ fn play_events<K: Keeper>(
     }
 }
 
-// Plays the events of an input up to its end, or up to its first fault, which is answered, and appends their turns' text.
+// Plays the events of an input up to its end, or up to its first fault, which is answered, and
+// appends their turns' text.
 fn play_input<K: Keeper>(
     alloc: Global,
     input: &[u8],
@@ -72,11 +77,14 @@ fn play_input<K: Keeper>(
     requires told { told_calls keeper.old ≡ Some [] }
     requires begun { world.old.ends.past ≡ [] }
     ensures held { K.held keeper.new.keeper ≡ K.held keeper.old.keeper }
-    ensures events { IfOk result (λ fault. contents_of input.now ≡ record { events = titles world.new.ends.past; fault = fault }) }
-    ensures text { (head : List ℕ) → report.old.octets ≡ head ++ turns_text [] → OnOk result (report.new.octets ≡ head ++ turns_text world.new.ends.past) }
+    ensures events { IfOk result (λ fault. contents_of input.now
+        ≡ record { events = titles world.new.ends.past; fault = fault }) }
+    ensures text { (head : List ℕ) → report.old.octets ≡ head ++ turns_text []
+        → OnOk result (report.new.octets ≡ head ++ turns_text world.new.ends.past) }
     ensures boxes { world.new.ends.boxes ≡ world.old.ends.boxes }
     ensures local { OnOk result (Local world.new.ends.boxes world.new.ends.past) }
-    ensures stands { StandsTold [] (K.book keeper.old.keeper) → OnOk result (StandsTold world.new.ends.past (K.book keeper.new.keeper)) }
+    ensures stands { StandsTold [] (K.book keeper.old.keeper)
+        → OnOk result (StandsTold world.new.ends.past (K.book keeper.new.keeper)) }
     ensures caused { (start : ℕ) → CausedSince start (K.faults keeper.old.keeper) []
         → OnOk result (CausedSince start (K.faults keeper.new.keeper) world.new.ends.past) }
     ensures asks { (start : K) → AsksAsSeen K.Keeper start [] keeper.old.keeper
@@ -101,11 +109,13 @@ pub(crate) fn play<K: Keeper>(
     requires told { told_calls keeper.old ≡ Some [] }
     requires begun { world.old.ends.past ≡ [] }
     ensures held { K.held keeper.new.keeper ≡ K.held keeper.old.keeper }
-    ensures events { IfOk result (λ played. contents_of input.now ≡ record { events = titles world.new.ends.past; fault = played.fault }) }
+    ensures events { IfOk result (λ played. contents_of input.now
+        ≡ record { events = titles world.new.ends.past; fault = played.fault }) }
     ensures text { IfOk result (λ played. played.report.octets ≡ report world.new.ends.past) }
     ensures boxes { world.new.ends.boxes ≡ world.old.ends.boxes }
     ensures local { OnOk result (Local world.new.ends.boxes world.new.ends.past) }
-    ensures stands { StandsTold [] (K.book keeper.old.keeper) → OnOk result (StandsTold world.new.ends.past (K.book keeper.new.keeper)) }
+    ensures stands { StandsTold [] (K.book keeper.old.keeper)
+        → OnOk result (StandsTold world.new.ends.past (K.book keeper.new.keeper)) }
     ensures caused { (start : ℕ) → CausedSince start (K.faults keeper.old.keeper) []
         → OnOk result (CausedSince start (K.faults keeper.new.keeper) world.new.ends.past) }
     ensures asks { (start : K) → AsksAsSeen K.Keeper start [] keeper.old.keeper
@@ -128,9 +138,12 @@ fn play_run<K: Keeper>(
 ) -> Result<Played, Memory>
     requires told { told_calls keeper.old ≡ Some [] }
     ensures held { K.held keeper.new.keeper ≡ K.held keeper.old.keeper }
-    ensures played { IfOk result (λ played. IsPlayed (AreGiven gives (service_of peer_service services.items))
-        (λ calls. AsksAsSeen K.Keeper keeper.old.keeper calls keeper.new.keeper) (vec_len services) input.now played.fault played.report.octets
-        (K.book keeper.old.keeper) (K.book keeper.new.keeper) (K.faults keeper.old.keeper) (K.faults keeper.new.keeper)) }
+    ensures played { IfOk result (λ played. IsPlayed
+        (AreGiven gives (service_of peer_service services.items))
+        (λ calls. AsksAsSeen K.Keeper keeper.old.keeper calls keeper.new.keeper)
+        (vec_len services) input.now played.fault played.report.octets
+        (K.book keeper.old.keeper) (K.book keeper.new.keeper) (K.faults keeper.old.keeper)
+        (K.faults keeper.new.keeper)) }
 {
     nothing_is_executed();
     runs_are_safe();
@@ -148,7 +161,8 @@ pub(crate) fn play_file<K: Keeper>(
     services: Vec<Box<dyn Service>>,
 ) -> Result<Played, Memory>
     ensures held { K.held keeper.new ≡ K.held keeper.old }
-    ensures played { IfOk result (λ played. IsPlayed (AreGiven gives (service_of peer_service services.items))
+    ensures played { IfOk result (λ played. IsPlayed
+        (AreGiven gives (service_of peer_service services.items))
         (λ calls. AsksAsSeen K.Keeper keeper.old calls keeper.new) (vec_len services)
         input.now.octets played.fault played.report.octets
         (K.book keeper.old) (K.book keeper.new) (K.faults keeper.old) (K.faults keeper.new)) }

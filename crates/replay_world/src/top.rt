@@ -94,10 +94,12 @@ fn complain<D: Sink>(diag: &mut D, line: &[u8], status: Status) -> Status
 
 // Says where the input is faulty, and why.
 fn name_line<D: Sink>(alloc: Global, diag: &mut D, fault: InputFault) -> Status
-    ensures status { result ≡ Status.FaultyLine ⊎ (result ≡ Status.Memory ⊎ result ≡ Status.WriteFault) }
+    ensures status { result ≡ Status.FaultyLine ⊎ (result ≡ Status.Memory
+        ⊎ result ≡ Status.WriteFault) }
     ensures none { result ≡ Status.FaultyLine → D.faults diag.new ≡ D.faults diag.old }
     ensures failed { result ≡ Status.WriteFault → Rose (D.faults diag.old) (D.faults diag.new) }
-    ensures says { result ≡ Status.FaultyLine → Appends (D.written diag.old) (D.written diag.new) (fault_line fault) }
+    ensures says { result ≡ Status.FaultyLine → Appends (D.written diag.old) (D.written diag.new)
+        (fault_line fault) }
 {
     let mut text = Octets::new(alloc);
     if write_fault(alloc, fault, &mut text).is_err() {
@@ -115,13 +117,17 @@ fn input_of<S: Source, D: Sink>(
     source: &mut S,
     diag: &mut D,
 ) -> Result<Octets, Status>
-    ensures read { IfOk result (λ input. Consumes (S.left source.old) (S.left source.new) input.octets) }
-    ensures whole { IfOk result (λ input. IsAtEnd (S.left source.new) ⊎ (INPUT_OCTETS < length input.octets)) }
+    ensures read { IfOk result (λ input. Consumes (S.left source.old)
+        (S.left source.new) input.octets) }
+    ensures whole { IfOk result (λ input. IsAtEnd (S.left source.new)
+        ⊎ (INPUT_OCTETS < length input.octets)) }
     ensures bounded { IfOk result (λ input. length input.octets ≤ INPUT_OCTETS + PIECE_OCTETS) }
     ensures none { OnOk result (S.faults source.new ≡ S.faults source.old) }
     ensures quiet { OnOk result (diag.new ≡ diag.old) }
-    ensures status { IfErr result (λ status. (status ≡ Status.Memory) ⊎ (status ≡ Status.ReadFault)) }
-    ensures failed { IfErr result (λ status. status ≡ Status.ReadFault → Rose (S.faults source.old) (S.faults source.new)) }
+    ensures status { IfErr result (λ status. (status ≡ Status.Memory)
+        ⊎ (status ≡ Status.ReadFault)) }
+    ensures failed { IfErr result (λ status. status ≡ Status.ReadFault
+        → Rose (S.faults source.old) (S.faults source.new)) }
 {
     match read_input(alloc, source) {
         Ok(input) => Ok(input),
@@ -141,7 +147,8 @@ fn put_output<O: Sink, D: Sink>(
 ) -> Status
     ensures no_words { result ≢ Status.Words }
     ensures no_read { result ≢ Status.ReadFault }
-    ensures none_failed { AtEnd result ((O.faults out.new ≡ O.faults out.old) × (D.faults diag.new ≡ D.faults diag.old)) }
+    ensures none_failed { AtEnd result ((O.faults out.new ≡ O.faults out.old)
+        × (D.faults diag.new ≡ D.faults diag.old)) }
     ensures write_fault { result ≡ Status.WriteFault → Rose (O.faults out.old) (O.faults out.new)
         ⊎ Rose (D.faults diag.old) (D.faults diag.new) }
     ensures wrote { AtEnd result (Appends (O.written out.old) (O.written out.new) text.now.octets) }
@@ -174,28 +181,40 @@ fn run_command<S: Source, O: Sink, D: Sink, K: Keeper>(
     requires services { AllByRecursion (λ service. count service ≡ 0) services.items }
     ensures command { result ≢ Status.Words }
     ensures held { K.held keeper.new ≡ K.held keeper.old }
-    ensures none_failed { AtEnd result ((S.faults source.new ≡ S.faults source.old) × (O.faults out.new ≡ O.faults out.old)
+    ensures none_failed { AtEnd result ((S.faults source.new ≡ S.faults source.old)
+        × (O.faults out.new ≡ O.faults out.old)
         × (D.faults diag.new ≡ D.faults diag.old)) }
-    ensures read_fault { result ≡ Status.ReadFault → Rose (S.faults source.old) (S.faults source.new) }
+    ensures read_fault { result ≡ Status.ReadFault
+        → Rose (S.faults source.old) (S.faults source.new) }
     ensures write_fault { result ≡ Status.WriteFault → Rose (O.faults out.old) (O.faults out.new)
         ⊎ Rose (D.faults diag.old) (D.faults diag.new) }
-    ensures done { result ≡ Status.Done → Completes (AreGiven gives (service_of peer_service services.items)) (λ calls. AsksAsSeen K.Keeper keeper.old calls keeper.new)
-        (vec_len services) (S.left source.old) (S.left source.new) (O.written out.old) (O.written out.new) (K.book keeper.old) (K.book keeper.new)
+    ensures done { result ≡ Status.Done → Completes
+        (AreGiven gives (service_of peer_service services.items))
+        (λ calls. AsksAsSeen K.Keeper keeper.old calls keeper.new)
+        (vec_len services) (S.left source.old) (S.left source.new) (O.written out.old)
+        (O.written out.new) (K.book keeper.old) (K.book keeper.new)
         (K.faults keeper.old) (K.faults keeper.new) None }
-    ensures faulty { result ≡ Status.FaultyLine → (fault : InputFault) × Completes (AreGiven gives (service_of peer_service services.items)) (λ calls. AsksAsSeen K.Keeper keeper.old calls keeper.new)
-        (vec_len services) (S.left source.old) (S.left source.new) (O.written out.old) (O.written out.new) (K.book keeper.old) (K.book keeper.new)
+    ensures faulty { result ≡ Status.FaultyLine → (fault : InputFault)
+        × Completes (AreGiven gives (service_of peer_service services.items))
+        (λ calls. AsksAsSeen K.Keeper keeper.old calls keeper.new)
+        (vec_len services) (S.left source.old) (S.left source.new) (O.written out.old)
+        (O.written out.new) (K.book keeper.old) (K.book keeper.new)
         (K.faults keeper.old) (K.faults keeper.new) (Some fault)
         × Appends (D.written diag.old) (D.written diag.new) (fault_line fault) }
     ensures quiet { result ≡ Status.Done → diag.new ≡ diag.old }
     ensures nothing { result ≡ Status.ReadFault → Keeps (O.written out.old) (O.written out.new) }
     ensures unplayed { result ≡ Status.ReadFault → keeper.new ≡ keeper.old }
     ensures no_memory { result ≡ Status.Memory → Keeps (O.written out.old) (O.written out.new)
-        ⊎ BreaksOff (AreGiven gives (service_of peer_service services.items)) (λ calls. AsksAsSeen K.Keeper keeper.old calls keeper.new)
-        (vec_len services) (S.left source.old) (S.left source.new) (O.written out.old) (O.written out.new)
+        ⊎ BreaksOff (AreGiven gives (service_of peer_service services.items))
+        (λ calls. AsksAsSeen K.Keeper keeper.old calls keeper.new)
+        (vec_len services) (S.left source.old) (S.left source.new) (O.written out.old)
+        (O.written out.new)
         (K.book keeper.old) (K.book keeper.new) (K.faults keeper.old) (K.faults keeper.new) }
     ensures front { result ≡ Status.WriteFault
-        → BreaksOff (AreGiven gives (service_of peer_service services.items)) (λ calls. AsksAsSeen K.Keeper keeper.old calls keeper.new)
-        (vec_len services) (S.left source.old) (S.left source.new) (O.written out.old) (O.written out.new)
+        → BreaksOff (AreGiven gives (service_of peer_service services.items))
+        (λ calls. AsksAsSeen K.Keeper keeper.old calls keeper.new)
+        (vec_len services) (S.left source.old) (S.left source.new) (O.written out.old)
+        (O.written out.new)
         (K.book keeper.old) (K.book keeper.new) (K.faults keeper.old) (K.faults keeper.new) }
 {
     let input = match input_of(alloc, source, diag) {
@@ -216,20 +235,26 @@ fn show_command<S: Source, O: Sink, D: Sink>(
     diag: &mut D,
 ) -> Status
     ensures command { result ≢ Status.Words }
-    ensures none_failed { AtEnd result ((S.faults source.new ≡ S.faults source.old) × (O.faults out.new ≡ O.faults out.old)
+    ensures none_failed { AtEnd result ((S.faults source.new ≡ S.faults source.old)
+        × (O.faults out.new ≡ O.faults out.old)
         × (D.faults diag.new ≡ D.faults diag.old)) }
-    ensures read_fault { result ≡ Status.ReadFault → Rose (S.faults source.old) (S.faults source.new) }
+    ensures read_fault { result ≡ Status.ReadFault
+        → Rose (S.faults source.old) (S.faults source.new) }
     ensures write_fault { result ≡ Status.WriteFault → Rose (O.faults out.old) (O.faults out.new)
         ⊎ Rose (D.faults diag.old) (D.faults diag.new) }
-    ensures done { result ≡ Status.Done → ShowsAll (S.left source.old) (S.left source.new) (O.written out.old) (O.written out.new) None }
+    ensures done { result ≡ Status.Done → ShowsAll (S.left source.old) (S.left source.new)
+        (O.written out.old) (O.written out.new) None }
     ensures faulty { result ≡ Status.FaultyLine → (fault : InputFault)
-        × ShowsAll (S.left source.old) (S.left source.new) (O.written out.old) (O.written out.new) (Some fault)
+        × ShowsAll (S.left source.old) (S.left source.new) (O.written out.old) (O.written out.new)
+        (Some fault)
         × Appends (D.written diag.old) (D.written diag.new) (fault_line fault) }
     ensures quiet { result ≡ Status.Done → diag.new ≡ diag.old }
     ensures nothing { result ≡ Status.ReadFault → Keeps (O.written out.old) (O.written out.new) }
     ensures no_memory { result ≡ Status.Memory → Keeps (O.written out.old) (O.written out.new)
-        ⊎ ShowsFront (S.left source.old) (S.left source.new) (O.written out.old) (O.written out.new) }
-    ensures front { result ≡ Status.WriteFault → ShowsFront (S.left source.old) (S.left source.new) (O.written out.old) (O.written out.new) }
+        ⊎ ShowsFront (S.left source.old) (S.left source.new) (O.written out.old)
+        (O.written out.new) }
+    ensures front { result ≡ Status.WriteFault → ShowsFront (S.left source.old) (S.left source.new)
+        (O.written out.old) (O.written out.new) }
 {
     let input = match input_of(alloc, source, diag) {
         Ok(input) => input,
@@ -241,8 +266,8 @@ fn show_command<S: Source, O: Sink, D: Sink>(
     put_output(alloc, out, diag, &shown.text, shown.fault)
 }
 
-/// Does what the words say. `run` reads an event file and writes its report; `show` reads messages, one a line in
-/// hexadecimal, and writes their text. What is to be said besides goes to `diag`.
+/// Does what the words say. `run` reads an event file and writes its report; `show` reads messages,
+/// one a line in hexadecimal, and writes their text. What is to be said besides goes to `diag`.
 pub fn replay<S: Source, O: Sink, D: Sink, K: Keeper>(
     alloc: Global,
     words: &Vec<String>,
@@ -256,44 +281,63 @@ pub fn replay<S: Source, O: Sink, D: Sink, K: Keeper>(
     requires peer { count peer_service ≡ 0 }
     requires services { AllByRecursion (λ service. count service ≡ 0) services.items }
     ensures held { K.held keeper.new ≡ K.held keeper.old }
-    ensures none_failed { AtEnd result ((S.faults source.new ≡ S.faults source.old) × (O.faults out.new ≡ O.faults out.old)
+    ensures none_failed { AtEnd result ((S.faults source.new ≡ S.faults source.old)
+        × (O.faults out.new ≡ O.faults out.old)
         × (D.faults diag.new ≡ D.faults diag.old)) }
-    ensures read_fault { result ≡ Status.ReadFault → Rose (S.faults source.old) (S.faults source.new) }
+    ensures read_fault { result ≡ Status.ReadFault
+        → Rose (S.faults source.old) (S.faults source.new) }
     ensures write_fault { result ≡ Status.WriteFault → Rose (O.faults out.old) (O.faults out.new)
         ⊎ Rose (D.faults diag.old) (D.faults diag.new) }
     ensures words { result ≡ Status.Words → command_of words.now.items ≡ None }
-    ensures no_words { command_of words.now.items ≡ None → result ≡ Status.Words ⊎ result ≡ Status.WriteFault }
-    ensures untouched { command_of words.now.items ≡ None → Keeps (O.written out.old) (O.written out.new)
+    ensures no_words { command_of words.now.items ≡ None
+        → result ≡ Status.Words ⊎ result ≡ Status.WriteFault }
+    ensures untouched { command_of words.now.items ≡ None
+        → Keeps (O.written out.old) (O.written out.new)
         × Keeps (S.left source.old) (S.left source.new) }
     ensures quiet { result ≡ Status.Done → diag.new ≡ diag.old }
     ensures nothing { result ≡ Status.ReadFault → Keeps (O.written out.old) (O.written out.new) }
     ensures unplayed { result ≡ Status.ReadFault → keeper.new ≡ keeper.old }
     ensures done { command_of words.now.items ≡ Some Run → result ≡ Status.Done
-        → Completes (AreGiven gives (service_of peer_service services.items)) (λ calls. AsksAsSeen K.Keeper keeper.old calls keeper.new)
-        (vec_len services) (S.left source.old) (S.left source.new) (O.written out.old) (O.written out.new) (K.book keeper.old) (K.book keeper.new)
+        → Completes (AreGiven gives (service_of peer_service services.items))
+        (λ calls. AsksAsSeen K.Keeper keeper.old calls keeper.new)
+        (vec_len services) (S.left source.old) (S.left source.new) (O.written out.old)
+        (O.written out.new) (K.book keeper.old) (K.book keeper.new)
         (K.faults keeper.old) (K.faults keeper.new) None }
     ensures faulty { command_of words.now.items ≡ Some Run → result ≡ Status.FaultyLine
-        → (fault : InputFault) × Completes (AreGiven gives (service_of peer_service services.items)) (λ calls. AsksAsSeen K.Keeper keeper.old calls keeper.new)
-        (vec_len services) (S.left source.old) (S.left source.new) (O.written out.old) (O.written out.new) (K.book keeper.old) (K.book keeper.new)
+        → (fault : InputFault) × Completes (AreGiven gives (service_of peer_service services.items))
+        (λ calls. AsksAsSeen K.Keeper keeper.old calls keeper.new)
+        (vec_len services) (S.left source.old) (S.left source.new) (O.written out.old)
+        (O.written out.new) (K.book keeper.old) (K.book keeper.new)
         (K.faults keeper.old) (K.faults keeper.new) (Some fault)
         × Appends (D.written diag.old) (D.written diag.new) (fault_line fault) }
-    ensures no_memory { command_of words.now.items ≡ Some Run → result ≡ Status.Memory → Keeps (O.written out.old) (O.written out.new)
-        ⊎ BreaksOff (AreGiven gives (service_of peer_service services.items)) (λ calls. AsksAsSeen K.Keeper keeper.old calls keeper.new)
-        (vec_len services) (S.left source.old) (S.left source.new) (O.written out.old) (O.written out.new)
+    ensures no_memory { command_of words.now.items ≡ Some Run → result ≡ Status.Memory
+        → Keeps (O.written out.old) (O.written out.new)
+        ⊎ BreaksOff (AreGiven gives (service_of peer_service services.items))
+        (λ calls. AsksAsSeen K.Keeper keeper.old calls keeper.new)
+        (vec_len services) (S.left source.old) (S.left source.new) (O.written out.old)
+        (O.written out.new)
         (K.book keeper.old) (K.book keeper.new) (K.faults keeper.old) (K.faults keeper.new) }
     ensures front { command_of words.now.items ≡ Some Run → result ≡ Status.WriteFault
-        → BreaksOff (AreGiven gives (service_of peer_service services.items)) (λ calls. AsksAsSeen K.Keeper keeper.old calls keeper.new)
-        (vec_len services) (S.left source.old) (S.left source.new) (O.written out.old) (O.written out.new)
+        → BreaksOff (AreGiven gives (service_of peer_service services.items))
+        (λ calls. AsksAsSeen K.Keeper keeper.old calls keeper.new)
+        (vec_len services) (S.left source.old) (S.left source.new) (O.written out.old)
+        (O.written out.new)
         (K.book keeper.old) (K.book keeper.new) (K.faults keeper.old) (K.faults keeper.new) }
     ensures shows { command_of words.now.items ≡ Some Show → result ≡ Status.Done
-        → ShowsAll (S.left source.old) (S.left source.new) (O.written out.old) (O.written out.new) None }
-    ensures shows_to_fault { command_of words.now.items ≡ Some Show → result ≡ Status.FaultyLine → (fault : InputFault)
-        × ShowsAll (S.left source.old) (S.left source.new) (O.written out.old) (O.written out.new) (Some fault)
+        → ShowsAll (S.left source.old) (S.left source.new) (O.written out.old)
+        (O.written out.new) None }
+    ensures shows_to_fault { command_of words.now.items ≡ Some Show → result ≡ Status.FaultyLine
+        → (fault : InputFault)
+        × ShowsAll (S.left source.old) (S.left source.new) (O.written out.old) (O.written out.new)
+        (Some fault)
         × Appends (D.written diag.old) (D.written diag.new) (fault_line fault) }
-    ensures shows_no_memory { command_of words.now.items ≡ Some Show → result ≡ Status.Memory → Keeps (O.written out.old) (O.written out.new)
-        ⊎ ShowsFront (S.left source.old) (S.left source.new) (O.written out.old) (O.written out.new) }
+    ensures shows_no_memory { command_of words.now.items ≡ Some Show → result ≡ Status.Memory
+        → Keeps (O.written out.old) (O.written out.new)
+        ⊎ ShowsFront (S.left source.old) (S.left source.new) (O.written out.old)
+        (O.written out.new) }
     ensures shows_front { command_of words.now.items ≡ Some Show → result ≡ Status.WriteFault
-        → ShowsFront (S.left source.old) (S.left source.new) (O.written out.old) (O.written out.new) }
+        → ShowsFront (S.left source.old) (S.left source.new) (O.written out.old)
+        (O.written out.new) }
     ensures unasked { command_of words.now.items ≢ Some Run → keeper.new ≡ keeper.old }
 {
     match command_of(words) {

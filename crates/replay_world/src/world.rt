@@ -31,14 +31,15 @@ pub struct World {
 }
 
 impl World {
-    /// A run in which nothing has happened. The peer and each member that joins has a service of its own, the members in
-    /// the order of `services`. An error is want of memory.
+    /// A run in which nothing has happened. The peer and each member that joins has a service of
+    /// its own, the members in the order of `services`. An error is want of memory.
     pub fn new(
         alloc: Global,
         peer_service: Box<dyn Service>,
         services: Vec<Box<dyn Service>>,
     ) -> Result<World, Memory>
-        ensures ends { IfOk result (λ world. run_of world ≡ record { boxes = vec_len services; past = [] }) }
+        ensures ends { IfOk result (λ world. run_of world
+            ≡ record { boxes = vec_len services; past = [] }) }
         ensures peer_service { IfOk result (λ world. peer_service_of world ≡ peer_service) }
         ensures services { IfOk result (λ world. services_of world ≡ map Some services.items) }
     {
@@ -51,9 +52,10 @@ impl World {
         })
     }
 
-    /// Plays an event at a moment, one that a line spells: the ends act, and one turn is appended to the trace. A member that
-    /// ends drops its service. An error is want of memory; the run and the keeper's book are then as they were, and the keeper
-    /// was asked only where it lacked the memory itself.
+    /// Plays an event at a moment, one that a line spells: the ends act, and one turn is appended
+    /// to the trace. A member that ends drops its service. An error is want of memory; the run and
+    /// the keeper's book are then as they were, and the keeper was asked only where it lacked the
+    /// memory itself.
     pub fn turn<K: Keeper>(
         &mut self,
         keeper: &mut Gate<K>,
@@ -71,16 +73,20 @@ impl World {
             → OwnedTold (run_of self.old).past (K.book keeper.old.keeper) }
         ensures owned { StandsTold (run_of self.old).past (K.book keeper.old.keeper)
             → OnOk result (OwnedTold (run_of self.new).past (K.book keeper.new.keeper)) }
-        ensures safe { StandsTold (run_of self.old).past (K.book keeper.old.keeper) → OnOk result (Safe (run_of self.new).past) }
-        ensures caused { (start : ℕ) → CausedSince start (K.faults keeper.old.keeper) (run_of self.old).past
+        ensures safe { StandsTold (run_of self.old).past (K.book keeper.old.keeper)
+            → OnOk result (Safe (run_of self.new).past) }
+        ensures caused { (start : ℕ) → CausedSince start (K.faults keeper.old.keeper)
+            (run_of self.old).past
             → OnOk result (CausedSince start (K.faults keeper.new.keeper) (run_of self.new).past) }
-        ensures asks { OnOk result (AsksAsSeen K.Keeper keeper.old.keeper (newest_calls (run_of self.new).past) keeper.new.keeper) }
+        ensures asks { OnOk result (AsksAsSeen K.Keeper keeper.old.keeper
+            (newest_calls (run_of self.new).past) keeper.new.keeper) }
         ensures told { OnOk result (told_calls keeper.new ≡ Some []) }
         ensures err { OnErr result (self.new ≡ self.old) }
         ensures keeps_book { OnErr result (K.book keeper.new.keeper ≡ K.book keeper.old.keeper) }
         ensures in_vain { OnErr result ((keeper.new ≡ keeper.old) ⊎ LackMemory keeper.new.first) }
         ensures peer_service { peer_service_of self.new ≡ peer_service_of self.old }
-        ensures services { OnOk result (services_of self.new ≡ services_after (ended_last (run_of self.new).past) (services_of self.old)) }
+        ensures services { OnOk result (services_of self.new
+            ≡ services_after (ended_last (run_of self.new).past) (services_of self.old)) }
         ensures held { K.held keeper.new.keeper ≡ K.held keeper.old.keeper }
     {
         runs_are_safe();

@@ -8,9 +8,7 @@ ghost use Rattle.event_text.specs.Grammar.{association_words, child_key_words, e
 ghost use Rattle.line_fields.specs.Writing.{with_words};
 
 use events::{Event, Medium, Party, Which};
-use ha_base::{
-    ChildKeys, Identity, KeySize, Memory, Octets, SaKeys, identity_forms, word_by,
-};
+use ha_base::{ChildKeys, Identity, KeySize, Memory, Octets, SaKeys, identity_forms, word_by};
 use keeper_book::{Five, Record};
 use std::alloc::Global;
 use word_text::{put_bare_octets, put_esp_spi, put_number, put_octets, put_spi, put_word};

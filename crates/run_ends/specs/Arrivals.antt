@@ -14,9 +14,12 @@ use Rattle.cluster_peer.specs.Slots.{IsPeerAfter, PeerHeld}
 
 -- an IKE message is refused, and an ESP packet is received by the rule
 abbrev pub MemberTakesIn : Medium → List ℕ → List Call → Step → Holder → Holder → Type 0
-MemberTakesIn medium.Ike octets calls step old new = Refuses refusal.NotBuilt calls step × (new ≡ old)
-MemberTakesIn medium.Esp octets calls step old new = MemberTakes (held_at old.held) octets calls step × IsAfter task.Receive calls step old new
+MemberTakesIn medium.Ike octets calls step old new =
+    Refuses refusal.NotBuilt calls step × (new ≡ old)
+MemberTakesIn medium.Esp octets calls step old new =
+    MemberTakes (held_at old.held) octets calls step × IsAfter task.Receive calls step old new
 
 abbrev pub PeerTakesIn : Medium → List ℕ → Step → PeerHeld → PeerHeld → Type 0
 PeerTakesIn medium.Ike octets step old new = Refuses refusal.NotBuilt [] step × (new ≡ old)
-PeerTakesIn medium.Esp octets step old new = PeerTakes old.slots octets [] step × IsPeerAfter task.Receive step old new
+PeerTakesIn medium.Esp octets step old new = PeerTakes old.slots octets [] step
+    × IsPeerAfter task.Receive step old new

@@ -12,8 +12,10 @@ AreSeenAs [] [] = Unit {0}
 AreSeenAs (call ∷ calls) (made ∷ more) = IsCallOf call.asked (seen call) made × AreSeenAs calls more
 AreSeenAs calls made = ⊥
 
--- calls were asked of the keeper, in this order, and no others, and these are what their caller saw of them
-pub record AsksAsSeen {K : Type 0} (keeper : Ghosts K) (old : K) (calls : List Call) (new : K) : Type 0 where
+-- calls were asked of the keeper, in this order, and no others, and these are what their caller saw
+-- of them
+pub record AsksAsSeen {K : Type 0} (keeper : Ghosts K) (old : K) (calls : List Call)
+    (new : K) : Type 0 where
   pub made : List Call
   pub seen_as : AreSeenAs calls made
   pub asked : Asks keeper old made new

@@ -78,7 +78,8 @@ state_of past s = state_with (has_turns past) (datagrams_of past) s
 
 -- and after one more, by its step
 abbrev pub state_then : List Turn → Step → EndsHeld → RunState
-state_then past step s = state_with true (datagrams_of past ++ option_to_list (option_map plain_datagram step.gives)) s
+state_then past step s = state_with true (datagrams_of past
+    ++ option_to_list (option_map plain_datagram step.gives)) s
 
 -- a member of this number has joined
 abbrev pub has_member : ℕ → List (Option Holder) → Bool
@@ -97,14 +98,18 @@ pub record IsMember (number : ℕ) (config : Configuration) (holder : Holder) : 
 
 -- each member that is up has the number of its place
 abbrev pub AreInPlace : EndsHeld → Type 0
-AreInPlace s = (place : ℕ) (holder : Holder) → place < length s.members → holder_of s.members (suc place) ≡ Some holder → IsMember (suc place) s.config holder
+AreInPlace s = (place : ℕ) (holder : Holder) → place < length s.members
+    → holder_of s.members (suc place) ≡ Some holder → IsMember (suc place) s.config holder
 
 -- the event delivers to this end
 abbrev pub DeliversTo : Event → Party → Type 0
-DeliversTo at to = (made : List PlainDatagram → Result PlainDatagram Refusal) × (delivery_of at ≡ Some (record { to = to; made = made }))
+DeliversTo at to = (made : List PlainDatagram → Result PlainDatagram Refusal)
+    × (delivery_of at ≡ Some (record { to = to; made = made }))
 
--- what the ends do at an event after these turns, by what they hold, and that they hold then what the turn makes of it
-pub record Plays (past : List Turn) (old : EndsHeld) (at : Event) (calls : List Call) (step : Step) (new : EndsHeld) : Type 0 where
+-- what the ends do at an event after these turns, by what they hold, and that they hold then what
+-- the turn makes of it
+pub record Plays (past : List Turn) (old : EndsHeld) (at : Event) (calls : List Call) (step : Step)
+    (new : EndsHeld) : Type 0 where
   pub does : Does (state_of past old) at calls step
   pub holds : state_then past step new ≡ state_after at calls step (state_of past old)
   pub in_place : AreInPlace new

@@ -1,4 +1,5 @@
--- What a run is seen as: how many services were handed in for members, and its turns, the newest first.
+-- What a run is seen as: how many services were handed in for members, and its turns, the newest
+-- first.
 use Rattle.std.specs.Prelude.{ℕ, ◌≡◌, Option, Some, None, List, [], ◌∷◌}
 use Rattle.events.specs.declared.event.Event.{Event}
 use Rattle.events.specs.declared.turn.Turn.{Turn}

@@ -26,7 +26,8 @@ impl Parties {
         event: &Event,
     ) -> Result<Step, Memory>
         requires to { DeliversTo event.now to }
-        requires short { (datagram : PlainDatagram) → arrives (datagrams_of trace.now.past) event.now ≡ Ok datagram → IsShort datagram }
+        requires short { (datagram : PlainDatagram)
+            → arrives (datagrams_of trace.now.past) event.now ≡ Ok datagram → IsShort datagram }
         requires in_place { AreInPlace self.old }
         ensures delivers { IfOk result (λ step. AsksFor K.Keeper keeper.old keeper.new (λ calls.
             Plays trace.now.past self.old event.now calls step self.new)) }
@@ -45,9 +46,11 @@ impl Parties {
     fn deliver_to_peer(&mut self, trace: &Trace, event: &Event) -> Result<Step, Memory>
         requires to { DeliversTo event.now parties.Peer }
         requires room { HasRoom trace.now.past }
-        requires short { (datagram : PlainDatagram) → arrives (datagrams_of trace.now.past) event.now ≡ Ok datagram → IsShort datagram }
+        requires short { (datagram : PlainDatagram)
+            → arrives (datagrams_of trace.now.past) event.now ≡ Ok datagram → IsShort datagram }
         requires in_place { AreInPlace self.old }
-        ensures delivers { IfOk result (λ step. Plays trace.now.past self.old event.now [] step self.new) }
+        ensures delivers { IfOk result
+            (λ step. Plays trace.now.past self.old event.now [] step self.new) }
         ensures err { OnErr result (self.new ≡ self.old) }
     {
         match arriving(self.alloc, trace, event)? {
@@ -65,7 +68,8 @@ impl Parties {
     ) -> Result<Step, Memory>
         requires to { DeliversTo event.now (parties.Member member) }
         requires room { HasRoom trace.now.past }
-        requires short { (datagram : PlainDatagram) → arrives (datagrams_of trace.now.past) event.now ≡ Ok datagram → IsShort datagram }
+        requires short { (datagram : PlainDatagram)
+            → arrives (datagrams_of trace.now.past) event.now ≡ Ok datagram → IsShort datagram }
         requires in_place { AreInPlace self.old }
         ensures delivers { IfOk result (λ step. AsksFor K.Keeper keeper.old keeper.new (λ calls.
             Plays trace.now.past self.old event.now calls step self.new)) }
@@ -101,7 +105,8 @@ fn peer_takes(peer: &mut Peer, arrival: Arrival) -> Step
 
 fn member_takes<K: Keeper>(member: &mut Member, keeper: &mut K, arrival: Arrival) -> Step
     requires { IsShort arrival }
-    ensures { AsksFor K.Keeper keeper.old keeper.new (λ calls. MemberTakesIn arrival.medium arrival.octets calls result member.old member.new) }
+    ensures { AsksFor K.Keeper keeper.old keeper.new
+        (λ calls. MemberTakesIn arrival.medium arrival.octets calls result member.old member.new) }
 {
     let Arrival { medium, mut octets } = arrival;
     match medium {

@@ -45,8 +45,9 @@ impl Ends {
         }
     }
 
-    /// Plays an event at a moment: the ends act, and one turn is appended. An error is want of memory; there is no new turn
-    /// then, the keeper's book is as it was, and the keeper was asked only where it lacked the memory itself.
+    /// Plays an event at a moment: the ends act, and one turn is appended. An error is want of
+    /// memory; there is no new turn then, the keeper's book is as it was, and the keeper was asked
+    /// only where it lacked the memory itself.
     pub fn turn<K: Keeper>(
         &mut self,
         keeper: &mut Gate<K>,
@@ -61,7 +62,8 @@ impl Ends {
             → OnOk result (StandsTold self.new.past (K.book keeper.new.keeper)) }
         ensures caused { (start : ℕ) → CausedSince start (K.faults keeper.old.keeper) self.old.past
             → OnOk result (CausedSince start (K.faults keeper.new.keeper) self.new.past) }
-        ensures asks { OnOk result (AsksAsSeen K.Keeper keeper.old.keeper (newest_calls self.new.past) keeper.new.keeper) }
+        ensures asks { OnOk result (AsksAsSeen K.Keeper keeper.old.keeper
+            (newest_calls self.new.past) keeper.new.keeper) }
         ensures told { OnOk result (told_calls keeper.new ≡ Some []) }
         ensures err { OnErr result (self.new ≡ self.old) }
         ensures keeps_book { OnErr result (K.book keeper.new.keeper ≡ K.book keeper.old.keeper) }

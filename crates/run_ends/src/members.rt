@@ -19,7 +19,8 @@ const MAX_MEMBERS: usize = 64;
 impl Parties {
     pub(crate) fn join(&mut self, fresh: [u8; 24]) -> Result<Step, Memory>
         requires in_place { AreInPlace self.old }
-        ensures joins { IfOk result (λ step. (past : List Turn) → Plays past self.old (event.Join fresh) [] step self.new) }
+        ensures joins { IfOk result (λ step. (past : List Turn)
+            → Plays past self.old (event.Join fresh) [] step self.new) }
         ensures err { OnErr result (self.new ≡ self.old) }
     {
         let joined = self.members.len();
@@ -37,7 +38,8 @@ impl Parties {
 
     /// Where a member of this number stands among those that joined.
     pub(crate) fn place_of(&self, member: u64) -> Option<usize>
-        ensures { MatchOption result (has_member member self.now.members ≡ false) (λ place. IsMemberPlace member place self.now.members) }
+        ensures { MatchOption result (has_member member self.now.members ≡ false)
+            (λ place. IsMemberPlace member place self.now.members) }
     {
         if member == 0 || member > self.members.len() as u64 {
             return None;
@@ -69,7 +71,8 @@ impl Parties {
     pub(crate) fn draw<K: Keeper>(&mut self, keeper: &mut K, member: u64, spir: u64) -> Step
         requires in_place { AreInPlace self.old }
         ensures draws { AsksFor K.Keeper keeper.old keeper.new (λ calls.
-            (past : List Turn) → Plays past self.old (event.Draw member spir) calls result self.new) }
+            (past : List Turn) → Plays past self.old
+            (event.Draw member spir) calls result self.new) }
     {
         let Some(place) = self.place_of(member) else {
             return refused(Refusal::NoMember);
@@ -83,7 +86,8 @@ impl Parties {
     // A member that crashed never returns.
     pub(crate) fn crash(&mut self, member: u64) -> Step
         requires in_place { AreInPlace self.old }
-        ensures crashes { (past : List Turn) → Plays past self.old (event.Crash member) [] result self.new }
+        ensures crashes { (past : List Turn) → Plays past self.old
+            (event.Crash member) [] result self.new }
     {
         let Some(place) = self.place_of(member) else {
             return refused(Refusal::NoMember);

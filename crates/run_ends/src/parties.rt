@@ -52,7 +52,8 @@ impl Model for Parties {
       members = c.members.items;
     } };
 
-    ghost invariant = { λ c. IsWindowSize c.settings.window × (c.peer.window ≡ c.settings.window) × (length c.members.items ≤ 64) };
+    ghost invariant = { λ c. IsWindowSize c.settings.window × (c.peer.window ≡ c.settings.window)
+        × (length c.members.items ≤ 64) };
 }
 
 pub(crate) fn refused(refusal: Refusal) -> Step
@@ -95,8 +96,8 @@ impl Parties {
         }
     }
 
-    /// What the ends do at an event, where these turns were before. An error is want of memory; the ends are then as they
-    /// were, and the keeper was asked only where it lacked the memory itself.
+    /// What the ends do at an event, where these turns were before. An error is want of memory; the
+    /// ends are then as they were, and the keeper was asked only where it lacked the memory itself.
     pub fn play<K: Keeper>(
         &mut self,
         keeper: &mut K,
@@ -143,7 +144,8 @@ impl Parties {
         requires window { IsWindowSize settings.window }
         requires first { trace.now.past ≡ [] → (self.old.slots ≡ []) × (self.old.members ≡ []) }
         requires in_place { AreInPlace self.old }
-        ensures configures { Configures settings (λ event. Plays trace.now.past self.old event [] result self.new) }
+        ensures configures { Configures settings
+            (λ event. Plays trace.now.past self.old event [] result self.new) }
     {
         if trace.turns() > 0 {
             return refused(Refusal::Late);

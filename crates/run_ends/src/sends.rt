@@ -34,7 +34,8 @@ impl Parties {
     ) -> Result<Step, Memory>
         requires size { length payload.now ≤ PAYLOAD_OCTETS }
         requires in_place { AreInPlace self.old }
-        ensures sends { IfOk result (λ step. AsksFor K.Keeper keeper.old keeper.new (λ calls. (given : WithRoom) → given.octets ≡ payload.now
+        ensures sends { IfOk result (λ step. AsksFor K.Keeper keeper.old keeper.new
+            (λ calls. (given : WithRoom) → given.octets ≡ payload.now
             → Plays trace.now.past self.old (event.Send from spir given) calls step self.new)) }
         ensures err { OnErr result (self.new ≡ self.old) }
         ensures unasked { OnErr result (keeper.new ≡ keeper.old) }
@@ -51,7 +52,8 @@ impl Parties {
     fn send_as_peer(&mut self, spir: u64, payload: &[u8]) -> Result<Step, Memory>
         requires size { length payload.now ≤ PAYLOAD_OCTETS }
         requires in_place { AreInPlace self.old }
-        ensures sends { IfOk result (λ step. (past : List Turn) (given : WithRoom) → HasRoom past → given.octets ≡ payload.now
+        ensures sends { IfOk result (λ step. (past : List Turn) (given : WithRoom) → HasRoom past
+            → given.octets ≡ payload.now
             → Plays past self.old (event.Send parties.Peer spir given) [] step self.new) }
         ensures err { OnErr result (self.new ≡ self.old) }
     {
@@ -70,7 +72,8 @@ impl Parties {
         requires in_place { AreInPlace self.old }
         ensures sends { IfOk result (λ step. AsksFor K.Keeper keeper.old keeper.new (λ calls.
             (past : List Turn) (given : WithRoom) → HasRoom past → given.octets ≡ payload.now
-            → Plays past self.old (event.Send (parties.Member member) spir given) calls step self.new)) }
+            → Plays past self.old
+            (event.Send (parties.Member member) spir given) calls step self.new)) }
         ensures err { OnErr result (self.new ≡ self.old) }
         ensures unasked { OnErr result (keeper.new ≡ keeper.old) }
     {

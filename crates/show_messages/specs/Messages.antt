@@ -9,13 +9,18 @@ use Rattle.line_fields.specs.declared.fault.LineReason.TheVariants as reasons
 use Rattle.input_lines.specs.declared.fault.InputFault.{InputFault}
 use Rattle.show_messages.specs.declared.reader.Place.{Place}
 
--- what an input holds: the octets of its messages in their order up to its first fault, and the fault
+-- what an input holds: the octets of its messages in their order up to its first fault, and the
+-- fault
 pub record Messages : Type 0 where
   pub messages : List (List ℕ)
   pub fault : Option InputFault
 
 abbrev pub faulty_messages : ℕ → LineFault → Messages
-faulty_messages line f = record { messages = []; fault = Some (record { line = line; column = f.column; reason = f.reason }) }
+faulty_messages line f = record {
+  messages = [];
+  fault = Some
+      (record { line = line; column = f.column; reason = f.reason });
+}
 
 abbrev pub with_message : List ℕ → Messages → Messages
 with_message message rest = record { messages = message ∷ rest.messages; fault = rest.fault }
@@ -30,11 +35,16 @@ message_in count line =
 -- the message of a line at a place, where it is not passed over
 unfoldable pub line_in : Place → ℕ → List ℕ → Result (Option (List ℕ)) LineFault
 line_in p octets line =
-    unless_fault (overlong p.before octets (length line)) (if is_passed line then Ok None else message_in p.count line)
+    unless_fault (overlong p.before octets (length line))
+    (if is_passed line then Ok None else message_in p.count line)
 
 -- the place behind a line of some octets, where there are so many messages before it
 abbrev pub behind_message_line : Place → ℕ → ℕ → Place
-behind_message_line p octets count = record { line = p.line + 1; before = p.before + octets; count = count }
+behind_message_line p octets count = record {
+  line = p.line + 1;
+  before = p.before + octets;
+  count = count;
+}
 
 abbrev pub on_message_line : Place → Result (Option (List ℕ)) LineFault → (ℕ → Messages) → Messages
 on_message_line p (Err f) rest = faulty_messages p.line f
@@ -44,7 +54,8 @@ on_message_line p (Ok (Some message)) rest = with_message message (rest (p.count
 -- what lines hold from a place on
 unfoldable pub messages_at : List (List ℕ) → Place → Messages
 messages_at [] p = record { messages = []; fault = None }
-messages_at (line ∷ lines) p = on_message_line p (line_in p (length line) (without_line_feed line)) (λ count. messages_at lines (behind_message_line p (length line) count))
+messages_at (line ∷ lines) p = on_message_line p (line_in p (length line) (without_line_feed line))
+    (λ count. messages_at lines (behind_message_line p (length line) count))
 
 -- what an input holds
 abbrev pub messages_of : List ℕ → Messages

@@ -29,8 +29,10 @@ fn digits_in<'a>(place: Place, octets: usize, line: &'a [u8]) -> Result<Option<&
     requires line { octets < 2 ^ 63 }
     requires line_within { length line.now ≤ octets }
     ensures fault { IfErr result (λ f. line_in place octets line.now ≡ Err f) }
-    ensures passed { IfOk result (λ digits. IfNone digits (line_in place octets line.now ≡ Ok None)) }
-    ensures message { IfOk result (λ digits. IfSome digits (λ d. line_in place octets line.now ≡ Ok (Some (decoded d.now)))) }
+    ensures passed { IfOk result (λ digits. IfNone digits
+        (line_in place octets line.now ≡ Ok None)) }
+    ensures message { IfOk result (λ digits. IfSome digits
+        (λ d. line_in place octets line.now ≡ Ok (Some (decoded d.now)))) }
     ensures hex { IfOk result (λ digits. IfSome digits (λ d. is_hex d.now ≡ true)) }
     ensures short { IfOk result (λ digits. IfSome digits (λ d. length d.now ≤ 16384)) }
     ensures within { OnOk result (place.before + octets ≤ 67108864) }
@@ -74,7 +76,8 @@ impl<'a> Model for MessageReader<'a> {
 
     ghost view = { λ reader. record { lines = lines_of reader.rest.now; place = reader.place } };
 
-    ghost invariant = { λ reader. (reader.place.before ≤ 67108864) × (reader.place.line ≤ reader.place.before + 1) × (reader.place.count ≤ 100000) };
+    ghost invariant = { λ reader. (reader.place.before ≤ 67108864)
+        × (reader.place.line ≤ reader.place.before + 1) × (reader.place.count ≤ 100000) };
 }
 
 impl<'a> MessageReader<'a> {
@@ -102,25 +105,32 @@ impl<'a> MessageReader<'a> {
 
     /// Whether no line is left.
     pub(crate) fn is_at_end(&self) -> bool
-        ensures end { result ≡ true → left_messages self.now ≡ record { messages = []; fault = None } }
+        ensures end { result ≡ true → left_messages self.now
+            ≡ record { messages = []; fault = None } }
         ensures more { result ≡ false → 0 < length self.now.lines }
     {
         self.rest.is_empty()
     }
 
-    /// The digits of the next line, or `None` where it is passed over. An error is the first fault of the input, and leaves
-    /// the reader as it was.
+    /// The digits of the next line, or `None` where it is passed over. An error is the first fault
+    /// of the input, and leaves the reader as it was.
     #[tactic(auto, unfolding(crate::specs::Messages::messages_at))]
     pub(crate) fn next_line(&mut self) -> Result<Option<&'a [u8]>, InputFault>
         requires { 0 < length self.old.lines }
-        ensures message { IfOk result (λ line. IfSome line (λ digits. left_messages self.old ≡ with_message (decoded digits.now) (left_messages self.new))) }
-        ensures counted { IfOk result (λ line. OnSome line (self.new.place.count ≡ self.old.place.count + 1)) }
+        ensures message { IfOk result (λ line. IfSome line
+            (λ digits. left_messages self.old ≡ with_message (decoded digits.now)
+            (left_messages self.new))) }
+        ensures counted { IfOk result (λ line. OnSome line
+            (self.new.place.count ≡ self.old.place.count + 1)) }
         ensures hex { IfOk result (λ line. IfSome line (λ digits. is_hex digits.now ≡ true)) }
         ensures short { IfOk result (λ line. IfSome line (λ digits. length digits.now ≤ 16384)) }
-        ensures passed { IfOk result (λ line. IfNone line (left_messages self.old ≡ left_messages self.new)) }
-        ensures uncounted { IfOk result (λ line. IfNone line (self.new.place.count ≡ self.old.place.count)) }
+        ensures passed { IfOk result (λ line. IfNone line
+            (left_messages self.old ≡ left_messages self.new)) }
+        ensures uncounted { IfOk result (λ line. IfNone line
+            (self.new.place.count ≡ self.old.place.count)) }
         ensures fewer { OnOk result (length self.new.lines < length self.old.lines) }
-        ensures fault { IfErr result (λ f. left_messages self.old ≡ record { messages = []; fault = Some f }) }
+        ensures fault { IfErr result (λ f. left_messages self.old
+            ≡ record { messages = []; fault = Some f }) }
         ensures err { OnErr result (self.new ≡ self.old) }
     {
         let place = self.place;

@@ -18,7 +18,8 @@ use word_text::write_end;
 /// How many octets a message may have, whose digits are one line.
 const MESSAGE_OCTETS: usize = 8_192;
 
-/// The text of the messages of an input, and the fault of the input at which it ends, if there is one.
+/// The text of the messages of an input, and the fault of the input at which it ends, if there is
+/// one.
 #[derive(Drop)]
 pub struct Shown {
     pub text: Octets,
@@ -37,15 +38,18 @@ fn show_message(alloc: Global, digits: &[u8], text: &mut Octets) -> Result<(), M
     write_message(alloc, message, text)
 }
 
-// Appends the text of each message up to the end of the input, or up to its first fault, which is answered.
+// Appends the text of each message up to the end of the input, or up to its first fault, which is
+// answered.
 fn show_lines(
     alloc: Global,
     reader: &mut MessageReader,
     text: &mut Octets,
 ) -> Result<Option<InputFault>, Memory>
     ensures fault { IfOk result (λ fault. fault ≡ (left_messages reader.old).fault) }
-    ensures text { OnOk result (text.new.octets ≡ text.old.octets ++ flat_map shown (left_messages reader.old).messages) }
-    ensures count { OnOk result (reader.new.place.count ≡ reader.old.place.count + length (left_messages reader.old).messages) }
+    ensures text { OnOk result (text.new.octets ≡ text.old.octets
+        ++ flat_map shown (left_messages reader.old).messages) }
+    ensures count { OnOk result (reader.new.place.count ≡ reader.old.place.count
+        + length (left_messages reader.old).messages) }
 {
     while !reader.is_at_end() {
         match reader.next_line() {
@@ -57,8 +61,8 @@ fn show_lines(
     Ok(None)
 }
 
-/// The text of each message of an input up to its end, or up to its first fault, and the line of their number. An error is
-/// want of memory.
+/// The text of each message of an input up to its end, or up to its first fault, and the line of
+/// their number. An error is want of memory.
 pub fn show(alloc: Global, input: &[u8]) -> Result<Shown, Memory>
     ensures text { IfOk result (λ s. s.text.octets ≡ shown_all (messages_of input.now).messages) }
     ensures fault { IfOk result (λ s. s.fault ≡ (messages_of input.now).fault) }

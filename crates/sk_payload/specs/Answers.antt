@@ -55,5 +55,6 @@ pub record IsTextOpened (key : List ℕ) (body : SkValue) (octets plain : List �
   pub only : (other : List ℕ) → IsText key body octets other → other ≡ plain
 
 abbrev pub IsSealedTextFault : List ℕ → SkValue → List ℕ → OpenFault → Type 0
-IsSealedTextFault key body octets fault.NotOpened = (plain : List ℕ) → ¬ IsText key body octets plain
+IsSealedTextFault key body octets fault.NotOpened =
+    (plain : List ℕ) → ¬ IsText key body octets plain
 IsSealedTextFault key body octets fault.Memory = Unit {0}

@@ -95,7 +95,8 @@ impl Frame {
     /// section 3.10). There is room for it. No memory is taken.
     pub fn put_notify(&mut self, ntype: u16, octets: &[u8])
         requires fits { 8 + length octets.now ≤ self.old.room }
-        ensures payloads { self.new.payloads ≡ self.old.payloads ++ notify_of ntype octets.now ∷ [] }
+        ensures payloads { self.new.payloads ≡ self.old.payloads ++ notify_of ntype octets.now
+            ∷ [] }
         ensures room { self.new.room + 8 + length octets.now ≡ self.old.room }
     {
         begin_payload(&mut self.message, &mut self.link, NOTIFY, 4 + octets.len());

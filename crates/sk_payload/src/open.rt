@@ -105,7 +105,8 @@ fn open_text(alloc: Global, key: &Key, bytes: &[u8], body: &SkBody) -> Result<Ve
         (λ plain. IsTextOpened key.now.octets (sk_value body.now) bytes.now plain.items) }
     ensures length { IfOk result
         (λ plain. length plain.items ≡ length body.now.ciphertext.octets) }
-    ensures refused { IfErr result (IsSealedTextFault key.now.octets (sk_value body.now) bytes.now) }
+    ensures refused { IfErr result (IsSealedTextFault key.now.octets
+        (sk_value body.now) bytes.now) }
 {
     let mut plain = Vec::new(alloc);
     if plain.extend_from_slice(body.ciphertext.as_slice()).is_err() {

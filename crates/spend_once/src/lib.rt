@@ -79,7 +79,8 @@ impl Lot {
         ensures none { IsNone result ↔ (self.old.next ≡ self.old.end) }
 
         // The numbers come in order, each once.
-        ensures number { IfSome result (λ number. number ≡ record { name = self.old.name; value = self.old.next }) }
+        ensures number { IfSome result (λ number. number
+            ≡ record { name = self.old.name; value = self.old.next }) }
         ensures rises { OnSome result (self.new ≡ record self.old { next = self.old.next + 1 }) }
         ensures unchanged { IfNone result (self.new ≡ self.old) }
     {

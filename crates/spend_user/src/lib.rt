@@ -5,7 +5,8 @@ ghost use Rattle.std.specs.Prelude.{◌≡◌, ◌+◌, ◌<◌, ◌↔◌, IsSo
 
 use spend_once::Lot;
 
-/// Draws a number, gives it up and says which it was, or answers `None` where the lot is at its end.
+/// Draws a number, gives it up and says which it was, or answers `None` where the lot is at its
+/// end.
 pub fn draw_and_burn(lot: &mut Lot) -> Option<u64>
     ensures some { IsSome result ↔ (lot.old.next < lot.old.end) }
     ensures value { IfSome result (λ value. value ≡ lot.old.next) }

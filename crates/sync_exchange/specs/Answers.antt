@@ -24,7 +24,8 @@ abbrev pub IsPeerAnswer : PeerState → SyncRequest → Result Accepted SyncDrop
 IsPeerAnswer state request (Ok counters) =
     IsAbove request.m1 state.highest × CanRise DELTA_OCTETS SEQUENCE_END state.next_esp request
     × (counters ≡ accepted_counters state request)
-IsPeerAnswer state request (Err (NotAbove highest)) = (state.highest ≡ Some highest) × (request.m1 ≤ highest)
+IsPeerAnswer state request (Err (NotAbove highest)) =
+    (state.highest ≡ Some highest) × (request.m1 ≤ highest)
 IsPeerAnswer state request (Err Delta) =
     IsAbove request.m1 state.highest × CannotRise DELTA_OCTETS SEQUENCE_END state.next_esp request
 IsPeerAnswer state request _ = ⊥
@@ -32,7 +33,8 @@ IsPeerAnswer state request _ = ⊥
 -- what a member with these Message IDs makes of a response, where its last request had this nonce
 abbrev pub IsMemberAnswer : ℕ → ℕ → ℕ → List PayloadValue → Result (ℕ × ℕ) SyncDrop → Type 0
 IsMemberAnswer next floor nonce payloads (Ok counters) =
-    (ids : MessageIds) × (ids_in payloads ≡ Some ids) × (ids.nonce ≡ nonce) × (counters ≡ synced_ids next floor ids)
+    (ids : MessageIds) × (ids_in payloads ≡ Some ids) × (ids.nonce ≡ nonce)
+    × (counters ≡ synced_ids next floor ids)
 IsMemberAnswer next floor nonce payloads (Err NotSync) = ids_in payloads ≡ None
 IsMemberAnswer next floor nonce payloads (Err Nonce) =
     (ids : MessageIds) × (ids_in payloads ≡ Some ids) × (ids.nonce ≢ nonce)

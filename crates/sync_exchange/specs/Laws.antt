@@ -22,7 +22,8 @@ AnswersAreUnique =
     IsPeerAnswer state request answer → IsPeerAnswer state request other → answer ≡ other
 
 -- each counter of the peer stays or rises, and no Message ID that it expects was used
-pub record NoneFalls (state : PeerState) (request : SyncRequest) (counters : Accepted) : Type 0 where
+pub record NoneFalls (state : PeerState) (request : SyncRequest)
+    (counters : Accepted) : Type 0 where
   pub next_ask : state.next_ask ≤ counters.p2
   pub expected : request.p1 ≤ counters.p2
   pub unused : IsAbove counters.m2 state.highest
@@ -46,13 +47,19 @@ peer_state_after request counters = record {
 -- section 5.1)
 abbrev pub RequestsAreAcceptedOnce : Type 0
 RequestsAreAcceptedOnce =
-    (state : PeerState) (request : SyncRequest) (counters : Accepted) (answer : Result Accepted SyncDrop) →
-    IsPeerAnswer state request (Ok counters) → IsPeerAnswer (peer_state_after request counters) request answer →
+    (state : PeerState) (request : SyncRequest) (counters : Accepted)
+    (answer : Result Accepted SyncDrop) →
+    IsPeerAnswer state request (Ok counters) → IsPeerAnswer
+    (peer_state_after request counters) request answer →
     answer ≡ Err (NotAbove request.m1)
 
 -- what the peer announces in its response
 abbrev pub response_ids : SyncRequest → Accepted → MessageIds
-response_ids request counters = record { nonce = request.nonce; send = counters.p2; receive = counters.m2 }
+response_ids request counters = record {
+  nonce = request.nonce;
+  send = counters.p2;
+  receive = counters.m2;
+}
 
 -- a member that announced no less than its own Message IDs then has those of the peer
 abbrev pub BothEndsAgree : Type 0
@@ -74,7 +81,8 @@ response_of ids = notify_of IKEV2_MESSAGE_ID_SYNC (message_ids_spelling ids) ∷
 -- the two notifications of a request to synchronise
 abbrev pub request_with : MessageIds → ℕ → List PayloadValue
 request_with ids delta =
-    notify_of IKEV2_MESSAGE_ID_SYNC (message_ids_spelling ids) ∷ notify_of IPSEC_REPLAY_COUNTER_SYNC (to_be_bytes w64 delta) ∷ []
+    notify_of IKEV2_MESSAGE_ID_SYNC (message_ids_spelling ids)
+    ∷ notify_of IPSEC_REPLAY_COUNTER_SYNC (to_be_bytes w64 delta) ∷ []
 
 abbrev pub WrittenResponsesAreRead : Type 0
 WrittenResponsesAreRead = (ids : MessageIds) → AreInRange ids → ids_in (response_of ids) ≡ Some ids
@@ -82,4 +90,10 @@ WrittenResponsesAreRead = (ids : MessageIds) → AreInRange ids → ids_in (resp
 abbrev pub WrittenRequestsAreRead : Type 0
 WrittenRequestsAreRead =
     (ids : MessageIds) (delta : ℕ) → AreInRange ids → delta < 2 ^ 64 →
-    IsRequest (request_with ids delta) (record { nonce = ids.nonce; m1 = ids.send; p1 = ids.receive; size = DELTA_OCTETS; delta = delta })
+    IsRequest (request_with ids delta) (record {
+      nonce = ids.nonce;
+      m1 = ids.send;
+      p1 = ids.receive;
+      size = DELTA_OCTETS;
+      delta = delta;
+    })

@@ -13,7 +13,8 @@ use Rattle.sync_exchange.specs.declared.request.SyncRequest.{SyncRequest}
 -- the data of IKEV2_MESSAGE_ID_SYNC (section 6.3): a nonce, the Message ID of the sender's next
 -- request, and that of the next request that it expects, each in four octets
 abbrev pub message_ids_spelling : MessageIds → List ℕ
-message_ids_spelling ids = to_be_bytes w32 ids.nonce ++ to_be_bytes w32 ids.send ++ to_be_bytes w32 ids.receive
+message_ids_spelling ids = to_be_bytes w32 ids.nonce ++ to_be_bytes w32 ids.send
+    ++ to_be_bytes w32 ids.receive
 
 -- what twelve octets say
 abbrev pub ids_of : List ℕ → MessageIds
@@ -25,7 +26,8 @@ ids_of octets = record {
 
 abbrev pub ids_if_whole : Option (List ℕ) → Option MessageIds
 ids_if_whole None = None
-ids_if_whole (Some octets) = if length octets == MESSAGE_IDS_OCTETS then Some (ids_of octets) else None
+ids_if_whole (Some octets) = if length octets == MESSAGE_IDS_OCTETS then Some (ids_of octets)
+    else None
 
 -- what the first of them says, where it has twelve octets
 abbrev pub ids_in : List PayloadValue → Option MessageIds
@@ -46,6 +48,10 @@ delta_in octets = if length octets == DELTA_OCTETS then from_be_bytes w64 octets
 
 -- the payloads ask for this synchronisation
 pub record IsRequest (payloads : List PayloadValue) (request : SyncRequest) : Type 0 where
-  pub ids : ids_in payloads ≡ Some (record { nonce = request.nonce; send = request.m1; receive = request.p1 })
+  pub ids : ids_in payloads ≡ Some (record {
+    nonce = request.nonce;
+    send = request.m1;
+    receive = request.p1;
+  })
   pub size : request.size ≡ size_in (replay_in payloads)
   pub delta : request.delta ≡ delta_in (replay_in payloads)

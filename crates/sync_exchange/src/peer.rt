@@ -67,7 +67,8 @@ fn least_above(highest: Option<u32>, id: u32) -> Result<u32, SyncDrop>
 fn risen(size: u32, end: u64, next_esp: u64, request: &SyncRequest) -> Option<u64>
     ensures { MatchOption result
         (CannotRise size end next_esp request.now)
-        (λ risen. CanRise size end next_esp request.now × (risen ≡ next_esp + rise_of size request.now)) }
+        (λ risen. CanRise size end next_esp request.now
+        × (risen ≡ next_esp + rise_of size request.now)) }
 {
     if request.size != 0 && request.size != size {
         return None;

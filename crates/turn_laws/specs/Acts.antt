@@ -37,11 +37,23 @@ pub record Act : Type 0 where
 
 -- a holding of an epoch that was granted: of each counter it begins and ends at the base
 abbrev pub holding_begun : Counter → Taken → Holding
-holding_begun c taken = record { epoch = taken.epoch; base = five_at taken.bases c; high = five_at taken.bases c; end = end_of taken.sa c; numbers = [] }
+holding_begun c taken = record {
+  epoch = taken.epoch;
+  base = five_at taken.bases c;
+  high = five_at taken.bases c;
+  end = end_of taken.sa c;
+  numbers = [];
+}
 
 -- what the peer holds of an association that came to it: all numbers of its counter
 abbrev pub begun_theirs : Counter → Record → Holding
-begun_theirs c sa = record { epoch = 1; base = start_of sa c; high = end_of sa c; end = end_of sa c; numbers = [] }
+begun_theirs c sa = record {
+  epoch = 1;
+  base = start_of sa c;
+  high = end_of sa c;
+  end = end_of sa c;
+  numbers = [];
+}
 
 -- by what was granted, and up to where was covered
 abbrev pub effect_ours : Actor → Counter → Option Taken → Option ℕ → Effect
@@ -60,7 +72,8 @@ entered_at spir asked answered = None
 
 -- what a call does at a place, by what its caller saw
 abbrev pub effect_of_call : Place → Actor → KeeperAsk → KeeperAnswer → Effect
-effect_of_call (Ours spir c) w asked answered = effect_ours w c (granted spir asked answered) (covered spir c asked answered)
+effect_of_call (Ours spir c) w asked answered = effect_ours w c (granted spir asked answered)
+    (covered spir c asked answered)
 effect_of_call (Theirs spir c) w asked answered = effect_theirs w c (entered_at spir asked answered)
 effect_of_call (Pooled pool) w asked answered = Nothing
 
@@ -70,11 +83,18 @@ effect_of_use p (Some q) w n = if is_place q p then Draws w n else Nothing
 
 -- a lot that was leased after so many: all its numbers may be used
 abbrev pub lot_begun : ℕ → NumberPool → ℕ → ℕ → Holding
-lot_begun before pool first count = record { epoch = before + 1; base = first; high = first + count; end = pool_end pool; numbers = [] }
+lot_begun before pool first count = record {
+  epoch = before + 1;
+  base = first;
+  high = first + count;
+  end = pool_end pool;
+  numbers = [];
+}
 
 -- what a lease does at a place, after these lots
 abbrev pub effect_of_lease : Place → List ℕ → Actor → NumberPool → ℕ → ℕ → Bool → Effect
-effect_of_lease (Pooled q) lots w pool first count true = if is_pool pool q then Begins w (lot_begun (length lots) pool first count) else Nothing
+effect_of_lease (Pooled q) lots w pool first count true =
+    if is_pool pool q then Begins w (lot_begun (length lots) pool first count) else Nothing
 effect_of_lease p lots w pool first count seen = Nothing
 
 -- what a move does at a place, after these lots
@@ -102,12 +122,14 @@ lots_at p (act ∷ acts) = lots_after act.move p (lots_at p acts)
 -- what each end holds at a place
 abbrev pub holding_at : Place → List Act → Actor → Option Holding
 holding_at p [] = λ w. None
-holding_at p (act ∷ acts) = holding_after (effect_of p (lots_at p acts) act.by act.move) (holding_at p acts)
+holding_at p (act ∷ acts) = holding_after (effect_of p (lots_at p acts) act.by act.move)
+    (holding_at p acts)
 
 -- the numbers of a place that were used
 abbrev pub uses_at : Place → List Act → List Use
 uses_at p [] = []
-uses_at p (act ∷ acts) = uses_after (effect_of p (lots_at p acts) act.by act.move) (holding_at p acts) (uses_at p acts)
+uses_at p (act ∷ acts) = uses_after (effect_of p (lots_at p acts) act.by act.move)
+    (holding_at p acts) (uses_at p acts)
 
 abbrev pub numbers_at : Place → List Act → List ℕ
 numbers_at p acts = map (λ u. u.number) (uses_at p acts)
@@ -133,7 +155,9 @@ pub record IsImport (sa : Record) : Type 0 where
 
 -- what a call needs beside the book
 abbrev pub MayAsk : List Act → Actor → KeeperAsk → Type 0
-MayAsk acts w (ask.Cover spir kind child epoch upto) = MatchOption (counter_named kind child) ⊥ (λ c. MayCover (holding_at (Ours spir c) acts w) epoch upto)
+MayAsk acts w (ask.Cover spir kind child epoch upto) =
+    MatchOption (counter_named kind child) ⊥ (λ c. MayCover
+    (holding_at (Ours spir c) acts w) epoch upto)
 MayAsk acts w (ask.Enter sa) = IsImport sa
 MayAsk acts w asked = Unit {0}
 
@@ -141,14 +165,16 @@ MayAsk acts w asked = Unit {0}
 abbrev pub MayDo : List Act → Actor → Move → Type 0
 MayDo acts w (Calls call) = MayAsk acts w call.asked
 MayDo acts w (Uses p n) = HoldsFor (holding_at p acts w) n
-MayDo acts w (Seals key) = MatchOption (place_of key.name) ⊥ (λ p. HoldsFor (holding_at p acts w) key.iv)
+MayDo acts w (Seals key) = MatchOption (place_of key.name) ⊥
+    (λ p. HoldsFor (holding_at p acts w) key.iv)
 MayDo acts w (Leases pool first count seen) = first + count ≤ pool_end pool
 MayDo acts w Ends = Unit {0}
 
 -- each of these moves of one end may come after those before it
 abbrev pub MayDoAll : List Act → Actor → List Move → Type 0
 MayDoAll acts w [] = Unit {0}
-MayDoAll acts w (move ∷ moves) = MayDo acts w move × MayDoAll (record { by = w; move = move } ∷ acts) w moves
+MayDoAll acts w (move ∷ moves) = MayDo acts w move
+    × MayDoAll (record { by = w; move = move } ∷ acts) w moves
 
 -- the acts with these moves after them
 abbrev pub acts_onto : Actor → List Move → List Act → List Act

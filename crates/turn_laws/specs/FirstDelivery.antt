@@ -39,7 +39,8 @@ MemberAcceptsFirst past turn =
 abbrev pub PeerAcceptsFirst : List Turn → Turn → Type 0
 PeerAcceptsFirst past turn =
     (number : ℕ) (slot : Slot) (payload octets : List ℕ) → Came past turn Peer octets
-    → first_slot (receives_at (spi_of octets)) (slots_by (window_by past) (own Peer past)) ≡ Some slot
+    → first_slot (receives_at (spi_of octets)) (slots_by (window_by past) (own Peer past))
+    ≡ Some slot
     → IsEspDatagram slot.sa.child.to_peer slot.sa.spi_out number payload 4 octets
     → WindowCovers slot.window number
     → IsFirst (Theirs slot.sa.spir counter.EspIn) number past

@@ -65,9 +65,11 @@ drawn n h = record h { numbers = n ∷ h.numbers }
 abbrev pub holding_after : Effect → (Actor → Option Holding) → Actor → Option Holding
 holding_after Nothing held v = held v
 holding_after (Begins w h) held v = if is_actor w v then Some h else held v
-holding_after (Rises w upto) held v = if is_actor w v then option_map (raised_to upto) (held v) else held v
+holding_after (Rises w upto) held v = if is_actor w v then option_map (raised_to upto) (held v)
+    else held v
 holding_after (Draws w n) held v = if is_actor w v then option_map (drawn n) (held v) else held v
-holding_after (Passes w u) held v = if is_actor u v then held w else (if is_actor w v then None else held v)
+holding_after (Passes w u) held v = if is_actor u v then held w
+    else (if is_actor w v then None else held v)
 
 -- 0 is no epoch: nothing is held
 abbrev pub epoch_of : Option Holding → ℕ
@@ -81,7 +83,11 @@ use_end (Some h) = h.end
 
 -- the numbers that were used, the newest first
 abbrev pub uses_after : Effect → (Actor → Option Holding) → List Use → List Use
-uses_after (Draws w n) held uses = record { epoch = epoch_of (held w); number = n; end = use_end (held w) } ∷ uses
+uses_after (Draws w n) held uses = record {
+  epoch = epoch_of (held w);
+  number = n;
+  end = use_end (held w);
+} ∷ uses
 uses_after effect held uses = uses
 
 -- an epoch that began, its base, no number of the next one, and the end of the counter

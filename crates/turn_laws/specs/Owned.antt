@@ -20,10 +20,12 @@ abbrev pub Writes : Book → Move → Book → Type 0
 Writes old (Calls call) new = Enters old call new
 Writes old (Uses place number) new = new ≡ old
 Writes old (Seals key) new = new ≡ old
-Writes old (Leases pool first count seen) new = (first ≡ pool_next pool old) × (new ≡ with_pool_next pool (first + count) old)
+Writes old (Leases pool first count seen) new = (first ≡ pool_next pool old)
+    × (new ≡ with_pool_next pool (first + count) old)
 Writes old Ends new = new ≡ old
 
 -- each act may come after those before it, and the book is the one that they lead to
 abbrev pub Lawful : List Act → Book → Type 0
 Lawful [] book = book ≡ empty
-Lawful (act ∷ acts) book = (mid : Book) × Lawful acts mid × MayDo acts act.by act.move × Writes mid act.move book
+Lawful (act ∷ acts) book = (mid : Book) × Lawful acts mid × MayDo acts act.by act.move
+    × Writes mid act.move book

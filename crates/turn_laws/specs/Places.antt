@@ -56,7 +56,8 @@ place_pooled origin kind = None
 -- where the numbers of a name are
 abbrev pub place_of : CounterName → Option Place
 place_of name =
-    first_some (place_named name.end (spir_of_origin name.origin) (counter_named name.kind name.child))
+    first_some (place_named name.end (spir_of_origin name.origin)
+    (counter_named name.kind name.child))
     (place_pooled name.origin name.kind)
 
 -- the counter of the other end that counts the same: what one sends, the other receives
@@ -74,12 +75,20 @@ start_of sa c = five_at sa.starts (mirrored c)
 -- the cluster's epochs are those of the book
 abbrev pub column_ours : Counter → Option Entry → Column
 column_ours c None = nothing
-column_ours c (Some e) = record { bases = map (λ five. five_at five c) e.bases; high = five_at e.highs c; end = end_of e.sa c }
+column_ours c (Some e) = record {
+  bases = map (λ five. five_at five c) e.bases;
+  high = five_at e.highs c;
+  end = end_of e.sa c;
+}
 
 -- the peer has one epoch, which goes to the counter's end
 abbrev pub column_theirs : Counter → Option Entry → Column
 column_theirs c None = nothing
-column_theirs c (Some e) = record { bases = start_of e.sa c ∷ []; high = end_of e.sa c; end = end_of e.sa c }
+column_theirs c (Some e) = record {
+  bases = start_of e.sa c ∷ [];
+  high = end_of e.sa c;
+  end = end_of e.sa c;
+}
 
 -- the next number of a pool, by the book
 abbrev pub pool_next : NumberPool → Book → ℕ
@@ -102,7 +111,11 @@ pool_end NonceNumbers = 65280
 abbrev pub column : Place → List ℕ → Book → Column
 column (Ours spir c) lots book = column_ours c (entry_of spir book.entries)
 column (Theirs spir c) lots book = column_theirs c (entry_of spir book.entries)
-column (Pooled pool) lots book = record { bases = lots; high = pool_next pool book; end = pool_end pool }
+column (Pooled pool) lots book = record {
+  bases = lots;
+  high = pool_next pool book;
+  end = pool_end pool;
+}
 
 -- no number of a place reaches this end, which the record of the association gives
 abbrev pub end_at : Place → Book → ℕ

@@ -10,9 +10,11 @@ use Rattle.keeper_book.specs.declared.faults.KeeperFault.TheVariants as fault
 
 -- a cover that is answered so is one of an earlier epoch
 abbrev pub IsReplacedLater : KeeperAsk → KeeperAnswer → Type 0
-IsReplacedLater (ask.Cover spir kind child epoch upto) (answer.Refused (fault.Replaced later)) = epoch < later
+IsReplacedLater (ask.Cover spir kind child epoch upto) (answer.Refused (fault.Replaced later)) =
+    epoch < later
 IsReplacedLater asked answered = Unit {0}
 
 -- so it is in each call of these turns
 abbrev pub AreReplacedLater : List Turn → Type 0
-AreReplacedLater past = AllByRecursion (λ turn. AllByRecursion (λ call. IsReplacedLater call.asked call.answer) turn.calls) past
+AreReplacedLater past = AllByRecursion (λ turn. AllByRecursion
+    (λ call. IsReplacedLater call.asked call.answer) turn.calls) past

@@ -48,7 +48,8 @@ key_iv seal = record { name = seal.name; iv = seal.iv }
 
 -- the calls of a turn, the numbers that it used, and what it sealed
 abbrev pub moves_of : Turn → List Move
-moves_of turn = map Calls turn.calls ++ (uses_of turn.event turn.step.verdict ++ map (λ seal. Seals (key_iv seal)) turn.step.seals)
+moves_of turn = map Calls turn.calls ++ (uses_of turn.event turn.step.verdict
+    ++ map (λ seal. Seals (key_iv seal)) turn.step.seals)
 
 abbrev pub actor_as : Option Performer → Actor
 actor_as None = Run

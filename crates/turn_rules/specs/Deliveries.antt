@@ -10,7 +10,8 @@ use Rattle.turn_rules.specs.Slots.{PeerReceives, Slot}
 use Rattle.turn_rules.specs.Steps.{IsQuiet}
 
 -- a member receives a packet by what it holds, and says what it answers
-pub record MemberTakes (held : ℕ → Option Held) (octets : List ℕ) (calls : List Call) (step : Step) : Type 0 where
+pub record MemberTakes (held : ℕ → Option Held) (octets : List ℕ) (calls : List Call)
+    (step : Step) : Type 0 where
   pub answer : EspVerdict
   pub after : List ℕ
   pub receives : MemberReceives held octets calls answer after
@@ -18,7 +19,8 @@ pub record MemberTakes (held : ℕ → Option Held) (octets : List ℕ) (calls :
   pub quiet : IsQuiet step
 
 -- the peer receives a packet by its associations, and says what it answers
-pub record PeerTakes (slots : List Slot) (octets : List ℕ) (calls : List Call) (step : Step) : Type 0 where
+pub record PeerTakes (slots : List Slot) (octets : List ℕ) (calls : List Call)
+    (step : Step) : Type 0 where
   pub answer : EspVerdict
   pub after : List ℕ
   pub receives : PeerReceives slots octets answer after

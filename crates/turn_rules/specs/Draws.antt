@@ -40,7 +40,12 @@ child_of c = 0
 
 -- the cluster's counter of an association
 abbrev pub counter_name : Record → Counter → CounterName
-counter_name sa c = record { origin = sa.origin; kind = counter_kind c; child = child_of c; end = end.Cluster }
+counter_name sa c = record {
+  origin = sa.origin;
+  kind = counter_kind c;
+  child = child_of c;
+  end = end.Cluster;
+}
 
 -- how far a counter of what is held reaches
 abbrev pub reach_of : Held → Counter → Reach
@@ -85,27 +90,32 @@ pub record Concludes (calls : List Call) (verdict is : Verdict) : Type 0 where
 
 -- the next ESP number is drawn, once it is ready
 abbrev pub Draws : Held → List Call → Verdict → Type 0
-Draws held calls verdict = Ready (reach_of held counter.EspOut) (five_at held.nexts counter.EspOut) calls
+Draws held calls verdict = Ready (reach_of held counter.EspOut)
+    (five_at held.nexts counter.EspOut) calls
     (λ why rest. Concludes rest verdict (out.Refused (refusal_of_stop why)))
     (λ high rest. Concludes rest verdict (out.Number (five_at held.nexts counter.EspOut)))
 
 -- what a takeover comes out as; what is granted is the record of the association
 abbrev pub Grants : ℕ → KeeperAnswer → Verdict → Type 0
 Grants spir answer.Done verdict = ⊥
-Grants spir (answer.Taken taken) verdict = (taken.sa.spir ≡ spir) × (verdict ≡ out.Owned taken.epoch taken.bases)
-Grants spir (answer.Refused why) verdict = MatchOption (refusal_of_takeover why) ⊥ (λ r. verdict ≡ out.Refused r)
+Grants spir (answer.Taken taken) verdict = (taken.sa.spir ≡ spir)
+    × (verdict ≡ out.Owned taken.epoch taken.bases)
+Grants spir (answer.Refused why) verdict = MatchOption (refusal_of_takeover why) ⊥
+    (λ r. verdict ≡ out.Refused r)
 
 -- an association is taken over by one call
 abbrev pub TakesOver : ℕ → ℕ → List Call → Verdict → Type 0
 TakesOver spir member [] verdict = ⊥
-TakesOver spir member (call ∷ []) verdict = (call.asked ≡ ask.TakeOver spir member) × Grants spir (seen call) verdict
+TakesOver spir member (call ∷ []) verdict = (call.asked ≡ ask.TakeOver spir member)
+    × Grants spir (seen call) verdict
 TakesOver spir member (call ∷ other ∷ more) verdict = ⊥
 
 -- what an import comes out as
 abbrev pub Admits : KeeperAnswer → Verdict → Type 0
 Admits answer.Done verdict = verdict ≡ out.Entered
 Admits (answer.Taken taken) verdict = ⊥
-Admits (answer.Refused why) verdict = MatchOption (refusal_of_import why) ⊥ (λ r. verdict ≡ out.Refused r)
+Admits (answer.Refused why) verdict = MatchOption (refusal_of_import why) ⊥
+    (λ r. verdict ≡ out.Refused r)
 
 -- an association is entered by one call
 abbrev pub EntersRecord : Record → List Call → Verdict → Type 0

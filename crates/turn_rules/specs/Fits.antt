@@ -29,7 +29,8 @@ use Rattle.turn_rules.specs.Steps.{IsQuiet, Says}
 abbrev pub MAX_MEMBERS : ℕ
 MAX_MEMBERS = 64
 
--- the SPIs that a run may import: the greater ones are for imports, and the others for what the cluster draws itself
+-- the SPIs that a run may import: the greater ones are for imports, and the others for what the
+-- cluster draws itself
 abbrev pub is_importable : Record → Bool
 is_importable sa =
     nat_le LEAST_SPI sa.spii && nat_le LEAST_SPI sa.spir
@@ -50,7 +51,8 @@ Refusing true why calls step otherwise = Refuses why calls step
 Refusing false why calls step otherwise = otherwise
 
 -- nothing was executed, sealed or sent, and this holds of the calls and the verdict
-pub record Quietly (rule : List Call → Verdict → Type 0) (calls : List Call) (step : Step) : Type 0 where
+pub record Quietly (rule : List Call → Verdict → Type 0) (calls : List Call)
+    (step : Step) : Type 0 where
   pub follows : rule calls step.verdict
   pub quiet : IsQuiet step
 
@@ -88,7 +90,8 @@ refused_where false why otherwise = otherwise
 abbrev pub refused_absent : RunState → Option ℕ → Option Refusal → Option Refusal
 refused_absent state None otherwise = otherwise
 refused_absent state (Some member) otherwise =
-    refused_where (not (has_joined member state)) refusal.NoMember (refused_where (state.ended member) refusal.Down otherwise)
+    refused_where (not (has_joined member state)) refusal.NoMember
+    (refused_where (state.ended member) refusal.Down otherwise)
 
 -- no end receives an IKE message yet
 abbrev pub refused_medium : Medium → Option Refusal
@@ -104,19 +107,23 @@ abbrev pub refused_delivery : RunState → Option Delivery → Option Refusal
 refused_delivery state None = None
 refused_delivery state (Some delivery) = refused_arrival (delivery.made state.datagrams)
 
--- what some events ask besides: that nothing was played before, that the SPIs may be imported, that there is room for one
--- more member, and that something arrives
+-- what some events ask besides: that nothing was played before, that the SPIs may be imported, that
+-- there is room for one more member, and that something arrives
 abbrev pub refused_besides : RunState → Event → Option Refusal
-refused_besides state (event.Cluster identity lifetime window ticket_key) = refused_where state.started refusal.Late None
-refused_besides state (event.Import sa) = refused_where (not (is_importable sa)) refusal.SpiRange None
+refused_besides state (event.Cluster identity lifetime window ticket_key) =
+    refused_where state.started refusal.Late None
+refused_besides state (event.Import sa) = refused_where
+    (not (is_importable sa)) refusal.SpiRange None
 refused_besides state (event.Join fresh) =
-    refused_where (nat_le MAX_MEMBERS state.joined || nat_le state.boxes state.joined) (refusal.NoRoom state.joined) None
+    refused_where (nat_le MAX_MEMBERS state.joined || nat_le state.boxes state.joined)
+    (refusal.NoRoom state.joined) None
 refused_besides state event = refused_delivery state (delivery_of event)
 
 -- why the run itself refuses an event, before any end sees it
 abbrev pub run_refusal : RunState → Event → Option Refusal
 run_refusal state event =
-    refused_where (is_of_datagrams event && nat_le MAX_DATAGRAMS (length state.datagrams)) refusal.DatagramsFull
+    refused_where (is_of_datagrams event && nat_le MAX_DATAGRAMS
+    (length state.datagrams)) refusal.DatagramsFull
     (refused_absent state (named_in event) (refused_besides state event))
 
 -- the peer has no association that stands in the way, or the import is refused
@@ -138,22 +145,28 @@ SendsOf (Some held) payload calls step = SendsData held payload calls step
 -- an end receives what arrives
 abbrev pub Receives : RunState → Party → Result PlainDatagram Refusal → List Call → Step → Type 0
 Receives state to (Err why) calls step = ⊥
-Receives state parties.Peer (Ok datagram) calls step = PeerTakes state.slots datagram.octets calls step
-Receives state (parties.Member member) (Ok datagram) calls step = MemberTakes (state.held member) datagram.octets calls step
+Receives state parties.Peer (Ok datagram) calls step =
+    PeerTakes state.slots datagram.octets calls step
+Receives state (parties.Member member) (Ok datagram) calls step =
+    MemberTakes (state.held member) datagram.octets calls step
 
 abbrev pub Delivers : RunState → Option Delivery → List Call → Step → Type 0
 Delivers state None calls step = ⊥
-Delivers state (Some delivery) calls step = Receives state delivery.to (delivery.made state.datagrams) calls step
+Delivers state (Some delivery) calls step = Receives state delivery.to
+    (delivery.made state.datagrams) calls step
 
--- the calls of an event that the run does not refuse, and what the end does that performs it, by what the ends hold
+-- the calls of an event that the run does not refuse, and what the end does that performs it, by
+-- what the ends hold
 abbrev pub Performs : RunState → Event → List Call → Step → Type 0
-Performs state (event.Cluster identity lifetime window ticket_key) calls step = Yields out.Configured calls step
+Performs state (event.Cluster identity lifetime window ticket_key) calls step =
+    Yields out.Configured calls step
 Performs state (event.Import sa) calls step = Imports state sa calls step
 Performs state (event.Join fresh) calls step = Yields (out.Member (state.joined + 1)) calls step
 Performs state (event.Own member spir) calls step = Quietly (TakesOver spir member) calls step
 Performs state (event.Draw member spir) calls step = DrawsOf (state.held member spir) calls step
 Performs state (event.Crash member) calls step = Yields out.Down calls step
-Performs state (event.Send parties.Peer spir payload) calls step = (calls ≡ []) × PeerSends spir state.slots payload.octets step
+Performs state (event.Send parties.Peer spir payload) calls step =
+    (calls ≡ []) × PeerSends spir state.slots payload.octets step
 Performs state (event.Send (parties.Member member) spir payload) calls step =
     SendsOf (state.held member spir) payload.octets calls step
 Performs state event calls step = Delivers state (delivery_of event) calls step

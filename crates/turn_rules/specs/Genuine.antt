@@ -28,8 +28,8 @@ use Rattle.turn_rules.specs.Packets.{Inbound}
 use Rattle.turn_rules.specs.States.{has_ended, joins}
 use Rattle.turn_rules.specs.Slots.{Slot, first_slot, peer_counter, receives_at, slot_inbound, slots_by}
 
--- The octets name the SPI at which is received, and are the packet of this payload under its key; the number is covered by
--- the window and was not accepted before.
+-- The octets name the SPI at which is received, and are the packet of this payload under its key;
+-- the number is covered by the window and was not accepted before.
 pub record IsGenuine (inbound : Inbound) (number : ℕ) (payload octets : List ℕ) : Type 0 where
   pub named : spi_of octets ≡ inbound.spi
   pub sealed : IsEspDatagram inbound.key inbound.spi number payload 4 octets
@@ -38,16 +38,19 @@ pub record IsGenuine (inbound : Inbound) (number : ℕ) (payload octets : List �
 
 -- the number lies below what was acknowledged, or each call was answered so that it does
 abbrev pub IsAcknowledged : Held → ℕ → List Call → Type 0
-IsAcknowledged held number calls = (number < held.highs.esp_in) ⊎ AllByRecursion (λ call. seen call ≡ answers.Done) calls
+IsAcknowledged held number calls = (number < held.highs.esp_in)
+    ⊎ AllByRecursion (λ call. seen call ≡ answers.Done) calls
 
 -- the payload was accepted under its number, as an IPv4 packet (RFC 4303, section 2.6)
-pub record IsAcceptedAs (name : CounterName) (number : ℕ) (payload : List ℕ) (verdict : Verdict) : Type 0 where
+pub record IsAcceptedAs (name : CounterName) (number : ℕ) (payload : List ℕ)
+    (verdict : Verdict) : Type 0 where
   pub given : WithRoom
   pub said : verdict ≡ out.Accepted name number 4 given
   pub same : given.octets ≡ payload
 
 -- the same of the answer to its octets, which are then these
-pub record IsTakenAs (name : CounterName) (number : ℕ) (payload : List ℕ) (answer : EspVerdict) (after : List ℕ) : Type 0 where
+pub record IsTakenAs (name : CounterName) (number : ℕ) (payload : List ℕ) (answer : EspVerdict)
+    (after : List ℕ) : Type 0 where
   pub packet : EspOpened
   pub said : answer ≡ esp.Accepted name packet
   pub number_is : packet.number ≡ number
@@ -59,18 +62,21 @@ abbrev pub IsUp : List Turn → Performer → Type 0
 IsUp past Peer = Unit {0}
 IsUp past (Member member) = (1 ≤ member) × (member ≤ joins past) × (has_ended member past ≡ false)
 
--- The event of the turn delivers these octets, unchanged or not, to an end that is up, while the run has room for one more
--- datagram.
+-- The event of the turn delivers these octets, unchanged or not, to an end that is up, while the
+-- run has room for one more datagram.
 pub record Came (past : List Turn) (turn : Turn) (to : Performer) (octets : List ℕ) : Type 0 where
   pub addressed : receiver_of (delivery_of turn.event) ≡ Some to
   pub up : IsUp past to
   pub room : length (datagrams_of past) < MAX_DATAGRAMS
-  pub arrived : arrives (datagrams_of past) turn.event ≡ Ok (record { medium = medium.Esp; octets = octets })
+  pub arrived : arrives (datagrams_of past) turn.event
+      ≡ Ok (record { medium = medium.Esp; octets = octets })
 
--- a covered genuine packet that comes to a member is accepted at first delivery, where its number is acknowledged
+-- a covered genuine packet that comes to a member is accepted at first delivery, where its number
+-- is acknowledged
 abbrev pub MemberAccepts : List Turn → Turn → Type 0
 MemberAccepts past turn =
-    (member spir number : ℕ) (held : Held) (payload octets : List ℕ) → Came past turn (Member member) octets
+    (member spir number : ℕ) (held : Held) (payload octets : List ℕ)
+    → Came past turn (Member member) octets
     → IsReceiver (held_by (window_by past) (own (Member member) past)) (spi_of octets) spir held
     → IsGenuine (inbound_of held) number payload octets → IsAcknowledged held number turn.calls
     → IsAcceptedAs (counter_name held.sa counter.EspIn) number payload turn.step.verdict
@@ -79,7 +85,8 @@ MemberAccepts past turn =
 abbrev pub PeerAccepts : List Turn → Turn → Type 0
 PeerAccepts past turn =
     (number : ℕ) (slot : Slot) (payload octets : List ℕ) → Came past turn Peer octets
-    → first_slot (receives_at (spi_of octets)) (slots_by (window_by past) (own Peer past)) ≡ Some slot
+    → first_slot (receives_at (spi_of octets)) (slots_by (window_by past) (own Peer past))
+    ≡ Some slot
     → IsGenuine (slot_inbound slot) number payload octets
     → IsAcceptedAs (peer_counter slot.sa counter.EspIn) number payload turn.step.verdict
 

@@ -26,8 +26,9 @@ use Rattle.turn_rules.specs.Datagrams.{delivery_of}
 use Rattle.turn_rules.specs.Tasks as task
 use Rattle.turn_rules.specs.Tasks.{Task, member_task, receipt}
 
--- What a member holds of an association: the record and the epoch that it was granted, of each counter where the epoch
--- began, the next number, and the high below which numbers may be used, and which ESP numbers were received in it.
+-- What a member holds of an association: the record and the epoch that it was granted, of each
+-- counter where the epoch began, the next number, and the high below which numbers may be used, and
+-- which ESP numbers were received in it.
 pub record Held : Type 0 where
   pub sa : Record
   pub epoch : ℕ
@@ -50,7 +51,13 @@ greatest least [] = least
 greatest least (n ∷ ns) = max n (greatest least ns)
 
 abbrev pub five_of : (Counter → ℕ) → Five
-five_of f = record { esp_out = f counter.EspOut; esp_in = f counter.EspIn; iv = f counter.Iv; ask = f counter.Ask; answer = f counter.Answer }
+five_of f = record {
+  esp_out = f counter.EspOut;
+  esp_in = f counter.EspIn;
+  iv = f counter.Iv;
+  ask = f counter.Ask;
+  answer = f counter.Answer;
+}
 
 abbrev pub is_counter : Counter → Counter → Bool
 is_counter counter.EspOut counter.EspOut = true
@@ -66,18 +73,22 @@ is_named c (Some d) = is_counter c d
 
 -- what the member saw granted of the association
 abbrev pub granted : ℕ → KeeperAsk → KeeperAnswer → Option Taken
-granted spir (ask.TakeOver asked member) (answer.Taken taken) = if asked == spir then Some taken else None
+granted spir (ask.TakeOver asked member) (answer.Taken taken) =
+    if asked == spir then Some taken else None
 granted spir asked answered = None
 
 -- up to where the member saw the counter of the association covered
 abbrev pub covered : ℕ → Counter → KeeperAsk → KeeperAnswer → Option ℕ
-covered spir c (ask.Cover asked kind child epoch upto) answer.Done = if (asked == spir) && is_named c (counter_named kind child) then Some upto else None
+covered spir c (ask.Cover asked kind child epoch upto) answer.Done =
+    if (asked == spir) && is_named c (counter_named kind child) then Some upto else None
 covered spir c asked answered = None
 
 -- the number of the counter of the association that was used at a task
 abbrev pub used_in : ℕ → Counter → Task → Verdict → Option ℕ
-used_in spir counter.EspOut (task.Draw asked) (out.Number n) = if asked == spir then Some n else None
-used_in spir counter.EspOut (task.Send asked payload) (out.Sent n) = if asked == spir then Some n else None
+used_in spir counter.EspOut (task.Draw asked) (out.Number n) =
+    if asked == spir then Some n else None
+used_in spir counter.EspOut (task.Send asked payload) (out.Sent n) =
+    if asked == spir then Some n else None
 used_in spir c asked verdict = None
 
 -- the number that a member used at an event
@@ -90,7 +101,8 @@ is_of_spir spir (Some other) = other == spir
 
 -- the number of the association's ESP packet that was accepted
 abbrev pub accepted : ℕ → Verdict → Option ℕ
-accepted spir (out.Accepted name number next_header payload) = if is_of_spir spir (spir_of_origin name.origin) then Some number else None
+accepted spir (out.Accepted name number next_header payload) =
+    if is_of_spir spir (spir_of_origin name.origin) then Some number else None
 accepted spir verdict = None
 
 -- the number of the association's ESP packet that was received at a task
@@ -128,15 +140,18 @@ since spir (turn ∷ past) = if is_some (grant_of spir turn) then [] else turn �
 
 -- one more than each number of the counter that was used since then, and no less than its base
 abbrev pub next_number_of : ℕ → Counter → Five → List Turn → ℕ
-next_number_of spir c bases past = greatest (five_at bases c) (map (λ n. n + 1) (filter_map (number_of spir c) (since spir past)))
+next_number_of spir c bases past = greatest (five_at bases c)
+    (map (λ n. n + 1) (filter_map (number_of spir c) (since spir past)))
 
 -- the greatest cover of the counter that was acknowledged since then, and no less than its base
 abbrev pub high_of : ℕ → Counter → Five → List Turn → ℕ
-high_of spir c bases past = greatest (five_at bases c) (flat_map (covers_of spir c) (since spir past))
+high_of spir c bases past = greatest (five_at bases c)
+    (flat_map (covers_of spir c) (since spir past))
 
 -- the receive window of this size, in which the numbers were noted that were accepted since then
 abbrev pub window_since : ℕ → ℕ → Five → List Turn → Window
-window_since size spir bases past = window_of size bases.esp_in (filter_map (received_of spir) (since spir past))
+window_since size spir bases past = window_of size bases.esp_in
+    (filter_map (received_of spir) (since spir past))
 
 abbrev pub holding : ℕ → ℕ → List Turn → Taken → Held
 holding size spir past taken = record {
@@ -148,7 +163,8 @@ holding size spir past taken = record {
   window = window_since size spir taken.bases past;
 }
 
--- what an end with these turns of its own, and with receive windows of this size, holds of the association
+-- what an end with these turns of its own, and with receive windows of this size, holds of the
+-- association
 abbrev pub held_by : ℕ → List Turn → ℕ → Option Held
 held_by size past spir = option_map (holding size spir past) (found (grant_of spir) past)
 
@@ -182,7 +198,8 @@ advanced spir asked calls step held = record held {
 -- what is held of the association after one more turn
 abbrev pub held_after : ℕ → ℕ → Task → List Call → Step → Option Held → Option Held
 held_after size spir asked calls step held =
-    first_some (option_map (held_begun size) (grant_in spir calls)) (option_map (advanced spir asked calls step) held)
+    first_some (option_map (held_begun size) (grant_in spir calls))
+    (option_map (advanced spir asked calls step) held)
 
 -- what is held of the association, of what is held
 abbrev pub held_at : List Held → ℕ → Option Held

@@ -11,8 +11,8 @@ use Rattle.turn_rules.specs.Fits.{FitsTurns}
 abbrev pub AreShown : List Call → Type 0
 AreShown calls = AllByRecursion (λ call. call.hidden ≡ false) calls
 
--- a turn follows its rule: it is what the turns before it make of its event and the answers to its calls, and each answer is
--- one that its call has, whatever the keeper's book is
+-- a turn follows its rule: it is what the turns before it make of its event and the answers to its
+-- calls, and each answer is one that its call has, whatever the keeper's book is
 pub record IsByRule (boxes : ℕ) (past : List Turn) (turn : Turn) : Type 0 where
   pub fits : FitsTurns boxes past turn.event turn.calls turn.step
   pub answers : AreAnswers turn.calls

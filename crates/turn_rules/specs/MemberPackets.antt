@@ -24,13 +24,20 @@ outbound_of held = record {
 }
 
 abbrev pub inbound_of : Held → Inbound
-inbound_of held = record { counter = counter_name held.sa counter.EspIn; key = held.sa.child.to_cluster; spi = held.sa.spi_in; window = held.window }
+inbound_of held = record {
+  counter = counter_name held.sa counter.EspIn;
+  key = held.sa.child.to_cluster;
+  spi = held.sa.spi_in;
+  window = held.window;
+}
 
 -- a payload is sent under the next ESP number, once it is ready
 abbrev pub SendsData : Held → List ℕ → List Call → Step → Type 0
-SendsData held payload calls step = Ready (reach_of held counter.EspOut) (five_at held.nexts counter.EspOut) calls
+SendsData held payload calls step = Ready (reach_of held counter.EspOut)
+    (five_at held.nexts counter.EspOut) calls
     (λ why rest. (rest ≡ []) × Says (out.Refused (refusal_of_stop why)) step)
-    (λ high rest. (rest ≡ []) × SendsEsp (outbound_of held) (five_at held.nexts counter.EspOut) payload step)
+    (λ high rest. (rest ≡ []) × SendsEsp (outbound_of held)
+    (five_at held.nexts counter.EspOut) payload step)
 
 -- a packet that was opened is accepted once its number is ready
 abbrev pub TakesPacket : Held → Result EspOpened EspDrop → List Call → EspVerdict → Type 0
@@ -40,7 +47,8 @@ TakesPacket held (Ok packet) calls answer = Ready (reach_of held counter.EspIn) 
     (λ high rest. (rest ≡ []) × (answer ≡ esp.Accepted (counter_name held.sa counter.EspIn) packet))
 
 -- what is done with the octets of a packet where this is held
-pub record ReceivesPacket (held : Held) (octets : List ℕ) (calls : List Call) (answer : EspVerdict) (after : List ℕ) : Type 0 where
+pub record ReceivesPacket (held : Held) (octets : List ℕ) (calls : List Call) (answer : EspVerdict)
+    (after : List ℕ) : Type 0 where
   pub opened : Result EspOpened EspDrop
   pub opens : OpensEsp (inbound_of held) octets opened after
   pub takes : TakesPacket held opened calls answer
@@ -56,7 +64,8 @@ pub record IsReceiver (held : ℕ → Option Held) (spi spir : ℕ) (h : Held) :
   pub least : (other : ℕ) (g : Held) → held other ≡ Some g → g.sa.spi_in ≡ spi → spir ≤ other
 
 -- what is received by what receives at the SPI of a packet
-pub record IsReceived (held : ℕ → Option Held) (octets : List ℕ) (calls : List Call) (answer : EspVerdict) (after : List ℕ) : Type 0 where
+pub record IsReceived (held : ℕ → Option Held) (octets : List ℕ) (calls : List Call)
+    (answer : EspVerdict) (after : List ℕ) : Type 0 where
   pub spir : ℕ
   pub receiver : Held
   pub is_receiver : IsReceiver held (spi_of octets) spir receiver
@@ -66,9 +75,11 @@ pub record IsReceived (held : ℕ → Option Held) (octets : List ℕ) (calls : 
 abbrev pub DropsQuietly : EspDrop → List ℕ → List Call → EspVerdict → List ℕ → Type 0
 DropsQuietly why octets calls answer after = (calls ≡ []) × Drops why octets answer after
 
--- What a member does with the octets of a packet: they are too short, or nothing receives at their SPI, or what does
--- receives them.
-pub record MemberReceives (held : ℕ → Option Held) (octets : List ℕ) (calls : List Call) (answer : EspVerdict) (after : List ℕ) : Type 0 where
+-- What a member does with the octets of a packet: they are too short, or nothing receives at their
+-- SPI, or what does receives them.
+pub record MemberReceives (held : ℕ → Option Held) (octets : List ℕ) (calls : List Call)
+    (answer : EspVerdict) (after : List ℕ) : Type 0 where
   pub short : length octets < 34 → DropsQuietly drop.Short octets calls answer after
-  pub long : 34 ≤ length octets → (ReceivesNowhere held (spi_of octets) × DropsQuietly drop.WrongSpi octets calls answer after)
+  pub long : 34 ≤ length octets → (ReceivesNowhere held (spi_of octets)
+      × DropsQuietly drop.WrongSpi octets calls answer after)
       ⊎ IsReceived held octets calls answer after

@@ -16,21 +16,24 @@ use Rattle.ha_base.specs.declared.esp_outcomes.EspDrop.{EspDrop}
 use Rattle.ha_base.specs.declared.esp_outcomes.EspOpened.{EspOpened}
 use Rattle.replay_set.specs.Window.{Window, with_noted}
 
--- what is sent with: the key, by the counter of its numbers, and the SPI at which the other end receives
+-- what is sent with: the key, by the counter of its numbers, and the SPI at which the other end
+-- receives
 pub record Outbound : Type 0 where
   pub key : NamedKey
   pub spi : ℕ
 
--- what is received with: the counter of the numbers, the octets of the key, the SPI, and which numbers were received
+-- what is received with: the counter of the numbers, the octets of the key, the SPI, and which
+-- numbers were received
 pub record Inbound : Type 0 where
   pub counter : CounterName
   pub key : List ℕ
   pub spi : ℕ
   pub window : Window
 
--- A payload was sent under a number: its packet was sealed, with the number as its IV, and given. An IPv4 packet is what
--- stands in it (RFC 4303, section 2.6: next header 4).
-pub record SendsEsp (outbound : Outbound) (number : ℕ) (payload : List ℕ) (step : Step) : Type 0 where
+-- A payload was sent under a number: its packet was sealed, with the number as its IV, and given.
+-- An IPv4 packet is what stands in it (RFC 4303, section 2.6: next header 4).
+pub record SendsEsp (outbound : Outbound) (number : ℕ) (payload : List ℕ)
+    (step : Step) : Type 0 where
   pub seal : Seal
   pub datagram : Datagram
   pub said : step.verdict ≡ out.Sent number
@@ -44,13 +47,15 @@ pub record SendsEsp (outbound : Outbound) (number : ℕ) (payload : List ℕ) (s
   pub esp : datagram.medium ≡ Esp
   pub same : datagram.octets.octets ≡ seal.sealed.octets
 
--- The first check of a packet that fails, or where its payload lies. What its octets are then comes last: the plaintext
--- stands in the place of the ciphertext once it was opened.
+-- The first check of a packet that fails, or where its payload lies. What its octets are then comes
+-- last: the plaintext stands in the place of the ciphertext once it was opened.
 abbrev pub OpensEsp : Inbound → List ℕ → Result EspOpened EspDrop → List ℕ → Type 0
-OpensEsp inbound octets opened after = IsEspAnswer inbound.key inbound.spi inbound.window octets opened after
+OpensEsp inbound octets opened after =
+    IsEspAnswer inbound.key inbound.spi inbound.window octets opened after
 
 -- the packet was dropped, and its octets are as they were
-pub record Drops (why : EspDrop) (octets : List ℕ) (answer : EspVerdict) (after : List ℕ) : Type 0 where
+pub record Drops (why : EspDrop) (octets : List ℕ) (answer : EspVerdict)
+    (after : List ℕ) : Type 0 where
   pub said : answer ≡ esp.Dropped why
   pub same : after ≡ octets
 
@@ -60,7 +65,8 @@ noted number inbound = record inbound { window = with_noted inbound.window numbe
 
 -- an answer to a packet is so worded as a verdict; the payload is taken from the octets
 abbrev pub IsVerdictOf : EspVerdict → List ℕ → Verdict → Type 0
-IsVerdictOf (esp.Accepted counter packet) after verdict = (payload : WithRoom) × (payload.octets ≡ payload_in packet after)
+IsVerdictOf (esp.Accepted counter packet) after verdict =
+    (payload : WithRoom) × (payload.octets ≡ payload_in packet after)
     × (verdict ≡ out.Accepted counter packet.number packet.next_header payload)
 IsVerdictOf (esp.Dropped why) after verdict = verdict ≡ out.DroppedEsp why
 IsVerdictOf (esp.Refused why) after verdict = verdict ≡ out.Refused why

@@ -32,11 +32,15 @@ pub record Request : Type 0 where
 
 -- the keys and IVs that were used
 abbrev pub key_ivs : List Turn → List KeyIv
-key_ivs past = flat_map (λ turn. map (λ seal. record { name = seal.name; iv = seal.iv }) turn.step.seals) past
+key_ivs past = flat_map (λ turn. map (λ seal. record {
+  name = seal.name;
+  iv = seal.iv;
+}) turn.step.seals) past
 
 -- the packet that was accepted, where one was
 abbrev pub accepted_as : Verdict → Option Packet
-accepted_as (out.Accepted name number next_header payload) = Some (record { name = name; number = number })
+accepted_as (out.Accepted name number next_header payload) =
+    Some (record { name = name; number = number })
 accepted_as verdict = None
 
 abbrev pub accepted_in : Turn → Option Packet

@@ -5,7 +5,8 @@ use Rattle.events.specs.declared.turn.Turn.{Turn}
 use Rattle.ha_base.specs.Services.{ReplyRelation}
 use Rattle.turn_rules.specs.Ends.{Performer, Peer, Member, own, performer}
 
--- the service of an end: the peer has its own, and the member that joined as the n-th has the n-th of the others
+-- the service of an end: the peer has its own, and the member that joined as the n-th has the n-th
+-- of the others
 abbrev pub service_of : {B : Type 0} → B → List B → Performer → Option B
 service_of peer members Peer = Some peer
 service_of peer members (Member zero) = None
@@ -15,13 +16,17 @@ service_of peer members (Member (suc n)) = slice_get members n
 abbrev pub services_executed : List Turn → ℕ
 services_executed past = length (filter (λ turn. is_some turn.step.served) past)
 
--- what was executed in the turn, the service of its end may give when it has executed what it did before
-abbrev pub IsGiven : {B : Type 0} → (B → ReplyRelation) → (Performer → Option B) → List Turn → Turn → Type 0
+-- what was executed in the turn, the service of its end may give when it has executed what it did
+-- before
+abbrev pub IsGiven : {B : Type 0} → (B → ReplyRelation) → (Performer → Option B) → List Turn → Turn
+    → Type 0
 IsGiven gives service past turn = IfSome turn.step.served (λ served.
     IsSomeAnd (performer turn) (λ end.
-    IsSomeAnd (service end) (λ box. gives box (services_executed (own end past) + 1) served.request.octets served.reply.octets)))
+    IsSomeAnd (service end) (λ box. gives box (services_executed (own end past)
+    + 1) served.request.octets served.reply.octets)))
 
 -- the same of each turn
-unfoldable pub AreGiven : {B : Type 0} → (B → ReplyRelation) → (Performer → Option B) → List Turn → Type 0
+unfoldable pub AreGiven : {B : Type 0} → (B → ReplyRelation) → (Performer → Option B) → List Turn
+    → Type 0
 AreGiven gives service [] = Unit {0}
 AreGiven gives service (turn ∷ past) = IsGiven gives service past turn × AreGiven gives service past

@@ -28,7 +28,8 @@ use Rattle.turn_rules.specs.Peers.{associations_by, entered_at_task, entered_in}
 use Rattle.turn_rules.specs.Steps.{Says}
 use Rattle.turn_rules.specs.Tasks.{Task, peer_task}
 
--- What the peer holds of an association: the record, the ESP number that it sends next, and which numbers it received.
+-- What the peer holds of an association: the record, the ESP number that it sends next, and which
+-- numbers it received.
 pub record Slot : Type 0 where
   pub sa : Record
   pub next : ℕ
@@ -36,11 +37,21 @@ pub record Slot : Type 0 where
 
 -- the peer's counter of an association
 abbrev pub peer_counter : Record → Counter → CounterName
-peer_counter sa c = record { origin = sa.origin; kind = counter_kind c; child = child_of c; end = end.Peer }
+peer_counter sa c = record {
+  origin = sa.origin;
+  kind = counter_kind c;
+  child = child_of c;
+  end = end.Peer;
+}
 
--- Where the peer begins: its numbers are the cluster's, each end sending where the other one receives.
+-- Where the peer begins: its numbers are the cluster's, each end sending where the other one
+-- receives.
 abbrev pub entered_slot : ℕ → Record → Slot
-entered_slot size sa = record { sa = sa; next = sa.starts.esp_in; window = window_of size sa.starts.esp_out [] }
+entered_slot size sa = record {
+  sa = sa;
+  next = sa.starts.esp_in;
+  window = window_of size sa.starts.esp_out [];
+}
 
 abbrev pub slot_outbound : Slot → Outbound
 slot_outbound slot = record {
@@ -49,7 +60,12 @@ slot_outbound slot = record {
 }
 
 abbrev pub slot_inbound : Slot → Inbound
-slot_inbound slot = record { counter = peer_counter slot.sa counter.EspIn; key = slot.sa.child.to_peer; spi = slot.sa.spi_out; window = slot.window }
+slot_inbound slot = record {
+  counter = peer_counter slot.sa counter.EspIn;
+  key = slot.sa.child.to_peer;
+  spi = slot.sa.spi_out;
+  window = slot.window;
+}
 
 abbrev pub records : List Slot → List Record
 records slots = map (λ slot. slot.sa) slots
@@ -68,10 +84,12 @@ is_entered spir (Some sa) = sa.spir == spir
 -- the turns since the association came to the peer
 abbrev pub since_entered : ℕ → List Turn → List Turn
 since_entered spir [] = []
-since_entered spir (turn ∷ past) = if is_entered spir (entered_in turn) then [] else turn ∷ since_entered spir past
+since_entered spir (turn ∷ past) = if is_entered spir (entered_in turn) then []
+    else turn ∷ since_entered spir past
 
--- What the peer's own turns say that it holds of an association: its next number is one more than each under which it
--- sent since the association came, and no less than the start, and the numbers are noted that were accepted since then.
+-- What the peer's own turns say that it holds of an association: its next number is one more than
+-- each under which it sent since the association came, and no less than the start, and the numbers
+-- are noted that were accepted since then.
 abbrev pub slot_by : ℕ → List Turn → Record → Slot
 slot_by size past sa = let mine = since_entered sa.spir past in record {
   sa = sa;
@@ -106,11 +124,13 @@ slot_after asked step slot = record {
 -- and what it holds of all of them
 abbrev pub slots_after : ℕ → Task → Step → List Slot → List Slot
 slots_after size asked step slots =
-    map (slot_after asked step) slots ++ option_to_list (option_map (entered_slot size) (entered_at_task asked step.verdict))
+    map (slot_after asked step) slots ++ option_to_list
+    (option_map (entered_slot size) (entered_at_task asked step.verdict))
 
 -- a payload is sent under the next number, unless the counter is at its end
 pub record SlotSends (slot : Slot) (payload : List ℕ) (step : Step) : Type 0 where
-  pub within : slot.next < end_of slot.sa counter.EspOut → SendsEsp (slot_outbound slot) slot.next payload step
+  pub within : slot.next < end_of slot.sa counter.EspOut
+      → SendsEsp (slot_outbound slot) slot.next payload step
   pub ended : end_of slot.sa counter.EspOut ≤ slot.next → Says (out.Refused refusal.Exhausted) step
 
 -- the peer sends a payload in an association
@@ -122,17 +142,20 @@ PeerSends spir slots payload step = MatchOption (first_slot (has_spir spir) slot
 -- what a slot answers to a packet that was opened or dropped
 abbrev pub SlotTakes : Slot → Result EspOpened EspDrop → EspVerdict → Type 0
 SlotTakes slot (Err why) answer = answer ≡ esp.Dropped why
-SlotTakes slot (Ok packet) answer = answer ≡ esp.Accepted (peer_counter slot.sa counter.EspIn) packet
+SlotTakes slot (Ok packet) answer = answer ≡ esp.Accepted
+    (peer_counter slot.sa counter.EspIn) packet
 
 -- what a slot answers to the octets of a packet
-pub record SlotReceives (slot : Slot) (octets : List ℕ) (answer : EspVerdict) (after : List ℕ) : Type 0 where
+pub record SlotReceives (slot : Slot) (octets : List ℕ) (answer : EspVerdict)
+    (after : List ℕ) : Type 0 where
   pub opened : Result EspOpened EspDrop
   pub opens : OpensEsp (slot_inbound slot) octets opened after
   pub takes : SlotTakes slot opened answer
 
--- What the peer answers to the octets of a packet, and what they are then: they are too short, or nothing receives at
--- their SPI, or the slot answers that does.
-pub record PeerReceives (slots : List Slot) (octets : List ℕ) (answer : EspVerdict) (after : List ℕ) : Type 0 where
+-- What the peer answers to the octets of a packet, and what they are then: they are too short, or
+-- nothing receives at their SPI, or the slot answers that does.
+pub record PeerReceives (slots : List Slot) (octets : List ℕ) (answer : EspVerdict)
+    (after : List ℕ) : Type 0 where
   pub short : length octets < 34 → Drops drop.Short octets answer after
   pub long : 34 ≤ length octets → MatchOption (first_slot (receives_at (spi_of octets)) slots)
       (Drops drop.WrongSpi octets answer after)

@@ -1,4 +1,5 @@
--- What the ends of a run hold before an event, as it decides what the event does, and what a turn makes of that.
+-- What the ends of a run hold before an event, as it decides what the event does, and what a turn
+-- makes of that.
 use Rattle.std.specs.Prelude.{ℕ, suc, ◌==◌, ◌||◌, ◌++◌, Bool, true, false, unwrap_or, Option, Some, None, option_to_list, List, [], ◌∷◌, length, if◌then◌else◌}
 use Rattle.std.specs.List.{filter, list_any}
 use Rattle.std.specs.Option.{option_map}
@@ -78,7 +79,8 @@ abbrev pub gateway_after : Option Configuration → GatewayId → GatewayId
 gateway_after None gateway = gateway
 gateway_after (Some config) gateway = gateway_of config
 
--- what a turn makes of what the ends hold: the end that performs it goes on, and the others stay as they are
+-- what a turn makes of what the ends hold: the end that performs it goes on, and the others stay as
+-- they are
 abbrev pub state_after : Event → List Call → Step → RunState → RunState
 state_after event calls step state = record {
   boxes = state.boxes;
@@ -93,11 +95,13 @@ state_after event calls step state = record {
       else state.slots;
   members = λ member. held_unless (ends member event step.verdict || state.ended member)
       (if is_end (Member member) (performer_at event step.verdict)
-      then first_some (option_map (membership state.config) (fresh_in event step.verdict)) (state.members member)
+      then first_some (option_map (membership state.config) (fresh_in event step.verdict))
+      (state.members member)
       else state.members member);
   held = λ member spir. held_unless (ends member event step.verdict || state.ended member)
       (if is_end (Member member) (performer_at event step.verdict)
-      then held_after state.config.window spir (member_task event) calls step (state.held member spir)
+      then held_after state.config.window spir (member_task event) calls step
+      (state.held member spir)
       else state.held member spir);
 }
 
@@ -122,8 +126,9 @@ has_ended member past = list_any (λ turn. ends member turn.event turn.step.verd
 abbrev pub fresh_at : Turn → Option (List ℕ)
 fresh_at turn = fresh_in turn.event turn.step.verdict
 
--- The same, as each end's own turns tell it: with the greatest numbers that it used and saw acknowledged, and the sets of
--- those that it received. The laws say that it is the same where each turn is explained.
+-- The same, as each end's own turns tell it: with the greatest numbers that it used and saw
+-- acknowledged, and the sets of those that it received. The laws say that it is the same where each
+-- turn is explained.
 abbrev pub told_state : ℕ → List Turn → RunState
 told_state boxes past = record {
   boxes = boxes;

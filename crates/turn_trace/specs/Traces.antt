@@ -28,15 +28,19 @@ seals_of (Some turn) = turn.step.seals
 -- where the turns stand that gave a datagram, counted from 0, the oldest first
 abbrev pub giving_places : List Turn → List ℕ
 giving_places [] = []
-giving_places (turn ∷ past) = giving_places past ++ option_to_list (option_map (λ _. length past) turn.step.gives)
+giving_places (turn ∷ past) = giving_places past ++ option_to_list
+    (option_map (λ _. length past) turn.step.gives)
 
 -- where the turn stands that gave the datagram that is meant
 abbrev pub place_meant : Which → List ℕ → Option ℕ
-place_meant (which.Number number) places = if nat_lt 0 number then slice_get places (number - 1) else None
+place_meant (which.Number number) places = if nat_lt 0 number then slice_get places (number - 1)
+    else None
 place_meant which.Last places = slice_get places (length places - 1)
 
--- the places are those of the turns that gave a datagram, the rooms are empty, and only a newest turn has earlier ones
-pub record AreTraced (given : List ℕ) (calls_room : List Call) (seals_room : List Seal) (earlier : List Turn) (newest : Option Turn) : Type 0 where
+-- the places are those of the turns that gave a datagram, the rooms are empty, and only a newest
+-- turn has earlier ones
+pub record AreTraced (given : List ℕ) (calls_room : List Call) (seals_room : List Seal)
+    (earlier : List Turn) (newest : Option Turn) : Type 0 where
   pub places : given ≡ giving_places (past_of earlier newest)
   pub no_calls : calls_room ≡ []
   pub no_seals : seals_room ≡ []

@@ -39,7 +39,8 @@ impl KeptTurn {
         requires no_calls { calls_room.items ≡ [] }
         requires room_for_calls { vec_len calls_room + length turn.calls ≤ vec_capacity calls_room }
         requires no_seals { seals_room.items ≡ [] }
-        requires room_for_seals { vec_len seals_room + length turn.step.seals ≤ vec_capacity seals_room }
+        requires room_for_seals { vec_len seals_room
+            + length turn.step.seals ≤ vec_capacity seals_room }
         ensures { result ≡ turn }
     {
         let Turn {

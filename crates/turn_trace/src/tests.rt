@@ -5,7 +5,8 @@ use keeper_book::{Call, Calls, KeeperAnswer, KeeperAsk};
 use std::alloc::Global;
 use std::test::Fail;
 
-// How many calls each turn makes, and the octets that it seals and gives: none where it gives no datagram.
+// How many calls each turn makes, and the octets that it seals and gives: none where it gives no
+// datagram.
 const TURNS: [(u32, &[u8]); 7] = [
     (0, b""),
     (1, b""),

@@ -120,7 +120,8 @@ impl Trace {
 
     /// The datagram that is meant, where there is one.
     pub fn datagram(&self, which: Which) -> Option<&Datagram>
-        ensures { option_map plain_datagram (option_copied result) ≡ datagram_at which (datagrams_of self.now.past) }
+        ensures { option_map plain_datagram (option_copied result)
+            ≡ datagram_at which (datagrams_of self.now.past) }
     {
         let place = place_meant(self.given.as_slice(), which)?;
         self.given_at(place)
@@ -128,7 +129,8 @@ impl Trace {
 
     /// What the turn at this place gave.
     fn given_at(&self, place: usize) -> Option<&Datagram>
-        ensures { option_copied result ≡ option_and_then (λ turn. turn.step.gives) (slice_get (reverse self.now.past) place) }
+        ensures { option_copied result ≡ option_and_then (λ turn. turn.step.gives)
+            (slice_get (reverse self.now.past) place) }
     {
         if place == self.earlier.len() {
             return self.newest.as_ref()?.step.gives.as_ref();
