@@ -2,8 +2,8 @@ ghost use Rattle.std.specs.Prelude.{◌≡◌};
 
 use super::{EspDrop, EspOpened, open_packet};
 use aes_gcm::{CounterName, Key};
-use ha_base::{End, Kind, Origin};
-use replay_set::{Judgement, ReplaySet, SEQUENCE_END};
+use ha_base::{End, Kind, Origin, SEQUENCE_END};
+use replay_set::{Judgement, ReplaySet};
 use std::process::Abort;
 
 const NAME: CounterName = CounterName {

@@ -1,5 +1,5 @@
 use super::*;
-use ha_base::Octets;
+use ha_base::{Octets, SEQUENCE_END};
 use ike_values::notify_types::{IKEV2_MESSAGE_ID_SYNC, IPSEC_REPLAY_COUNTER_SYNC, REQUEST_DATA};
 use ike_values::{NotifyBody, Payload, Payloads};
 use std::alloc::Global;
