@@ -5,11 +5,11 @@ ghost use Rattle.ike_values.specs.AttributeView.{attribute_value};
 ghost use Rattle.ike_values.specs.TransformView.{transform_value};
 ghost use Rattle.ike_values.specs.ProposalView.{proposal_value};
 ghost use Rattle.ike_grammar.specs.Faults.{Gives, many};
-ghost use Rattle.ike_values.specs.Spelling.{last_mark};
 ghost use Rattle.ike_grammar.specs.Proposals.{attribute_at, transform_at, transforms_at, proposal_at, proposals_at};
 
 use crate::fault::{Reason, Unread, bad_at};
 use crate::octets::{octets_of, place, two};
+use ike_encoding::last_mark;
 use ike_values::{Attribute, Attributes, Proposal, Proposals, Transform, Transforms};
 use std::alloc::Global;
 
@@ -58,7 +58,7 @@ fn proposal_of(alloc: Global, end: usize, bytes: &[u8]) -> Result<(Proposal, &[u
         return Err(bad_at(place(end, bytes) + 2, Reason::Length));
     }
     let (item, behind) = bytes.split_at(len);
-    if bytes[0] != mark(2, behind.is_empty()) {
+    if bytes[0] != last_mark(2, behind.is_empty()) {
         return Err(bad_at(place(end, bytes), Reason::Field));
     }
     let (_, inside) = item.split_at(8);
@@ -75,13 +75,6 @@ fn proposal_of(alloc: Global, end: usize, bytes: &[u8]) -> Result<(Proposal, &[u
         transforms,
     };
     Ok((proposal, behind))
-}
-
-// What an item of a list begins with: 0 for the last.
-fn mark(more: u8, last: bool) -> u8
-    ensures { result ≡ last_mark more last }
-{
-    if last { 0 } else { more }
 }
 
 fn transforms_of(
@@ -124,7 +117,7 @@ fn transform_of(
     if len < 8 || bytes.len() < len {
         return Err(bad_at(place(end, bytes) + 2, Reason::Length));
     }
-    if bytes[0] != mark(3, last) {
+    if bytes[0] != last_mark(3, last) {
         return Err(bad_at(place(end, bytes), Reason::Field));
     }
     let (item, behind) = bytes.split_at(len);
