@@ -1,5 +1,5 @@
 -- Messages that are read are spelled so, and what is spelled so is read.
-use Rattle.std.proofs.Common.{◌≡◌, ℕ, zero, suc, ◌+◌, ◌/◌, ◌^◌, ◌≤◌, ◌<◌, ◌⊎◌, Bool, false, eq-eqb, List, [], ◌∷◌, ◌++◌, length, take, drop, Result, Ok, Err, refl, sym, ap, subst, ◌∙◌, arith, inl, inr}
+use Rattle.std.proofs.Common.{◌≡◌, ℕ, ◌+◌, ◌/◌, ◌^◌, ◌≤◌, ◌<◌, ◌⊎◌, Bool, false, eq-eqb, List, [], ◌∷◌, ◌++◌, length, take, drop, Result, Ok, Err, refl, sym, ap, subst, ◌∙◌, append_assoc, arith, inl, inr}
 use Rattle.std.specs.Prelude.{slice_index}
 use Rattle.std.specs.Int.{w32, w64, to_be_bytes, from_be_bytes}
 use Rattle.std.proofs.lemmas.Bool.{ltb-false, le-ltb, eqb-true, not-false, not_from_true}
@@ -34,22 +34,19 @@ part_fits bytes i n fits = IsOctets-take n (drop i bytes) (IsOctets-drop i bytes
 four_below : (bytes : List ℕ) → IsOctets bytes → from_be_bytes w32 bytes < 2 ^ 32
 four_below bytes fits = omega (arith, fits 0, fits 1, fits 2, fits 3)
 
-abbrev four_from : List ℕ → ℕ → ℕ
-four_from bytes i = from_be_bytes w32 (take 4 (drop i bytes))
+four_back : (xs : List ℕ) (n : ℕ) → length xs ≡ 4 → IsOctets xs → n ≡ from_be_bytes w32 xs → to_be_bytes w32 n ≡ xs
+four_back xs n long fits e = be_bytes_4 xs n long fits e
 
-abbrev eight_from : List ℕ → ℕ → ℕ
-eight_from bytes i = from_be_bytes w64 (take 8 (drop i bytes))
-
-four_back : (bytes : List ℕ) (i n : ℕ) → i + 4 ≤ length bytes → IsOctets bytes → n ≡ four_from bytes i → to_be_bytes w32 n ≡ take 4 (drop i bytes)
-four_back bytes i n long fits e = be_bytes_4 (take 4 (drop i bytes)) n (part-length bytes i 4 long) (part_fits bytes i 4 fits) e
-
-eight_back : (bytes : List ℕ) (i : ℕ) → i + 8 ≤ length bytes → IsOctets bytes → to_be_bytes w64 (eight_from bytes i) ≡ take 8 (drop i bytes)
-eight_back bytes i long fits = be_bytes_8 (take 8 (drop i bytes)) (eight_from bytes i) (part-length bytes i 8 long) (part_fits bytes i 8 fits) refl
+eight_back : (xs : List ℕ) → length xs ≡ 8 → IsOctets xs → to_be_bytes w64 (from_be_bytes w64 xs) ≡ xs
+eight_back xs long fits = be_bytes_8 xs (from_be_bytes w64 xs) long fits refl
 
 -- ---- headers
 
 abbrev header_octets : List ℕ → List ℕ → List ℕ → List ℕ → List ℕ → List ℕ → List ℕ
 header_octets spii spir marks id len rest = spii ++ spir ++ marks ++ id ++ len ++ rest
+
+regrouped : (a b c d e f : List ℕ) → ((((a ++ b) ++ c) ++ d) ++ e) ++ f ≡ a ++ (b ++ (c ++ (d ++ (e ++ f))))
+regrouped a b c d e f = simp append_assoc
 
 -- next payload, version, exchange and flags
 abbrev marks_of : List ℕ → List ℕ
@@ -63,11 +60,12 @@ four_cells bytes l =
 header_parts : (bytes : List ℕ) → 28 ≤ length bytes
     → bytes ≡ header_octets (take 8 bytes) (take 8 (drop 8 bytes)) (marks_of bytes) (take 4 (drop 20 bytes)) (take 4 (drop 24 bytes)) (drop 28 bytes)
 header_parts bytes l =
-    next_part bytes 0 8 ∙
+    sym (take-append-drop 8 bytes) ∙
     ap (λ (t : List ℕ). take 8 bytes ++ t) (next_part bytes 8 8 ∙
     ap (λ (t : List ℕ). take 8 (drop 8 bytes) ++ t) (four_cells bytes (omega arith) ∙
     ap (λ (t : List ℕ). marks_of bytes ++ t) (next_part bytes 20 4 ∙
-    ap (λ (t : List ℕ). take 4 (drop 20 bytes) ++ t) (next_part bytes 24 4))))
+    ap (λ (t : List ℕ). take 4 (drop 20 bytes) ++ t) (next_part bytes 24 4)))) ∙
+    sym (regrouped (take 8 bytes) (take 8 (drop 8 bytes)) (marks_of bytes) (take 4 (drop 20 bytes)) (take 4 (drop 24 bytes)) (drop 28 bytes))
 
 -- what is free in a header that is read
 abbrev parts_of : List ℕ → HeaderParts
@@ -79,24 +77,30 @@ header_found bytes h fits e =
     let u = unless_ok (header_tests bytes) (Ok (header_read bytes)) h e in
     let long : 28 ≤ length bytes = ltb-false _ _ u.0.0 in
     let version : slice_index bytes 17 / 16 ≡ 2 = eqb-true _ _ (not-false _ u.0.1.0) in
-    let len : four_from bytes 24 ≡ length bytes = eqb-true _ _ (not-false _ u.0.1.1.0) in
-    let whole : 28 + length (drop 28 bytes) ≡ four_from bytes 24 = omega (arith, len, long, length-drop 28 bytes) in
-    let rest = drop 28 bytes in
+    let spii = take 8 bytes in
+    let spir = take 8 (drop 8 bytes) in
     let marks = marks_of bytes in
     let id = take 4 (drop 20 bytes) in
     let size = take 4 (drop 24 bytes) in
-    let spir = take 8 (drop 8 bytes) in
+    let rest = drop 28 bytes in
+    let len : from_be_bytes w32 size ≡ length bytes = eqb-true _ _ (not-false _ u.0.1.1.0) in
+    let whole : 28 + length rest ≡ from_be_bytes w32 size = omega (arith, len, long, length-drop 28 bytes) in
+    let spii_fit : IsOctets spii = IsOctets-take 8 bytes fits in
+    let spir_fit : IsOctets spir = part_fits bytes 8 8 fits in
+    let id_fit : IsOctets id = part_fits bytes 20 4 fits in
+    let size_fit : IsOctets size = part_fits bytes 24 4 fits in
+    let spii_long : length spii ≡ 8 = omega (arith, length-take 8 bytes) in
+    let spii_back : spii ≡ to_be_bytes w64 (from_be_bytes w64 spii) = sym (eight_back spii spii_long spii_fit) in
+    let spir_back : spir ≡ to_be_bytes w64 (from_be_bytes w64 spir) = sym (eight_back spir (part-length bytes 8 8 (omega arith)) spir_fit) in
+    let id_back : id ≡ to_be_bytes w32 (from_be_bytes w32 id) = sym (four_back id (from_be_bytes w32 id) (part-length bytes 20 4 (omega arith)) id_fit refl) in
+    let size_back : size ≡ to_be_bytes w32 (28 + length rest) = sym (four_back size (28 + length rest) (part-length bytes 24 4 long) size_fit whole) in
     subst (λ (y : Header). SpellsHeader y bytes (parts_of bytes)) (ok_is (header_read bytes) h u.1)
     (record {
-      bytes_are = header_parts bytes long ∙
-          ap (λ (t : List ℕ). header_octets t spir marks id size rest) (sym (eight_back bytes 0 (omega arith) fits)) ∙
-          ap (λ (t : List ℕ). header_octets (to_be_bytes w64 (eight_from bytes 0)) t marks id size rest) (sym (eight_back bytes 8 (omega arith) fits)) ∙
-          ap (λ (t : List ℕ). header_octets (to_be_bytes w64 (eight_from bytes 0)) (to_be_bytes w64 (eight_from bytes 8)) marks t size rest) (sym (four_back bytes 20 (four_from bytes 20) (omega arith) fits refl)) ∙
-          ap (λ (t : List ℕ). header_octets (to_be_bytes w64 (eight_from bytes 0)) (to_be_bytes w64 (eight_from bytes 8)) marks (to_be_bytes w32 (four_from bytes 20)) t rest) (sym (four_back bytes 24 (28 + length rest) long fits whole));
-      spii_fits = eight_below (take 8 bytes) (part_fits bytes 0 8 fits);
-      spir_fits = eight_below spir (part_fits bytes 8 8 fits);
-      id_fits = four_below id (part_fits bytes 20 4 fits);
-      length_fits = (let below = four_below size (part_fits bytes 24 4 fits) in omega (arith, whole, below));
+      bytes_are = header_parts bytes long ∙ (λ i. header_octets (spii_back i) (spir_back i) marks (id_back i) (size_back i) rest);
+      spii_fits = eight_below spii spii_fit;
+      spir_fits = eight_below spir spir_fit;
+      id_fits = four_below id id_fit;
+      length_fits = (let below = four_below size size_fit in omega (arith, whole, below));
       version_is = version;
       initiator_is = refl;
       response_is = refl;

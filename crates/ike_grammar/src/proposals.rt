@@ -1,11 +1,12 @@
 //! Proposals, their transforms, and the attributes of these.
 
-ghost use Rattle.std.specs.Prelude.{◌≡◌, ◌+◌, ◌-◌, ◌<◌, ◌≤◌, length, IfOk};
+ghost use Rattle.std.specs.Prelude.{◌≡◌, ◌+◌, ◌-◌, ◌<◌, ◌≤◌, length, IfOk, Ok};
 ghost use Rattle.ike_values.specs.AttributeView.{attribute_value};
 ghost use Rattle.ike_values.specs.TransformView.{transform_value};
 ghost use Rattle.ike_values.specs.ProposalView.{proposal_value};
-ghost use Rattle.ike_grammar.specs.Faults.{Gives, many};
-ghost use Rattle.ike_grammar.specs.Proposals.{attribute_at, transform_at, transforms_at, proposal_at, proposals_at};
+ghost use Rattle.ike_grammar.specs.Faults.{Gives, many, two_at, unless};
+ghost use Rattle.ike_grammar.specs.declared.proposals.TheConstants.{FIXED};
+ghost use Rattle.ike_grammar.specs.Proposals.{attribute_at, fixed_read, free_read, free_tests, transform_at, transforms_at, proposal_at, proposals_at};
 
 use crate::fault::{Reason, Unread, bad_at};
 use crate::octets::{octets_of, place, two};
@@ -152,23 +153,40 @@ fn attribute_of(alloc: Global, end: usize, bytes: &[u8]) -> Result<(Attribute, &
     if bytes.len() < 4 {
         return Err(bad_at(place(end, bytes), Reason::Short));
     }
-    let kind = two(bytes, 0);
-    let (_, rest) = bytes.split_at(4);
-    if kind >= FIXED {
-        let value = two(bytes, 2);
-        return Ok((
-            Attribute::Fixed {
-                kind: kind - FIXED,
-                value,
-            },
-            rest,
-        ));
+    if two(bytes, 0) >= FIXED {
+        return Ok(fixed_of(bytes));
     }
+    free_of(alloc, end, bytes)
+}
+
+/// An attribute whose value has two octets.
+fn fixed_of(bytes: &[u8]) -> (Attribute, &[u8])
+    requires long { 4 ≤ length bytes.now }
+    requires fixed { FIXED ≤ two_at bytes.now 0 }
+    ensures { (attribute_value result.0, result.1.now) ≡ fixed_read bytes.now }
+{
+    let (_, behind) = bytes.split_at(4);
+    let attribute = Attribute::Fixed {
+        kind: two(bytes, 0) - FIXED,
+        value: two(bytes, 2),
+    };
+    (attribute, behind)
+}
+
+/// An attribute whose value has as many octets as its length says.
+fn free_of(alloc: Global, end: usize, bytes: &[u8]) -> Result<(Attribute, &[u8]), Unread>
+    requires within { length bytes.now ≤ end }
+    requires long { 4 ≤ length bytes.now }
+    ensures { Gives (λ x. (attribute_value x.0, x.1.now)) result
+        (unless (free_tests end bytes.now) (Ok (free_read bytes.now))) }
+{
+    let (_, rest) = bytes.split_at(4);
     let len = two(bytes, 2) as usize;
     if rest.len() < len {
         return Err(bad_at(place(end, bytes) + 2, Reason::Length));
     }
     let (value, behind) = rest.split_at(len);
+    let kind = two(bytes, 0);
     let value = octets_of(alloc, value)?;
     Ok((Attribute::Free { kind, value }, behind))
 }
