@@ -4,7 +4,7 @@ use Rattle.std.specs.Bool.{OnTrue, OnFalse}
 use Rattle.std.proofs.lemmas.List.{drop-drop, take-append-drop}
 use Rattle.aes_gcm.specs.Gcm.{Sealed, sealed}
 use Rattle.aes_gcm.specs.Sealing.{IsSealing}
-use Rattle.esp_packets.specs.Packet.{IsPacket, OpensPacket, esp_associated_data, header, iv_of, with_plaintext}
+use Rattle.esp_packets.specs.Packet.{IsPacket, OpensPacket, esp_associated_data, header, iv_of, opened}
 use Rattle.esp_packets.proofs.Packets.{parts, packet_of}
 
 -- the text that a packet has between its header and its end
@@ -38,7 +38,7 @@ module _ (key : List ℕ) (sealing : IsSealing key) (spi number iv : ℕ) (octet
   pub opens : (result : Bool) → OnTrue result (SealsTo buffer) → ((plain : List ℕ) → SealsTo plain → IsTrue result × (buffer ≡ plain)) →
       length buffer ≡ length octets - 16 - 16 →
       OnTrue result ((plain : List ℕ) × OpensPacket key spi number octets plain × (length plain + 32 ≡ length octets)
-      × (take 16 octets ++ (buffer ++ drop (length octets - 16 - 16) (drop 16 octets)) ≡ with_plaintext octets plain))
+      × (take 16 octets ++ (buffer ++ drop (length octets - 16 - 16) (drop 16 octets)) ≡ opened octets plain))
   opens true is unseals size = (
     buffer,
     record {

@@ -13,7 +13,7 @@ use Rattle.replay_set.specs.Window.{Window, IsMeant, judged}
 use Rattle.replay_set.specs.Laws.{MeaningIsUnique}
 use Rattle.replay_set.specs.declared.judgement.Judgement.{Judgement}
 use Rattle.replay_set.specs.declared.judgement.Judgement.TheVariants.{Stale as JudgedStale, Seen as JudgedSeen, Fresh}
-use Rattle.esp_packets.specs.Packet.{IsPacket, IsEspDatagram, IsEspAnswer, OpensPacket, Means, pad_length, esp_plaintext, esp_pad_length_in, next_header_in, spi_of, low_half_of, iv_of, with_plaintext}
+use Rattle.esp_packets.specs.Packet.{IsPacket, IsEspDatagram, IsEspAnswer, OpensPacket, Means, pad_length, esp_plaintext, esp_pad_length_in, next_header_in, spi_of, low_half_of, iv_of, opened}
 use Rattle.esp_packets.specs.Laws.{WindowCovers, Accepts}
 use Rattle.esp_packets.proofs.Packets.{low_octets, packet_length}
 use Rattle.esp_packets.proofs.Plaintexts.{length-range_with_len}
@@ -129,6 +129,6 @@ module _ (unique : MeaningIsUnique) (key : List ℕ) (sealing : IsSealing key) (
         next_header_is = lies.next_header ∙ ap next_header_in (sym same) ∙ next_header_in-esp_plaintext payload next_header;
         payload_is =
             (λ i. take (as_long i) (drop (lies.start i) (is i)))
-            ∙ ap (λ ys. take (length payload) (drop 16 (with_plaintext octets ys))) (sym same)
+            ∙ ap (λ ys. take (length payload) (drop 16 (opened octets ys))) (sym same)
             ∙ payload_of payload next_header (take 16 octets) (drop (length octets - 16) octets) front;
       }

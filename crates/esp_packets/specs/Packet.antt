@@ -92,9 +92,8 @@ pub record LiesIn (plain : List ℕ) (packet : EspOpened) : Type 0 where
   pub length_is : packet.length ≡ length plain - 2 - esp_pad_length_in plain
 
 -- the octets with the plaintext in the place of the ciphertext
-abbrev pub with_plaintext : List ℕ → List ℕ → List ℕ
-with_plaintext octets plain =
-    take HEADER octets ++ plain ++ drop (length octets - CHECK_VALUE) octets
+abbrev pub opened : List ℕ → List ℕ → List ℕ
+opened octets plain = take HEADER octets ++ plain ++ drop (length octets - CHECK_VALUE) octets
 
 -- what is answered to a packet, and what its octets are then: each answer is the first check that
 -- fails (RFC 4303, section 3.4)
@@ -119,11 +118,11 @@ IsEspAnswer key spi window octets (Err drops.NotOpened) after =
 IsEspAnswer key spi window octets (Err drops.Padding) after =
     (number : ℕ) × (plain : List ℕ)
     × IsNewPacket spi window octets number × OpensPacket key spi number octets plain
-    × (length plain < esp_pad_length_in plain + 2) × (after ≡ with_plaintext octets plain)
+    × (length plain < esp_pad_length_in plain + 2) × (after ≡ opened octets plain)
 IsEspAnswer key spi window octets (Ok packet) after =
     (plain : List ℕ)
     × IsNewPacket spi window octets packet.number × OpensPacket key spi packet.number octets plain
-    × LiesIn plain packet × (after ≡ with_plaintext octets plain)
+    × LiesIn plain packet × (after ≡ opened octets plain)
 
 -- the payload that an accepted packet has
 abbrev pub payload_in : EspOpened → List ℕ → List ℕ

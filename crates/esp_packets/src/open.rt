@@ -2,7 +2,7 @@ ghost use Rattle.std.specs.Prelude.{◌≡◌, ◌+◌, ◌%◌, ◌^◌, ◌<�
 ghost use Rattle.std.specs.Prelude.{length, take, drop};
 ghost use Rattle.std.specs.Int.{w32, to_be_bytes};
 ghost use Rattle.std.specs.Bool.{OnTrue, OnFalse};
-ghost use Rattle.esp_packets.specs.Packet.{IsEspAnswer, IsPacket, OpensPacket, iv_of, with_plaintext, spi_of};
+ghost use Rattle.esp_packets.specs.Packet.{IsEspAnswer, IsPacket, OpensPacket, opened, iv_of, spi_of};
 ghost use Rattle.esp_packets.specs.Answers.{IsNumberAnswer, IsPlainAnswer};
 
 use super::packet::{
@@ -71,7 +71,7 @@ fn open_text(key: &Key, spi: u32, number: u64, bytes: &mut [u8]) -> bool
     requires size { length bytes.old ≤ LONGEST_PACKET }
     ensures opened { OnTrue result ((plain : List ℕ)
         × OpensPacket key.now.octets spi number bytes.old plain
-        × (length plain + 32 ≡ length bytes.old) × (bytes.new ≡ with_plaintext bytes.old plain)) }
+        × (length plain + 32 ≡ length bytes.old) × (bytes.new ≡ opened bytes.old plain)) }
     ensures refused { OnFalse result ((bytes.new ≡ bytes.old)
         × ((plain : List ℕ) → ¬ IsPacket key.now.octets spi number
         (iv_of bytes.old) plain bytes.old)) }
