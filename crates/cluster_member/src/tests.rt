@@ -1,12 +1,59 @@
-ghost use Rattle.std.specs.Prelude.{◌≡◌};
+ghost use Rattle.std.specs.Prelude.{◌≡◌, length};
+ghost use Rattle.keeper_book.specs.Counters.{AreWithinEnds};
 
 use crate::{Config, Member};
 use events::{Refusal, Verdict};
-use ha_base::{Identity, Memory, OctetArray};
-use keeper_book::{Keeper, MemoryKeeper};
-use sample_records::{SPI_IN, SPI_OUT, SPIR, record};
+use ha_base::{ChildKeys, Identity, KeySize, Memory, OctetArray, OctetList, Origin, SaKeys};
+use keeper_book::{Five, Keeper, MemoryKeeper, Record};
 use std::alloc::Global;
 use std::test::Fail;
+
+const SPIR: u64 = 0x0001_0000_0000_0002;
+
+fn starts() -> Five
+    ensures { AreWithinEnds result }
+{
+    Five {
+        esp_out: 1,
+        esp_in: 1,
+        iv: 1,
+        ask: 0,
+        answer: 0,
+    }
+}
+
+fn sealing_key(octet: u8) -> OctetList<36>
+    ensures { length result ≡ 20 }
+{
+    OctetList::from_slice(&[octet; 20])
+}
+
+fn record() -> Record {
+    Record {
+        origin: Origin::Imported(SPIR),
+        spii: 1,
+        spir: SPIR,
+        size: KeySize::Bits128,
+        identity: Identity {
+            kind: 2,
+            octets: OctetArray::from_slice(b"peer"),
+        },
+        keys: SaKeys {
+            sk_d: [0x11; 32],
+            sk_ei: sealing_key(0x22),
+            sk_er: sealing_key(0x33),
+            sk_pi: [0x44; 32],
+            sk_pr: [0x55; 32],
+        },
+        spi_in: 0x0001_0001,
+        spi_out: 0x0001_0002,
+        child: ChildKeys {
+            to_cluster: sealing_key(0x66),
+            to_peer: sealing_key(0x77),
+        },
+        starts: starts(),
+    }
+}
 
 fn config() -> Config
     ensures { result.window ≡ 64 }
@@ -44,7 +91,7 @@ fn answer_of(verdict: &Verdict) -> Answer {
 // A keeper that knows the association.
 fn keeper(alloc: Global) -> Option<MemoryKeeper> {
     let mut keeper = MemoryKeeper::new(alloc);
-    match keeper.enter(&record(SPIR, SPI_IN, SPI_OUT)) {
+    match keeper.enter(&record()) {
         Ok(()) => Some(keeper),
         Err(_) => None,
     }

@@ -1,8 +1,60 @@
+ghost use Rattle.std.specs.Prelude.{◌≡◌, length};
+ghost use Rattle.keeper_book.specs.Counters.{AreWithinEnds};
+
 use crate::Peer;
 use events::{EspVerdict, Refusal, Step, Verdict};
-use ha_base::{EspDrop, GatewayId, OctetArray};
-use sample_records::{SPIR, record};
+use ha_base::{
+    ChildKeys, EspDrop, GatewayId, Identity, KeySize, OctetArray, OctetList, Origin, SaKeys,
+};
+use keeper_book::{Five, Record};
 use std::test::Fail;
+
+const SPIR: u64 = 0x0001_0000_0000_0002;
+
+fn starts() -> Five
+    ensures { AreWithinEnds result }
+{
+    Five {
+        esp_out: 1,
+        esp_in: 1,
+        iv: 1,
+        ask: 0,
+        answer: 0,
+    }
+}
+
+fn sealing_key(octet: u8) -> OctetList<36>
+    ensures { length result ≡ 20 }
+{
+    OctetList::from_slice(&[octet; 20])
+}
+
+fn record(spir: u64, spi_in: u32, spi_out: u32) -> Record {
+    Record {
+        origin: Origin::Imported(spir),
+        spii: 1,
+        spir,
+        size: KeySize::Bits128,
+        identity: Identity {
+            kind: 2,
+            octets: OctetArray::from_slice(b"peer"),
+        },
+        keys: SaKeys {
+            sk_d: [0x11; 32],
+            sk_ei: sealing_key(0x22),
+            sk_er: sealing_key(0x33),
+            sk_pi: [0x44; 32],
+            sk_pr: [0x55; 32],
+        },
+        spi_in,
+        spi_out,
+        child: ChildKeys {
+            to_cluster: sealing_key(0x66),
+            to_peer: sealing_key(0x77),
+        },
+        starts: starts(),
+    }
+}
 
 fn gateway() -> GatewayId {
     GatewayId {

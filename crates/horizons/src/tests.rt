@@ -1,17 +1,64 @@
-ghost use Rattle.std.specs.Prelude.{◌≡◌, Some, IfOk};
-ghost use Rattle.keeper_book.specs.Counters.{counter_of_kind, extended_end};
+ghost use Rattle.std.specs.Prelude.{◌≡◌, Some, length, IfOk};
+ghost use Rattle.keeper_book.specs.Counters.{AreWithinEnds, counter_of_kind, extended_end};
 
 use crate::{Horizon, Stop};
+use ha_base::{ChildKeys, Identity, KeySize, OctetArray, OctetList, SaKeys};
 use keeper_book::{
-    Call, Counter, Gate, Keeper, KeeperAnswer, KeeperAsk, KeeperFault, MemoryKeeper,
+    Call, Counter, Five, Gate, Keeper, KeeperAnswer, KeeperAsk, KeeperFault, MemoryKeeper, Record,
 };
-use sample_records::{SPI_IN, SPI_OUT, SPIR, record};
 use spend_once::{CounterName, End, Kind, Origin};
 use std::test::Fail;
 
+const SPIR: u64 = 0x0001_0000_0000_0002;
+
+fn starts() -> Five
+    ensures { AreWithinEnds result }
+{
+    Five {
+        esp_out: 1,
+        esp_in: 1,
+        iv: 1,
+        ask: 0,
+        answer: 0,
+    }
+}
+
+fn sealing_key(octet: u8) -> OctetList<36>
+    ensures { length result ≡ 20 }
+{
+    OctetList::from_slice(&[octet; 20])
+}
+
+fn record() -> Record {
+    Record {
+        origin: Origin::Imported(SPIR),
+        spii: 1,
+        spir: SPIR,
+        size: KeySize::Bits128,
+        identity: Identity {
+            kind: 2,
+            octets: OctetArray::from_slice(b"peer"),
+        },
+        keys: SaKeys {
+            sk_d: [0x11; 32],
+            sk_ei: sealing_key(0x22),
+            sk_er: sealing_key(0x33),
+            sk_pi: [0x44; 32],
+            sk_pr: [0x55; 32],
+        },
+        spi_in: 0x0001_0001,
+        spi_out: 0x0001_0002,
+        child: ChildKeys {
+            to_cluster: sealing_key(0x66),
+            to_peer: sealing_key(0x77),
+        },
+        starts: starts(),
+    }
+}
+
 // An association that a member took over.
 fn owned<K: Keeper>(keeper: &mut K) -> Result<(), KeeperFault> {
-    keeper.enter(&record(SPIR, SPI_IN, SPI_OUT))?;
+    keeper.enter(&record())?;
     keeper.take_over(SPIR, 1)?;
     Ok(())
 }

@@ -21,6 +21,8 @@ use Rattle.ha_base.specs.declared.counter_names.CounterName.{CounterName}
 use Rattle.ha_base.specs.declared.esp_outcomes.EspDrop.{EspDrop}
 use Rattle.ha_base.specs.declared.esp_outcomes.EspDrop.TheVariants as drop
 use Rattle.ha_base.specs.declared.esp_outcomes.EspOpened.{EspOpened}
+use Rattle.horizons.specs.declared.stop.Stop.{Stop}
+use Rattle.horizons.specs.declared.stop.Stop.TheVariants as stop
 use Rattle.keeper_book.specs.Counters.{five_at}
 use Rattle.keeper_book.specs.Told.{seen}
 use Rattle.keeper_book.specs.declared.calls.Call.{Call}
@@ -33,7 +35,6 @@ use Rattle.keeper_book.specs.declared.faults.KeeperFault.TheVariants as fault
 use Rattle.keeper_book.specs.declared.records.Record.{Record}
 use Rattle.turn_rules.proofs.KeySizes.{sized_to_cluster, sized_to_peer}
 use Rattle.turn_rules.proofs.Readies.{ready-elim}
-use Rattle.turn_rules.proofs.Refusals.{stop-of_member}
 use Rattle.turn_rules.specs.Datagrams.{PlainDatagram, arrives, plain_datagram}
 use Rattle.turn_rules.specs.Deliveries.{MemberTakes, PeerTakes}
 use Rattle.turn_rules.specs.Draws.{Admits, Concludes, EntersRecord, Grants, TakesOver, counter_name, refusal_of_import, refusal_of_stop, refusal_of_takeover}
@@ -71,6 +72,13 @@ of-verdict verdict is own same = subst IsOfEnd (sym same) own
 
 of-refusal : (verdict : Verdict) (why : Refusal) → is_of_run why ≡ false → verdict ≡ out.Refused why → IsOfEnd verdict
 of-refusal verdict why own = of-verdict verdict (out.Refused why) (record { no_join = refl; heard = own })
+
+stop-own : (why : Stop) → is_of_run (refusal_of_stop why) ≡ false
+stop-own stop.Keeper = refl
+stop-own (stop.Replaced epoch) = refl
+stop-own stop.Exhausted = refl
+stop-own stop.Closed = refl
+stop-own stop.Unknown = refl
 
 abbrev own_of : Option Refusal → Bool
 own_of None = false
@@ -138,7 +146,7 @@ draws-proper (Some held) calls step quietly = ready-elim held counter.EspOut (fi
     (λ why rest. Concludes rest step.verdict (out.Refused (refusal_of_stop why)))
     (λ high rest. Concludes rest step.verdict (out.Number (five_at held.nexts counter.EspOut)))
     (λ why rest c. c.no_more) (λ high rest c. c.no_more) calls
-    (λ why rest vain c. quiet-proper calls step vain.few (of-refusal step.verdict (refusal_of_stop why) (stop-of_member why) c.said) quietly.quiet)
+    (λ why rest vain c. quiet-proper calls step vain.few (of-refusal step.verdict (refusal_of_stop why) (stop-own why) c.said) quietly.quiet)
     (λ high rest covers c. quiet-proper calls step covers.few (of-verdict step.verdict (out.Number (five_at held.nexts counter.EspOut)) (record { no_join = refl; heard = refl }) c.said) quietly.quiet)
     quietly.follows
 
@@ -148,7 +156,7 @@ sends-proper (Some held) payload calls step size sends = ready-elim held counter
     (λ why rest. (rest ≡ []) × Says (out.Refused (refusal_of_stop why)) step)
     (λ high rest. (rest ≡ []) × SendsEsp (outbound_of held) (five_at held.nexts counter.EspOut) payload step)
     (λ why rest s. s.0) (λ high rest s. s.0) calls
-    (λ why rest vain s. quiet-proper calls step vain.few (of-refusal step.verdict (refusal_of_stop why) (stop-of_member why) s.1.said) s.1.quiet)
+    (λ why rest vain s. quiet-proper calls step vain.few (of-refusal step.verdict (refusal_of_stop why) (stop-own why) s.1.said) s.1.quiet)
     (λ high rest covers s. record {
       few = covers.few;
       said = of-verdict step.verdict (out.Sent (five_at held.nexts counter.EspOut)) (record { no_join = refl; heard = refl }) s.1.said;
@@ -192,7 +200,7 @@ module _ (calls : List Call) (step : Step) (ended : EspVerdict) (after : List �
       (λ why rest. (rest ≡ []) × (ended ≡ esp.Refused (refusal_of_stop why)))
       (λ high rest. (rest ≡ []) × (ended ≡ esp.Accepted (counter_name held.sa counter.EspIn) packet))
       (λ why rest s. s.0) (λ high rest s. s.0) calls
-      (λ why rest vain s. quiet-proper calls step vain.few (of-refusal step.verdict (refusal_of_stop why) (stop-of_member why) (as_said (esp.Refused (refusal_of_stop why)) s.1)) quiet)
+      (λ why rest vain s. quiet-proper calls step vain.few (of-refusal step.verdict (refusal_of_stop why) (stop-own why) (as_said (esp.Refused (refusal_of_stop why)) s.1)) quiet)
       (λ high rest covers s. quiet-proper calls step covers.few (accepted-said (counter_name held.sa counter.EspIn) packet s.1) quiet)
       takes
 

@@ -11,10 +11,9 @@ use Rattle.keeper_book.specs.declared.counters.Counter.{Counter}
 use Rattle.keeper_book.specs.declared.counters.Counter.TheVariants as counter
 use Rattle.turn_laws.proofs.Covers.{ready-as, ready-calls}
 use Rattle.turn_laws.proofs.Deeds.{Deed, IsIdle, Rests, Spends, Used, UsesIt}
-use Rattle.turn_laws.proofs.Members.{member-performs}
+use Rattle.turn_laws.proofs.Members.{member-performs, stop-of_member}
 use Rattle.turn_laws.proofs.Names.{number-failed, number-passed}
 use Rattle.turn_laws.proofs.Uses.{Counts, number_at}
-use Rattle.turn_rules.proofs.Refusals.{stop-of_member}
 use Rattle.turn_laws.specs.Places.{Ours}
 use Rattle.turn_laws.specs.Turns.{number_taken}
 use Rattle.turn_rules.specs.Draws.{Concludes, Draws, reach_of, refusal_of_stop}

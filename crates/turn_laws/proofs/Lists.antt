@@ -1,7 +1,10 @@
 -- What holds of each element of a list.
 use Rattle.std.proofs.Common.{Bool, true, false, List, [], ◌∷◌, ◌++◌, if◌then◌else◌}
 use Rattle.std.specs.List.{AllByRecursion, filter}
-pub use Rattle.turn_rules.proofs.SlotTies.{all-weaker as all-each}
+
+pub all-each : {X : Type 0} {P Q : X → Type 0} (xs : List X) → ((x : X) → P x → Q x) → AllByRecursion P xs → AllByRecursion Q xs
+all-each [] f all = tt
+all-each (x ∷ xs) f all = (f x all.0, all-each xs f all.1)
 
 pub all-filter : {X : Type 0} (P : X → Type 0) (p : X → Bool) (xs : List X) → AllByRecursion P xs → AllByRecursion P (filter p xs)
 all-filter P p [] all = tt

@@ -1,14 +1,22 @@
 -- Where the numbers of the counters of an association are.
 use Rattle.std.proofs.Common.{◌≡◌, ℕ, ◌==◌, ◌&&◌, Bool, true, false, Some, None, refl, if◌then◌else◌}
 use Rattle.std.proofs.lemmas.Bool.{eq-eqb}
+use Rattle.keeper_book.specs.Counters.{counter_named}
 use Rattle.keeper_book.specs.declared.counters.Counter.{Counter}
+use Rattle.keeper_book.specs.declared.counters.Counter.TheVariants as counter
 use Rattle.keeper_book.specs.declared.records.Record.{Record}
 use Rattle.turn_laws.proofs.Entries.{is_counter-same}
 use Rattle.turn_laws.proofs.Pools.{is_pool-same}
 use Rattle.turn_laws.specs.Places.{Ours, Place, Pooled, Theirs, is_place, place_of}
-use Rattle.turn_rules.proofs.Readies.{counter-named}
-use Rattle.turn_rules.specs.Draws.{counter_name}
+use Rattle.turn_rules.specs.Draws.{child_of, counter_name, counter_kind}
 use Rattle.turn_rules.specs.Slots.{peer_counter}
+
+pub counter-named : (c : Counter) → counter_named (counter_kind c) (child_of c) ≡ Some c
+counter-named counter.EspOut = refl
+counter-named counter.EspIn = refl
+counter-named counter.Iv = refl
+counter-named counter.Ask = refl
+counter-named counter.Answer = refl
 
 -- the cluster's counter, and the peer's
 pub place-ours : (sa : Record) (c : Counter) → place_of (counter_name sa c) ≡ Some (Ours sa.spir c)

@@ -26,10 +26,9 @@ use Rattle.keeper_book.specs.declared.records.Record.{Record}
 use Rattle.turn_laws.specs.PeerTurns.{number_theirs}
 use Rattle.turn_laws.proofs.Covers.{ready-as, ready-calls}
 use Rattle.turn_laws.proofs.Deeds.{Deed, IsIdle, Rested, Rests, Spends, Used, Used_theirs, UsesIt}
-use Rattle.turn_laws.proofs.Members.{member-performs, own-held}
+use Rattle.turn_laws.proofs.Members.{member-performs, own-held, stop-of_member}
 use Rattle.turn_laws.proofs.Names.{number-failed, number-passed, place-ours, place-theirs}
 use Rattle.turn_laws.proofs.Uses.{Counts, number_at}
-use Rattle.turn_rules.proofs.Refusals.{stop-of_member}
 use Rattle.turn_laws.specs.Places.{Ours, Place, Theirs, place_of}
 use Rattle.turn_laws.specs.Turns.{number_taken}
 use Rattle.turn_rules.specs.Deliveries.{PeerTakes}

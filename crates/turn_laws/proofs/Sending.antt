@@ -19,10 +19,9 @@ use Rattle.keeper_book.specs.declared.counters.Counter.TheVariants as counter
 use Rattle.turn_laws.specs.PeerTurns.{number_theirs}
 use Rattle.turn_laws.proofs.Covers.{ready-as, ready-calls}
 use Rattle.turn_laws.proofs.Deeds.{Deed, Rested, Rests, Spends, Used, Used_theirs, UsesIt, says-rests}
-use Rattle.turn_laws.proofs.Members.{member-performs}
+use Rattle.turn_laws.proofs.Members.{member-performs, stop-of_member}
 use Rattle.turn_laws.proofs.Names.{number-failed, number-passed, place-ours, place-theirs}
 use Rattle.turn_laws.proofs.Uses.{Seals_it, number_at}
-use Rattle.turn_rules.proofs.Refusals.{stop-of_member}
 use Rattle.turn_laws.specs.Places.{Ours, Place, Theirs, place_of}
 use Rattle.turn_laws.specs.Turns.{key_iv, number_taken}
 use Rattle.turn_rules.proofs.SlotTies.{first-passes}

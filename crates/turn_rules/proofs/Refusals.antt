@@ -10,21 +10,10 @@ use Rattle.events.specs.declared.turn.Medium.TheVariants as medium
 use Rattle.events.specs.declared.verdict.Refusal.{Refusal}
 use Rattle.events.specs.declared.verdict.Refusal.TheVariants as refusal
 use Rattle.ha_base.specs.declared.limits.TheConstants.{MAX_DATAGRAMS}
-use Rattle.horizons.specs.declared.stop.Stop.{Stop}
-use Rattle.horizons.specs.declared.stop.Stop.TheVariants as stop
 use Rattle.turn_rules.specs.Datagrams.{PlainDatagram, altered, changed, cut, datagram_at}
-use Rattle.turn_rules.specs.Draws.{refusal_of_stop}
 use Rattle.turn_rules.specs.Ends.{is_of_run}
 use Rattle.turn_rules.specs.Fits.{MAX_MEMBERS, has_joined, is_importable, is_of_datagrams, named_in, refused_absent, refused_arrival, refused_besides, refused_medium, refused_where, run_refusal}
 use Rattle.turn_rules.specs.States.{RunState}
-
--- the stop of a counter is no refusal of the run
-pub stop-of_member : (why : Stop) → is_of_run (refusal_of_stop why) ≡ false
-stop-of_member stop.Keeper = refl
-stop-of_member (stop.Replaced epoch) = refl
-stop-of_member stop.Exhausted = refl
-stop-of_member stop.Closed = refl
-stop-of_member stop.Unknown = refl
 
 abbrev AreOfRun : Option Refusal → Type 0
 AreOfRun x = (why : Refusal) → x ≡ Some why → is_of_run why ≡ true
