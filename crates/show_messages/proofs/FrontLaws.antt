@@ -64,7 +64,7 @@ messages_front front more far_enough = at_front (length front) front more (recor
 
 -- ---- an input without a fault
 
-octets_in : List (List ℕ) → ℕ
+abbrev octets_in : List (List ℕ) → ℕ
 octets_in [] = 0
 octets_in (line ∷ lines) = length line + octets_in lines
 
@@ -76,26 +76,28 @@ onto_octets c (line ∷ lines) = omega arith
 lines_octets : (octets : List ℕ) → octets_in (lines_of octets) ≡ length octets
 unfolding lines_of
 lines_octets [] = refl
-lines_octets (c ∷ cs) = by_case (eqb c 10)
+lines_octets (c ∷ cs) = by_case (eqb c 10) (lines_octets cs)
   where
-    by_case : (b : Bool) → octets_in (cond b ((c ∷ []) ∷ lines_of cs) (onto c (lines_of cs))) ≡ suc (length cs)
-    by_case true = let rest = lines_octets cs in omega (arith, rest)
-    by_case false = let rest = lines_octets cs in let more = onto_octets c (lines_of cs) in omega (arith, rest, more)
+    by_case : (b : Bool) → octets_in (lines_of cs) ≡ length cs → octets_in (cond b ((c ∷ []) ∷ lines_of cs) (onto c (lines_of cs))) ≡ suc (length cs)
+    by_case true rest = omega (arith, rest)
+    by_case false rest = let more = onto_octets c (lines_of cs) in omega (arith, rest, more)
 
 -- lines without a fault end within the octets that an input may have
 within_at : (lines : List (List ℕ)) (p : Place) → p.before ≤ 67108864 → (messages_at lines p).fault ≡ None → p.before + octets_in lines ≤ 67108864
 unfolding messages_at
 within_at [] p within none = omega arith
-within_at (line ∷ lines) p within none = on_read (line_in p (length line) (without_line_feed line)) refl none
+within_at (line ∷ lines) p within none =
+    on_read (within_at lines) (line_in p (length line) (without_line_feed line)) refl none
   where
-    on_read : (r : Result (Option (List ℕ)) LineFault) → line_in p (length line) (without_line_feed line) ≡ r
+    on_read : ((q : Place) → q.before ≤ 67108864 → (messages_at lines q).fault ≡ None → q.before + octets_in lines ≤ 67108864)
+        → (r : Result (Option (List ℕ)) LineFault) → line_in p (length line) (without_line_feed line) ≡ r
         → (on_message_line p r (λ count. messages_at lines (behind_message_line p (length line) count))).fault ≡ None → p.before + (length line + octets_in lines) ≤ 67108864
-    on_read (Err f) is e = absurd cc
-    on_read (Ok None) is e =
-        let rest = within_at lines (behind_message_line p (length line) p.count) (read_within p (length line) (without_line_feed line) None is) e in
+    on_read go (Err f) is e = absurd cc
+    on_read go (Ok None) is e =
+        let rest = go (behind_message_line p (length line) p.count) (read_within p (length line) (without_line_feed line) None is) e in
         omega (arith, rest)
-    on_read (Ok (Some message)) is e =
-        let rest = within_at lines (behind_message_line p (length line) (p.count + 1)) (read_within p (length line) (without_line_feed line) (Some message) is) e in
+    on_read go (Ok (Some message)) is e =
+        let rest = go (behind_message_line p (length line) (p.count + 1)) (read_within p (length line) (without_line_feed line) (Some message) is) e in
         omega (arith, rest)
 
 pub messages_short : (input : List ℕ) → (messages_of input).fault ≡ None → length input ≤ 67108864
