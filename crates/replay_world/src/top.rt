@@ -11,13 +11,12 @@ ghost use Rattle.replay_world.specs.Replays.{IsShown, Replays, job_of};
 ghost use Rattle.replay_world.specs.declared.top.Command.TheVariants.{Run};
 
 use crate::play::play_file;
+pub use call_ends::Status;
 use call_ends::{complain, input_of, put_output};
 use ha_base::{Failed, Service, Sink, Source, write_all};
 use keeper_book::Keeper;
 use show_messages::show;
 use std::alloc::Global;
-
-pub use call_ends::Status;
 
 /// What the words of a command line ask for.
 #[derive(Clone, Copy, Debug, PartialEq, Eq)]
