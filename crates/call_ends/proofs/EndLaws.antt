@@ -28,7 +28,8 @@ pub is_read : (fault : Option InputFault) (input : List ℕ) (left : Option (Lis
     → (fault ≡ None → length input ≤ INPUT_OCTETS) → IsAtEnd left ⊎ (INPUT_OCTETS < length input) → IsBounded input
     → IsRead fault input (octets_told left)
 is_read fault input left short (inl at_end) bounded = record { whole = inl (nothing_left left at_end); bounded = bounded }
-is_read fault input left short (inr long) bounded = record { whole = inr ((λ none. let within = short none in omega (arith, long, within)), long); bounded = bounded }
+is_read fault input left short (inr long) bounded =
+    record { whole = inr ((λ none. let within = short none in omega (arith, long, within)), long); bounded = bounded }
 
 module _ (Makes : List ℕ → Option InputFault → List ℕ → Type 0) (input now_input out now_out errors now_errors : Stream) where
   -- the input was not read, and nothing was written

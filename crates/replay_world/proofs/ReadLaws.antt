@@ -42,7 +42,8 @@ played_whole run fault input more text read p = record {
   caused = p.caused;
 }
 
-pub shown_whole : (fault : Option InputFault) (input more text : List ℕ) → IsRead fault input more → IsShown input fault text → IsShown (input ++ more) fault text
+pub shown_whole : (fault : Option InputFault) (input more text : List ℕ) → IsRead fault input more → IsShown input fault text
+    → IsShown (input ++ more) fault text
 shown_whole fault input more text read s =
     let same = read_tells messages_of messages_front fault input more read in
     record { first_fault = ap (λ m. m.fault) same ∙ s.first_fault; written = s.written ∙ ap (λ m. shown_all m.messages) (sym same) }
@@ -62,4 +63,5 @@ pub run_closes : {run : Handed} (input now_input out now_out errors now_errors :
     → Ends (by_lines (IsPlayed run)) (streams input out errors) (streams now_input now_out now_errors) s
 run_closes {run} input now_input out now_out errors now_errors octets text fault reads whole bounded played =
     let read = is_read fault octets now_input.octets (played_short run fault octets text played) whole bounded in
-    closed_ends (IsPlayed run) input now_input out now_out errors now_errors octets text fault reads read (played_whole run fault octets (octets_told now_input.octets) text read played)
+    closed_ends (IsPlayed run) input now_input out now_out errors now_errors octets text fault reads read
+    (played_whole run fault octets (octets_told now_input.octets) text read played)
