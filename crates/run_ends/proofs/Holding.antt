@@ -12,23 +12,24 @@ use Rattle.events.specs.declared.turn.Turn.{Turn}
 use Rattle.events.specs.declared.verdict.Refusal.{Refusal}
 use Rattle.events.specs.declared.verdict.Verdict.{Verdict}
 use Rattle.events.specs.declared.verdict.Verdict.TheVariants as out
-use Rattle.ha_base.specs.declared.identities.GatewayId.{GatewayId}
+use Rattle.ha_base.specs.declared.outside.Moment.{Moment}
 use Rattle.keeper_book.specs.declared.calls.Call.{Call}
 use Rattle.keeper_book.specs.declared.records.Record.{Record}
 use Rattle.turn_rules.specs.Configurations.{Configuration, Membership, configured_in, first_ticket_key, fresh_in, gateway_of, membership}
 use Rattle.turn_rules.specs.Ends.{Member, Peer, Performer, is_end, is_of_run, is_refused_by_run, performer_at, performer_of}
 use Rattle.turn_rules.specs.Held.{Held, first_some, held_after, held_at}
 use Rattle.turn_rules.specs.Peers.{entered_at_task}
+use Rattle.turn_rules.specs.PeerStates.{PeerHeld, peer_after, peer_configured}
 use Rattle.turn_rules.specs.Slots.{Slot, entered_slot, slot_after, slots_after}
-use Rattle.turn_rules.specs.States.{ended_by, ends, gateway_after, held_unless, is_join, is_number, joined_after, state_after}
+use Rattle.turn_rules.specs.States.{ended_by, ends, held_unless, is_join, is_number, joined_after, state_after}
 use Rattle.turn_rules.specs.Tasks as task
 use Rattle.turn_rules.specs.Tasks.{member_task, peer_task}
 use Rattle.cluster_member.specs.Members.{Holder, IsAfter}
 use Rattle.run_ends.proofs.Seats.{more-given_here, more-given_there, more-gone, more-held, more-length, seat-any, seat-other, seat-same, seat_here, seat_there, unless-given, unless-none}
 use Rattle.run_ends.specs.Parties.{EndsHeld, given_of, given_to, held_in, holder_of, nobody, state_of, state_then}
 
-abbrev pub Holds : List Turn → EndsHeld → Event → List Call → Step → EndsHeld → Type 0
-Holds past old at calls step new = state_then past step new ≡ state_after at calls step (state_of past old)
+abbrev pub Holds : List Turn → EndsHeld → Moment → Event → List Call → Step → EndsHeld → Type 0
+Holds past old moment at calls step new = state_then past step new ≡ state_after moment at calls step (state_of past old)
 
 -- what is refused configures nothing, ends nobody, and is performed by nobody
 pub refused-unset : (at : Event) (why : Refusal) → configured_in at (out.Refused why) ≡ None
@@ -45,7 +46,7 @@ no-fresh (event.Join fresh) (out.Member number) none = absurd (cc)
 no-fresh (event.Join fresh) verdict none = refl
 no-fresh at verdict none = refl
 
-module _ (past : List Turn) (old : EndsHeld) (at : Event) (calls : List Call) (step : Step) where
+module _ (past : List Turn) (old : EndsHeld) (moment : Moment) (at : Event) (calls : List Call) (step : Step) where
   abbrev by : Option Performer
   by = performer_at at step.verdict
 
@@ -57,6 +58,14 @@ module _ (past : List Turn) (old : EndsHeld) (at : Event) (calls : List Call) (s
 
   abbrev given_then : ℕ → Option Membership
   given_then k = if is_end (Member k) by then first_some (option_map (membership old.config) (fresh_in at step.verdict)) (given_of old.members k) else given_of old.members k
+
+  abbrev peer_then : Option Performer → PeerHeld
+  peer_then performer = if is_end Peer performer then peer_after old.config.window moment (peer_task at) step old.peer else old.peer
+
+  -- what the peer has, by who performs the event and what it configures
+  peer-then : (performer : Option Performer) (sets : Option Configuration) → performer_at at step.verdict ≡ performer → configured_in at step.verdict ≡ sets
+      → peer_configured sets (peer_then performer) ≡ peer_configured (configured_in at step.verdict) (peer_then (performer_at at step.verdict))
+  peer-then performer sets by_is sets_is = sym (ap₂ (λ c y. peer_configured c (peer_then y)) sets_is by_is)
 
   -- what members were given they have, where none joins
   kept-given : is_join step.verdict ≡ false → (k : ℕ) → given_then k ≡ given_of old.members k
@@ -91,34 +100,33 @@ module _ (past : List Turn) (old : EndsHeld) (at : Event) (calls : List Call) (s
         ∙ ap (held_unless (is_gone k)) (sym (kept-given stay.no_join k))
 
     -- the configuration, and what the peer has, may change
-    stay-holds : (config : Configuration) (gateway : GatewayId) (slots : List Slot) → config ≡ unwrap_or (configured_in at step.verdict) old.config → gateway ≡ gateway_after (configured_in at step.verdict) old.gateway
-        → slots ≡ (if is_end Peer by then slots_after old.config.window (peer_task at) step old.slots else old.slots) → Holds past old at calls step (record old { config = config; gateway = gateway; slots = slots })
-    stay-holds config gateway slots of_config of_gateway of_slots i = record {
+    stay-holds : (config : Configuration) (peer : PeerHeld) → config ≡ unwrap_or (configured_in at step.verdict) old.config → peer ≡ peer_configured (configured_in at step.verdict) (peer_then by)
+        → Holds past old moment at calls step (record old { config = config; peer = peer })
+    stay-holds config peer of_config of_peer i = record {
       boxes = old.boxes;
       started = true;
       config = of_config i;
       joined = ap (λ b. joined_after b (length old.members)) (sym stay.no_join) i;
       ended = λ k. sym (stay-gone k) i;
       datagrams = (state_then past step old).datagrams;
-      gateway = of_gateway i;
-      slots = of_slots i;
+      peer = of_peer i;
       members = λ k. stay-given k i;
       held = λ k spir. stay-held k spir i;
     }
 
 -- what the run refuses changes nothing
-pub refused-holds : (past : List Turn) (old : EndsHeld) (at : Event) (calls : List Call) (step : Step) (why : Refusal) → is_of_run why ≡ true → step.verdict ≡ out.Refused why → Holds past old at calls step old
-refused-holds past old at calls step why run said =
+pub refused-holds : (past : List Turn) (old : EndsHeld) (moment : Moment) (at : Event) (calls : List Call) (step : Step) (why : Refusal) → is_of_run why ≡ true → step.verdict ≡ out.Refused why → Holds past old moment at calls step old
+refused-holds past old moment at calls step why run said =
     let no_end : performer_at at step.verdict ≡ None = ap (λ b. if b then None else performer_of at step.verdict) (ap is_refused_by_run said ∙ run) in
-    stay-holds past old at calls step (record {
+    let no_config : configured_in at step.verdict ≡ None = ap (configured_in at) said ∙ refused-unset at why in
+    stay-holds past old moment at calls step (record {
       no_join = ap is_join said;
       no_end = ap (ended_by at) said ∙ refused-up at why;
       nobody_acts = λ k. ap (is_end (Member k)) no_end;
     })
-    old.config old.gateway old.slots
-    (sym (ap (λ c. unwrap_or c old.config) (ap (configured_in at) said ∙ refused-unset at why)))
-    (sym (ap (λ c. gateway_after c old.gateway) (ap (configured_in at) said ∙ refused-unset at why)))
-    (sym (ap (λ x. if is_end Peer x then slots_after old.config.window (peer_task at) step old.slots else old.slots) no_end))
+    old.config old.peer
+    (sym (ap (λ c. unwrap_or c old.config) no_config))
+    (peer-then past old moment at calls step None None no_end no_config)
 
 -- a verdict that an end itself comes to
 pub record IsOfEnd (verdict : Verdict) : Type 0 where
@@ -129,22 +137,21 @@ pub of-end : (at : Event) (verdict : Verdict) (end : Performer) → IsOfEnd verd
 of-end at verdict end said by = ap (λ b. if b then None else performer_of at verdict) said.heard ∙ by
 
 -- the peer acts, and the members stay
-pub peer-holds : (past : List Turn) (old : EndsHeld) (at : Event) (calls : List Call) (step : Step) (slots : List Slot) → IsOfEnd step.verdict → performer_of at step.verdict ≡ Some Peer → ended_by at step.verdict ≡ None → configured_in at step.verdict ≡ None
-    → slots ≡ slots_after old.config.window (peer_task at) step old.slots → Holds past old at calls step (record old { slots = slots })
-peer-holds past old at calls step slots said by no_end no_config same =
+pub peer-holds : (past : List Turn) (old : EndsHeld) (moment : Moment) (at : Event) (calls : List Call) (step : Step) (peer : PeerHeld) → IsOfEnd step.verdict → performer_of at step.verdict ≡ Some Peer → ended_by at step.verdict ≡ None → configured_in at step.verdict ≡ None
+    → peer ≡ peer_after old.config.window moment (peer_task at) step old.peer → Holds past old moment at calls step (record old { peer = peer })
+peer-holds past old moment at calls step peer said by no_end no_config same =
     let performs : performer_at at step.verdict ≡ Some Peer = of-end at step.verdict Peer said by in
-    stay-holds past old at calls step (record { no_join = said.no_join; no_end = no_end; nobody_acts = λ k. ap (is_end (Member k)) performs })
-    old.config old.gateway slots
+    stay-holds past old moment at calls step (record { no_join = said.no_join; no_end = no_end; nobody_acts = λ k. ap (is_end (Member k)) performs })
+    old.config peer
     (sym (ap (λ c. unwrap_or c old.config) no_config))
-    (sym (ap (λ c. gateway_after c old.gateway) no_config))
-    (same ∙ sym (ap (λ x. if is_end Peer x then slots_after old.config.window (peer_task at) step old.slots else old.slots) performs))
+    (same ∙ peer-then past old moment at calls step (Some Peer) None performs no_config)
 
 -- an event of a member
 pub record IsOf (at : Event) (member : ℕ) : Type 0 where
   pub by : (verdict : Verdict) → performer_of at verdict ≡ Some (Member member)
   pub no_config : (verdict : Verdict) → configured_in at verdict ≡ None
 
-module _ (past : List Turn) (old : EndsHeld) (at : Event) (calls : List Call) (step : Step) (place : ℕ) (within : place < length old.members) (of : IsOf at (suc place)) (said : IsOfEnd step.verdict) (x : Option Holder) where
+module _ (past : List Turn) (old : EndsHeld) (moment : Moment) (at : Event) (calls : List Call) (step : Step) (place : ℕ) (within : place < length old.members) (of : IsOf at (suc place)) (said : IsOfEnd step.verdict) (x : Option Holder) where
   abbrev now : EndsHeld
   now = record old { members = set old.members place x }
 
@@ -157,7 +164,7 @@ module _ (past : List Turn) (old : EndsHeld) (at : Event) (calls : List Call) (s
       → ((k spir : ℕ) → held_in (holder_of (set old.members place x) k) spir
       ≡ held_unless (ends k at step.verdict || is_none (holder_of old.members k))
       (if k == suc place then held_after old.config.window spir (member_task at) calls step (held_in (holder_of old.members k) spir) else held_in (holder_of old.members k) spir))
-      → Holds past old at calls step now
+      → Holds past old moment at calls step now
   seat-holds given gone held i = record {
     boxes = old.boxes;
     started = true;
@@ -165,16 +172,15 @@ module _ (past : List Turn) (old : EndsHeld) (at : Event) (calls : List Call) (s
     joined = (length-set old.members place x ∙ ap (λ b. joined_after b (length old.members)) (sym said.no_join)) i;
     ended = λ k. gone k i;
     datagrams = (state_then past step old).datagrams;
-    gateway = sym (ap (λ c. gateway_after c old.gateway) (of.no_config step.verdict)) i;
-    slots = sym (ap (λ y. if is_end Peer y then slots_after old.config.window (peer_task at) step old.slots else old.slots) performs) i;
-    members = λ k. (given k ∙ ap (held_unless (ends k at step.verdict || is_none (holder_of old.members k))) (sym (kept-given past old at calls step said.no_join k))) i;
+    peer = peer-then past old moment at calls step (Some (Member (suc place))) None performs (of.no_config step.verdict) i;
+    members = λ k. (given k ∙ ap (held_unless (ends k at step.verdict || is_none (holder_of old.members k))) (sym (kept-given past old moment at calls step said.no_join k))) i;
     held = λ k spir. (held k spir
         ∙ ap (λ y. held_unless (ends k at step.verdict || is_none (holder_of old.members k))
         (if is_end (Member k) y then held_after old.config.window spir (member_task at) calls step (held_in (holder_of old.members k) spir) else held_in (holder_of old.members k) spir)) (sym performs)) i;
   }
 
 -- a member that is up acts, and stays up
-module _ (past : List Turn) (old : EndsHeld) (at : Event) (calls : List Call) (step : Step) (place : ℕ) (within : place < length old.members) (of : IsOf at (suc place)) (said : IsOfEnd step.verdict)
+module _ (past : List Turn) (old : EndsHeld) (moment : Moment) (at : Event) (calls : List Call) (step : Step) (place : ℕ) (within : place < length old.members) (of : IsOf at (suc place)) (said : IsOfEnd step.verdict)
     (no_end : ended_by at step.verdict ≡ None) (was now : Holder) (sits : holder_of old.members (suc place) ≡ Some was) (config : was.config ≡ old.config) (after : IsAfter (member_task at) calls step was now) where
   abbrev acted : List (Option Holder)
   acted = set old.members place (Some now)
@@ -216,8 +222,8 @@ module _ (past : List Turn) (old : EndsHeld) (at : Event) (calls : List Call) (s
       ∙ sym (ap (given_of old.members) (eqb-true k (suc place) e))
   given-same k false e = ap (option_map given_to) (seat-other None old.members place within (Some now) k e)
 
-  pub member-holds : Holds past old at calls step (record old { members = acted })
-  member-holds = seat-holds past old at calls step place within of said (Some now)
+  pub member-holds : Holds past old moment at calls step (record old { members = acted })
+  member-holds = seat-holds past old moment at calls step place within of said (Some now)
       (λ k. given-same k (k == suc place) refl ∙ unless-given old.members k ∙ ap (λ b. held_unless b (given_of old.members k)) (not_ended k))
       (λ k. gone-same k (k == suc place) refl ∙ not_ended k)
       (λ k spir. held-same k spir (k == suc place) refl ∙ ap (λ b. held_unless b (After k spir (k == suc place))) (not_ended k))
@@ -235,7 +241,7 @@ either-held true size spir calls step x none = idle-held size spir calls step x 
 either-held false size spir calls step x none = refl
 
 -- nobody is in the place of a member that ended
-module _ (past : List Turn) (old : EndsHeld) (calls : List Call) (step : Step) (place : ℕ) (within : place < length old.members) (none : calls ≡ []) (said : step.verdict ≡ out.Down) where
+module _ (past : List Turn) (old : EndsHeld) (moment : Moment) (calls : List Call) (step : Step) (place : ℕ) (within : place < length old.members) (none : calls ≡ []) (said : step.verdict ≡ out.Down) where
   abbrev gone : List (Option Holder)
   gone = set old.members place None
 
@@ -258,8 +264,8 @@ module _ (past : List Turn) (old : EndsHeld) (calls : List Call) (step : Step) (
   crash-given k true e = ap (given_of gone) (eqb-true k (suc place) e) ∙ ap (option_map given_to) (seat-same None old.members place within None)
   crash-given k false e = ap (option_map given_to) (seat-other None old.members place within None k e) ∙ unless-given old.members k
 
-  pub crash-holds : Holds past old crash calls step (record old { members = gone })
-  crash-holds = seat-holds past old crash calls step place within (record { by = λ v. refl; no_config = λ v. refl }) (record { no_join = ap is_join said; heard = ap is_refused_by_run said }) None
+  pub crash-holds : Holds past old moment crash calls step (record old { members = gone })
+  crash-holds = seat-holds past old moment crash calls step place within (record { by = λ v. refl; no_config = λ v. refl }) (record { no_join = ap is_join said; heard = ap is_refused_by_run said }) None
       (λ k.
       crash-given k (k == suc place) refl
       ∙ ap (λ b. held_unless (b || is_none (holder_of old.members k)) (given_of old.members k)) (sym (is_ended k (k == suc place) refl)))
@@ -270,7 +276,7 @@ module _ (past : List Turn) (old : EndsHeld) (calls : List Call) (step : Step) (
       ∙ ap (held_unless (ends k crash step.verdict || is_none (holder_of old.members k))) (sym (either-held (k == suc place) old.config.window spir calls step (held_in (holder_of old.members k) spir) none)))
 
 -- a member that joined is the newest, and holds nothing
-module _ (past : List Turn) (old : EndsHeld) (fresh : List ℕ) (calls : List Call) (step : Step) (x : Holder) (empty : x.held ≡ []) (given : given_to x ≡ membership old.config fresh)
+module _ (past : List Turn) (old : EndsHeld) (moment : Moment) (fresh : List ℕ) (calls : List Call) (step : Step) (x : Holder) (empty : x.held ≡ []) (given : given_to x ≡ membership old.config fresh)
     (none : calls ≡ []) (number : ℕ) (last : number ≡ suc (length old.members)) (said : step.verdict ≡ out.Member number) where
   abbrev join : Event
   join = event.Join fresh
@@ -306,7 +312,7 @@ module _ (past : List Turn) (old : EndsHeld) (fresh : List ℕ) (calls : List Ca
       ∙ ap (λ n. held_unless (is_none (holder_of old.members k)) (if k == n then Some (membership old.config fresh) else given_of old.members k)) (sym last)
       ∙ sym (ap (λ v. held_unless (is_none (holder_of old.members k)) (join_given (performer_at join v) v k)) said)
 
-  pub join-holds : Holds past old join calls step (record old { members = joined })
+  pub join-holds : Holds past old moment join calls step (record old { members = joined })
   join-holds i = record {
     boxes = old.boxes;
     started = true;
@@ -314,8 +320,7 @@ module _ (past : List Turn) (old : EndsHeld) (fresh : List ℕ) (calls : List Ca
     joined = (more-length old.members x ∙ ap (λ v. joined_after (is_join v) (length old.members)) (sym said)) i;
     ended = λ k. more-gone old.members x k i;
     datagrams = (state_then past step old).datagrams;
-    gateway = old.gateway;
-    slots = sym (ap (λ y. if is_end Peer y then slots_after old.config.window (peer_task join) step old.slots else old.slots) by_new) i;
+    peer = peer-then past old moment join calls step (Some (Member number)) None by_new refl i;
     members = λ k. join-given k i;
     held = λ k spir. (more-held old.members x empty k spir
         ∙ unless-none (holder_of old.members k) spir
@@ -339,15 +344,14 @@ not_entered-after size sa step slots why said =
     sym (append-nil (map (slot_after (task.Enter sa) step) slots) ∙ entered-slots size sa step slots) ∙ ap (with_entry size sa step slots) (sym said)
 
 -- the cluster was configured before anything else
-pub configured-holds : (past : List Turn) (old : EndsHeld) (config : Configuration) (ticket_key : List ℕ) → config.ticket_key ≡ first_ticket_key ticket_key → (calls : List Call) (step : Step) → step.verdict ≡ out.Configured
-    → Holds past old (event.Cluster config.identity config.lifetime config.window ticket_key) calls step (record old { config = config; gateway = gateway_of config })
-configured-holds past old config ticket_key same calls step said =
+pub configured-holds : (past : List Turn) (old : EndsHeld) (moment : Moment) (config : Configuration) (ticket_key : List ℕ) → config.ticket_key ≡ first_ticket_key ticket_key → (calls : List Call) (step : Step) → step.verdict ≡ out.Configured
+    → Holds past old moment (event.Cluster config.identity config.lifetime config.window ticket_key) calls step (record old { config = config; peer = record old.peer { gateway = gateway_of config } })
+configured-holds past old moment config ticket_key same calls step said =
     let cluster : Event = event.Cluster config.identity config.lifetime config.window ticket_key in
     let no_end : performer_at cluster step.verdict ≡ None = ap (performer_at cluster) said in
     let sets : configured_in cluster step.verdict ≡ Some config = ap (configured_in cluster) said ∙ ap (λ key. Some (record config { ticket_key = key })) (sym same) in
-    stay-holds past old cluster calls step
+    stay-holds past old moment cluster calls step
     (record { no_join = ap is_join said; no_end = refl; nobody_acts = λ k. ap (is_end (Member k)) no_end })
-    config (gateway_of config) old.slots
+    config (record old.peer { gateway = gateway_of config })
     (sym (ap (λ c. unwrap_or c old.config) sets))
-    (sym (ap (λ c. gateway_after c old.gateway) sets))
-    (sym (ap (λ y. if is_end Peer y then slots_after old.config.window task.Nothing step old.slots else old.slots) no_end))
+    (peer-then past old moment cluster calls step None (Some config) no_end sets)

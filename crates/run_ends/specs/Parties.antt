@@ -8,26 +8,25 @@ use Rattle.events.specs.declared.event.Party.{Party}
 use Rattle.events.specs.declared.turn.Step.{Step}
 use Rattle.events.specs.declared.turn.Turn.{Turn}
 use Rattle.events.specs.declared.verdict.Refusal.{Refusal}
-use Rattle.ha_base.specs.declared.identities.GatewayId.{GatewayId}
 use Rattle.ha_base.specs.declared.limits.TheConstants.{DATAGRAM_OCTETS, MAX_DATAGRAMS}
+use Rattle.ha_base.specs.declared.outside.Moment.{Moment}
 use Rattle.keeper_book.specs.declared.calls.Call.{Call}
 use Rattle.turn_rules.specs.Configurations.{Configuration, Membership, default_configuration, first_ticket_key, membership}
 use Rattle.turn_rules.specs.Datagrams.{PlainDatagram, datagrams_of, delivery_of, plain_datagram}
 use Rattle.turn_rules.specs.Fits.{Does}
 use Rattle.turn_rules.specs.Held.{Held, held_at}
 use Rattle.turn_rules.specs.Local.{Local}
-use Rattle.turn_rules.specs.Slots.{Slot}
+use Rattle.turn_rules.specs.PeerStates.{PeerHeld}
 use Rattle.turn_rules.specs.States.{RunState, has_turns, state_after, state_by}
 use Rattle.cluster_member.specs.Members.{Holder}
 
 -- boxes: how many services were handed in for members; config: how members are configured that
--- join; gateway and slots: where the peer sends, and its associations; members: what each member
--- holds that joined, and nothing where it ended
+-- join; peer: what the peer holds; members: what each member holds that joined, and nothing where it
+-- ended
 pub record EndsHeld : Type 0 where
   pub boxes : ℕ
   pub config : Configuration
-  pub gateway : GatewayId
-  pub slots : List Slot
+  pub peer : PeerHeld
   pub members : List (Option Holder)
 
 -- a member that has not joined
@@ -66,8 +65,7 @@ state_with started datagrams s = record {
   joined = length s.members;
   ended = λ member. is_none (holder_of s.members member);
   datagrams = datagrams;
-  gateway = s.gateway;
-  slots = s.slots;
+  peer = s.peer;
   members = λ member. given_of s.members member;
   held = λ member spir. held_in (holder_of s.members member) spir;
 }
@@ -106,12 +104,12 @@ abbrev pub DeliversTo : Event → Party → Type 0
 DeliversTo at to = (made : List PlainDatagram → Result PlainDatagram Refusal)
     × (delivery_of at ≡ Some (record { to = to; made = made }))
 
--- what the ends do at an event after these turns, by what they hold, and that they hold then what
--- the turn makes of it
-pub record Plays (past : List Turn) (old : EndsHeld) (at : Event) (calls : List Call) (step : Step)
-    (new : EndsHeld) : Type 0 where
-  pub does : Does (state_of past old) at calls step
-  pub holds : state_then past step new ≡ state_after at calls step (state_of past old)
+-- what the ends do at a moment at an event after these turns, by what they hold, and that they hold
+-- then what the turn makes of it
+pub record Plays (past : List Turn) (old : EndsHeld) (now : Moment) (at : Event)
+    (calls : List Call) (step : Step) (new : EndsHeld) : Type 0 where
+  pub does : Does (state_of past old) now at calls step
+  pub holds : state_then past step new ≡ state_after now at calls step (state_of past old)
   pub in_place : AreInPlace new
 
 -- so it is at each event that configures the cluster so

@@ -10,6 +10,7 @@ use Rattle.events.specs.declared.verdict.Refusal.{Refusal}
 use Rattle.events.specs.declared.verdict.Refusal.TheVariants as refusal
 use Rattle.events.specs.declared.verdict.Verdict.TheVariants as out
 use Rattle.ha_base.specs.Octets.{WithRoom}
+use Rattle.ha_base.specs.declared.outside.Moment.{Moment}
 use Rattle.keeper_book.specs.declared.calls.Call.{Call}
 use Rattle.keeper_book.specs.declared.records.Record.{Record}
 use Rattle.turn_laws.proofs.Asking.{enters-deed, refused-deed, takes_over-deed, yields-deed}
@@ -28,7 +29,7 @@ use Rattle.turn_rules.specs.Slots.{records}
 use Rattle.turn_rules.specs.States.{RunState, told_state}
 
 module _ (boxes : ℕ) (past : List Turn) (own_spir : (member spir : ℕ) (held : Held) → held_by (window_by past) (own (Member member) past) spir ≡ Some held → held.sa.spir ≡ spir)
-    (calls : List Call) (step : Step) where
+    (now : Moment) (calls : List Call) (step : Step) where
   abbrev state : RunState
   state = told_state boxes past
 
@@ -51,7 +52,7 @@ module _ (boxes : ℕ) (past : List Turn) (own_spir : (member spir : ℕ) (held 
       let is_held : held_by (window_by past) (own (Member member) past) spir ≡ Some held = own-held boxes past member spir held e in
       sends-deed past step member spir payload held (own_spir member spir held is_held) is_held calls sends
 
-  received : (event : Event) (to : Party) → Brings event to → (found : Result PlainDatagram Refusal) → Receives state to found calls step → Deed past event calls step
+  received : (event : Event) (to : Party) → Brings event to → (found : Result PlainDatagram Refusal) → Receives state now to found calls step → Deed past event calls step
   received event to brings (Err why) r = absurd r
   received event parties.Peer brings (Ok datagram) takes = peer_takes-deed past event brings datagram.octets calls step takes
   received event (parties.Member member) brings (Ok datagram) takes =
@@ -65,9 +66,9 @@ module _ (boxes : ℕ) (past : List Turn) (own_spir : (member spir : ℕ) (held 
       by_test true none = refl
       by_test false none = absurd (cc)
 
-  performed : (event : Event) → run_refusal state event ≡ None → Performs state event calls step → Deed past event calls step
+  performed : (event : Event) → run_refusal state event ≡ None → Performs state now event calls step → Deed past event calls step
   performed (event.Cluster identity lifetime window ticket_key) none y = yields-deed past step (event.Cluster identity lifetime window ticket_key) calls out.Configured tt refl y
-  performed (event.Import sa) none p = imported sa (importable sa none) (not (admits (records state.slots) sa)) p
+  performed (event.Import sa) none p = imported sa (importable sa none) (not (admits (records state.peer.slots) sa)) p
   performed (event.Join fresh) none y = yields-deed past step (event.Join fresh) calls (out.Member _) tt refl y
   performed (event.Own member spir) none quietly = takes_over-deed past step member spir calls quietly
   performed (event.Draw member spir) none draws = drawn member spir (state.held member spir) refl draws
@@ -80,9 +81,9 @@ module _ (boxes : ℕ) (past : List Turn) (own_spir : (member spir : ℕ) (held 
   performed (event.Inject to medium octets) none r = received (event.Inject to medium octets) to (record { performs = λ verdict. refl; receives = λ spir verdict. refl; uses_none = λ spir verdict. refl; sends_none = λ spir verdict. refl; no_entry = λ verdict. refl }) (arrives state.datagrams (event.Inject to medium octets)) r
 
   -- a turn that is explained is a deed
-  pub fits-deed : (event : Event) → Does state event calls step → Deed past event calls step
+  pub fits-deed : (event : Event) → Does state now event calls step → Deed past event calls step
   fits-deed event does = go (run_refusal state event) refl does
     where
-      go : (x : Option Refusal) → run_refusal state event ≡ x → MatchOption x (Performs state event calls step) (λ why. Refuses why calls step) → Deed past event calls step
+      go : (x : Option Refusal) → run_refusal state event ≡ x → MatchOption x (Performs state now event calls step) (λ why. Refuses why calls step) → Deed past event calls step
       go None none p = performed event none p
       go (Some why) is r = refused event why r

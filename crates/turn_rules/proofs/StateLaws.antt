@@ -1,5 +1,5 @@
 -- What turns make of what the ends hold is what each end's own turns tell of it.
-use Rattle.std.proofs.Common.{◌≡◌, ℕ, ◌||◌, unwrap_or, Bool, true, false, Option, Some, None, List, [], ◌∷◌, ◌++◌, option_to_list, append-nil, length, refl, ap, sym, ◌∙◌, subst, if◌then◌else◌}
+use Rattle.std.proofs.Common.{◌≡◌, ℕ, ◌||◌, unwrap_or, Bool, true, false, Option, Some, None, List, [], ◌∷◌, ◌++◌, option_to_list, append-nil, length, refl, ap, ap₂, sym, ◌∙◌, subst, if◌then◌else◌}
 use Rattle.std.proofs.lemmas.Bool.{or_parts}
 use Rattle.std.specs.List.{filter}
 use Rattle.std.specs.Option.{option_map}
@@ -14,9 +14,13 @@ use Rattle.turn_rules.specs.Fits.{Does}
 use Rattle.turn_rules.specs.Held.{Held, config_by, configured_at, first_some, found, held_after, held_by, window_by}
 use Rattle.turn_rules.specs.Local.{Explained, IsByRule, Local}
 use Rattle.turn_rules.specs.Peers.{AreDistinct, associations_by, entered_in}
-use Rattle.turn_rules.specs.Slots.{slots_after, slots_by}
-use Rattle.turn_rules.specs.States.{ends, fresh_at, gateway_after, has_ended, held_unless, is_join, joined_after, joins, state_after, state_by, told_state}
+use Rattle.turn_rules.specs.PeerStates.{PeerHeld, peer_after, peer_by, peer_configured}
+use Rattle.turn_rules.specs.Slots.{Slot, slots_after, slots_by}
+use Rattle.turn_rules.specs.States.{ends, fresh_at, has_ended, held_unless, is_join, joined_after, joins, state_after, state_by, told_state}
 use Rattle.turn_rules.specs.Tasks.{member_task, peer_task}
+
+abbrev with_slots : Configuration → List Slot → PeerHeld
+with_slots config slots = record { gateway = gateway_of config; slots = slots }
 
 module _ (boxes : ℕ) (past : List Turn) (turn : Turn) (does : DoesTold boxes past turn) where
   config-more : config_by (turn ∷ past) ≡ unwrap_or (configured_at turn) (config_by past)
@@ -25,13 +29,6 @@ module _ (boxes : ℕ) (past : List Turn) (turn : Turn) (does : DoesTold boxes p
       go : (c x : Option Configuration) → unwrap_or (first_some c x) default_configuration ≡ unwrap_or c (unwrap_or x default_configuration)
       go None x = refl
       go (Some c) x = refl
-
-  gateway-more : gateway_of (config_by (turn ∷ past)) ≡ gateway_after (configured_at turn) (gateway_of (config_by past))
-  gateway-more = ap gateway_of config-more ∙ go (configured_at turn)
-    where
-      go : (c : Option Configuration) → gateway_of (unwrap_or c (config_by past)) ≡ gateway_after c (gateway_of (config_by past))
-      go None = refl
-      go (Some c) = refl
 
   joined-more : joins (turn ∷ past) ≡ joined_after (is_join turn.step.verdict) (joins past)
   joined-more = go (is_join turn.step.verdict)
@@ -43,10 +40,17 @@ module _ (boxes : ℕ) (past : List Turn) (turn : Turn) (does : DoesTold boxes p
       go true = refl
       go false = refl
 
-  slots-more : (b : Bool) → is_by Peer turn ≡ b → slots_by (window_by (turn ∷ past)) (own Peer (turn ∷ past))
-      ≡ (if b then slots_after (window_by past) (peer_task turn.event) turn.step (slots_by (window_by past) (own Peer past)) else slots_by (window_by past) (own Peer past))
-  slots-more true mine = slots-own boxes past turn does mine
-  slots-more false other = slots-other boxes past turn does other
+  -- what the peer holds, once the turn may have configured the cluster
+  peer-set : (c : Option Configuration) (slots : List Slot) → with_slots (unwrap_or c (config_by past)) slots ≡ peer_configured c (with_slots (config_by past) slots)
+  peer-set None slots = refl
+  peer-set (Some config) slots = refl
+
+  peer-more : (b : Bool) → is_by Peer turn ≡ b → peer_by (config_by (turn ∷ past)) (own Peer (turn ∷ past))
+      ≡ peer_configured (configured_at turn) (if b then peer_after (window_by past) turn.moment (peer_task turn.event) turn.step (peer_by (config_by past) (own Peer past)) else peer_by (config_by past) (own Peer past))
+  peer-more true mine =
+      ap₂ with_slots config-more (slots-own boxes past turn does mine) ∙ peer-set (configured_at turn) (slots_after (window_by past) (peer_task turn.event) turn.step (slots_by (window_by past) (own Peer past)))
+  peer-more false other =
+      ap₂ with_slots config-more (slots-other boxes past turn does other) ∙ peer-set (configured_at turn) (slots_by (window_by past) (own Peer past))
 
   module _ (member spir : ℕ) where
     abbrev held_now : Option Held
@@ -104,7 +108,7 @@ module _ (boxes : ℕ) (past : List Turn) (turn : Turn) (does : DoesTold boxes p
     given-more true ended = refl
     given-more false up = given-up (or_parts (ends member turn.event turn.step.verdict) (has_ended member past) up).1 (is_by (Member member) turn) refl
 
-  pub told-cons : told_state boxes (turn ∷ past) ≡ state_after turn.event turn.calls turn.step (told_state boxes past)
+  pub told-cons : told_state boxes (turn ∷ past) ≡ state_after turn.moment turn.event turn.calls turn.step (told_state boxes past)
   told-cons i = record {
     boxes = boxes;
     started = true;
@@ -112,8 +116,7 @@ module _ (boxes : ℕ) (past : List Turn) (turn : Turn) (does : DoesTold boxes p
     joined = joined-more i;
     ended = λ member. has_ended member (turn ∷ past);
     datagrams = datagrams_of (turn ∷ past);
-    gateway = gateway-more i;
-    slots = slots-more (is_by Peer turn) refl i;
+    peer = peer-more (is_by Peer turn) refl i;
     members = λ member. given-more member (ends member turn.event turn.step.verdict || has_ended member past) refl i;
     held = λ member spir. held-more member spir (ends member turn.event turn.step.verdict || has_ended member past) refl i;
   }
@@ -123,8 +126,8 @@ pub states-explained : (boxes : ℕ) (past : List Turn) → Explained boxes past
 states-explained boxes [] local = refl
 states-explained boxes (turn ∷ past) local =
     let before : state_by boxes past ≡ told_state boxes past = states-explained boxes past local.1 in
-    let does : DoesTold boxes past turn = subst (λ state. Does state turn.event turn.calls turn.step) before local.0.fits in
-    ap (state_after turn.event turn.calls turn.step) before ∙ sym (told-cons boxes past turn does)
+    let does : DoesTold boxes past turn = subst (λ state. Does state turn.moment turn.event turn.calls turn.step) before local.0.fits in
+    ap (state_after turn.moment turn.event turn.calls turn.step) before ∙ sym (told-cons boxes past turn does)
 
 -- where no answer was hidden besides, each turn follows its rule
 pub local-explained : (boxes : ℕ) (past : List Turn) → Local boxes past → Explained boxes past
@@ -136,7 +139,7 @@ states-told boxes past local = states-explained boxes past (local-explained boxe
 
 -- and each turn is explained by what they tell
 pub does-told : (boxes : ℕ) (past : List Turn) (turn : Turn) → IsByRule boxes past turn → Explained boxes past → DoesTold boxes past turn
-does-told boxes past turn explained local = subst (λ state. Does state turn.event turn.calls turn.step) (states-explained boxes past local) explained.fits
+does-told boxes past turn explained local = subst (λ state. Does state turn.moment turn.event turn.calls turn.step) (states-explained boxes past local) explained.fits
 
 -- the associations that came to the peer differ
 pub associations-apart : (boxes : ℕ) (past : List Turn) → Explained boxes past → AreDistinct (associations_by (own Peer past))

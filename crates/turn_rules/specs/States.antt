@@ -9,18 +9,18 @@ use Rattle.events.specs.declared.turn.Step.{Step}
 use Rattle.events.specs.declared.turn.Turn.{Turn}
 use Rattle.events.specs.declared.verdict.Verdict.{Verdict}
 use Rattle.events.specs.declared.verdict.Verdict.TheVariants as out
-use Rattle.ha_base.specs.declared.identities.GatewayId.{GatewayId}
+use Rattle.ha_base.specs.declared.outside.Moment.{Moment}
 use Rattle.keeper_book.specs.declared.calls.Call.{Call}
 use Rattle.turn_rules.specs.Configurations.{Configuration, Membership, configured_in, default_configuration, fresh_in, gateway_of, membership}
 use Rattle.turn_rules.specs.Datagrams.{PlainDatagram, datagrams_of, plain_datagram}
 use Rattle.turn_rules.specs.Ends.{Member, Peer, is_end, own, performer_at}
 use Rattle.turn_rules.specs.Held.{Held, config_by, first_some, found, held_after, held_by, window_by}
-use Rattle.turn_rules.specs.Slots.{Slot, slots_after, slots_by}
+use Rattle.turn_rules.specs.PeerStates.{PeerHeld, peer_after, peer_begun, peer_by, peer_configured}
 use Rattle.turn_rules.specs.Tasks.{member_task, peer_task}
 
 -- boxes: how many services were handed in for members; config: how members are configured that
--- join; joined: how many members joined; gateway and slots: where the peer sends, and its
--- associations. `ended`, `members` and `held` are by the number of a member, counted from 1.
+-- join; joined: how many members joined; peer: what the peer holds. `ended`, `members` and `held`
+-- are by the number of a member, counted from 1.
 pub record RunState : Type 0 where
   pub boxes : ℕ
   pub started : Bool
@@ -28,8 +28,7 @@ pub record RunState : Type 0 where
   pub joined : ℕ
   pub ended : ℕ → Bool
   pub datagrams : List PlainDatagram
-  pub gateway : GatewayId
-  pub slots : List Slot
+  pub peer : PeerHeld
   pub members : ℕ → Option Membership
   pub held : ℕ → ℕ → Option Held
 
@@ -50,6 +49,10 @@ abbrev pub is_number : ℕ → Option ℕ → Bool
 is_number member None = false
 is_number member (Some other) = other == member
 
+-- the member that ended in a turn
+abbrev pub ended_in : Turn → Option ℕ
+ended_in turn = ended_by turn.event turn.step.verdict
+
 -- the event ended this member
 abbrev pub ends : ℕ → Event → Verdict → Bool
 ends member event verdict = is_number member (ended_by event verdict)
@@ -68,31 +71,25 @@ at_first boxes = record {
   joined = 0;
   ended = λ member. false;
   datagrams = [];
-  gateway = gateway_of default_configuration;
-  slots = [];
+  peer = peer_begun (gateway_of default_configuration);
   members = λ member. None;
   held = λ member spir. None;
 }
 
--- the gateway that the peer talks to: the one that an event set, if it set one
-abbrev pub gateway_after : Option Configuration → GatewayId → GatewayId
-gateway_after None gateway = gateway
-gateway_after (Some config) gateway = gateway_of config
-
 -- what a turn makes of what the ends hold: the end that performs it goes on, and the others stay as
 -- they are
-abbrev pub state_after : Event → List Call → Step → RunState → RunState
-state_after event calls step state = record {
+abbrev pub state_after : Moment → Event → List Call → Step → RunState → RunState
+state_after now event calls step state = record {
   boxes = state.boxes;
   started = true;
   config = unwrap_or (configured_in event step.verdict) state.config;
   joined = joined_after (is_join step.verdict) state.joined;
   ended = λ member. ends member event step.verdict || state.ended member;
   datagrams = state.datagrams ++ option_to_list (option_map plain_datagram step.gives);
-  gateway = gateway_after (configured_in event step.verdict) state.gateway;
-  slots = if is_end Peer (performer_at event step.verdict)
-      then slots_after state.config.window (peer_task event) step state.slots
-      else state.slots;
+  peer = peer_configured (configured_in event step.verdict)
+      (if is_end Peer (performer_at event step.verdict)
+      then peer_after state.config.window now (peer_task event) step state.peer
+      else state.peer);
   members = λ member. held_unless (ends member event step.verdict || state.ended member)
       (if is_end (Member member) (performer_at event step.verdict)
       then first_some (option_map (membership state.config) (fresh_in event step.verdict))
@@ -108,7 +105,8 @@ state_after event calls step state = record {
 -- what the turns of a run make of what its ends hold; the newest turn comes first
 abbrev pub state_by : ℕ → List Turn → RunState
 state_by boxes [] = at_first boxes
-state_by boxes (turn ∷ past) = state_after turn.event turn.calls turn.step (state_by boxes past)
+state_by boxes (turn ∷ past) =
+    state_after turn.moment turn.event turn.calls turn.step (state_by boxes past)
 
 abbrev pub has_turns : List Turn → Bool
 has_turns [] = false
@@ -137,8 +135,7 @@ told_state boxes past = record {
   joined = joins past;
   ended = λ member. has_ended member past;
   datagrams = datagrams_of past;
-  gateway = gateway_of (config_by past);
-  slots = slots_by (window_by past) (own Peer past);
+  peer = peer_by (config_by past) (own Peer past);
   members = λ member. held_unless (has_ended member past)
       (option_map (membership (config_by past)) (found fresh_at (own (Member member) past)));
   held = λ member spir. held_unless (has_ended member past)

@@ -15,12 +15,12 @@ some-is (Some was) e = (was, refl)
 
 pub returns : goal.returns
 returns c = record {
-  crashes = λ past.
+  crashes = λ past moment.
       let members : List (Option Holder) = c.self.inside.members.items in
       let members_are : members ≡ c.args.self.now.members = ap (λ (s : EndsHeld). s.members) c.self.view_is in
       let says : Says out.Down c.quiet.result = record { said = c.quiet.ensures.verdict; quiet = record { served = c.quiet.ensures.served; seals = c.quiet.ensures.seals; gives = c.quiet.ensures.gives } } in
       let up : is_none c.index.result.now ≡ false = search rules in
       let was = some-is c.index.result.now up in
-      crashes past c.args.self.now c.args.member c.in-Some.place c.index.result.now c.requires.in_place c.in-Some.ensures (rw members_are at c.index.ensures) was.0 was.1 c.quiet.result says _
+      crashes past c.args.self.now moment c.args.member c.in-Some.place c.index.result.now c.requires.in_place c.in-Some.ensures (rw members_are at c.index.ensures) was.0 was.1 c.quiet.result says _
       (ap (λ (v : EndsHeld). record v { members = set v.members c.in-Some.place None }) c.self.view_is);
 }
