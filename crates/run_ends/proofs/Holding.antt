@@ -15,18 +15,19 @@ use Rattle.events.specs.declared.verdict.Verdict.TheVariants as out
 use Rattle.ha_base.specs.declared.outside.Moment.{Moment}
 use Rattle.keeper_book.specs.declared.calls.Call.{Call}
 use Rattle.keeper_book.specs.declared.records.Record.{Record}
+use Rattle.turn_rules.proofs.StateLaws.{by-parts, member_of}
 use Rattle.turn_rules.specs.Configurations.{Configuration, Membership, configured_in, first_ticket_key, fresh_in, gateway_of, membership}
 use Rattle.turn_rules.specs.Ends.{Member, Peer, Performer, is_end, is_of_run, is_refused_by_run, performer_at, performer_of}
 use Rattle.turn_rules.specs.Held.{Held, first_some, held_after, held_at}
 use Rattle.turn_rules.specs.Peers.{entered_at_task}
 use Rattle.turn_rules.specs.PeerStates.{PeerHeld, peer_after, peer_configured}
 use Rattle.turn_rules.specs.Slots.{Slot, entered_slot, slot_after, slots_after}
-use Rattle.turn_rules.specs.States.{ended_by, ends, held_unless, is_join, is_number, joined_after, state_after}
+use Rattle.turn_rules.specs.States.{ended_by, ends, held_unless, is_join, is_number, joined_after, member_after, member_unless, state_after}
 use Rattle.turn_rules.specs.Tasks as task
 use Rattle.turn_rules.specs.Tasks.{member_task, peer_task}
 use Rattle.cluster_member.specs.Members.{Holder, IsAfter}
 use Rattle.run_ends.proofs.Seats.{more-given_here, more-given_there, more-gone, more-held, more-length, seat-any, seat-other, seat-same, seat_here, seat_there, unless-given, unless-none}
-use Rattle.run_ends.specs.Parties.{EndsHeld, given_of, given_to, held_in, holder_of, nobody, state_of, state_then}
+use Rattle.run_ends.specs.Parties.{EndsHeld, given_of, given_to, held_in, holder_of, member_in, nobody, state_of, state_then}
 
 abbrev pub Holds : List Turn → EndsHeld → Moment → Event → List Call → Step → EndsHeld → Type 0
 Holds past old moment at calls step new = state_then past step new ≡ state_after moment at calls step (state_of past old)
@@ -77,6 +78,14 @@ module _ (past : List Turn) (old : EndsHeld) (moment : Moment) (at : Event) (cal
       either true = refl
       either false = refl
 
+  -- what a member holds, part by part
+  by-members : (k : ℕ) (members : List (Option Holder)) → given_of members k ≡ held_unless (is_gone k) (given_then k) → ((spir : ℕ) → held_in (holder_of members k) spir ≡ held_unless (is_gone k) (held_then k spir))
+      → member_in members k ≡ member_unless (is_gone k) (if is_end (Member k) by then member_after old.config moment (fresh_in at step.verdict) (member_task at) calls step (member_in old.members k) else member_in old.members k)
+  by-members k members given held = parts ∙ by-parts (is_gone k) (is_end (Member k) by) (member_after old.config moment (fresh_in at step.verdict) (member_task at) calls step (member_in old.members k)) (member_in old.members k)
+    where
+      parts : member_in members k ≡ member_of (held_unless (is_gone k) (given_then k)) (λ spir. held_unless (is_gone k) (held_then k spir))
+      parts i = record { given = given i; held = λ spir. held spir i }
+
   -- where no member acts, joins or ends
   record MembersStay : Type 0 where
     pub no_join : is_join step.verdict ≡ false
@@ -110,8 +119,7 @@ module _ (past : List Turn) (old : EndsHeld) (moment : Moment) (at : Event) (cal
       ended = λ k. sym (stay-gone k) i;
       datagrams = (state_then past step old).datagrams;
       peer = of_peer i;
-      members = λ k. stay-given k i;
-      held = λ k spir. stay-held k spir i;
+      members = λ k. by-members k old.members (stay-given k) (stay-held k) i;
     }
 
 -- what the run refuses changes nothing
@@ -173,8 +181,9 @@ module _ (past : List Turn) (old : EndsHeld) (moment : Moment) (at : Event) (cal
     ended = λ k. gone k i;
     datagrams = (state_then past step old).datagrams;
     peer = peer-then past old moment at calls step (Some (Member (suc place))) None performs (of.no_config step.verdict) i;
-    members = λ k. (given k ∙ ap (held_unless (ends k at step.verdict || is_none (holder_of old.members k))) (sym (kept-given past old moment at calls step said.no_join k))) i;
-    held = λ k spir. (held k spir
+    members = λ k. by-members past old moment at calls step k (set old.members place x)
+        (given k ∙ ap (held_unless (ends k at step.verdict || is_none (holder_of old.members k))) (sym (kept-given past old moment at calls step said.no_join k)))
+        (λ spir. held k spir
         ∙ ap (λ y. held_unless (ends k at step.verdict || is_none (holder_of old.members k))
         (if is_end (Member k) y then held_after old.config.window spir (member_task at) calls step (held_in (holder_of old.members k) spir) else held_in (holder_of old.members k) spir)) (sym performs)) i;
   }
@@ -321,8 +330,8 @@ module _ (past : List Turn) (old : EndsHeld) (moment : Moment) (fresh : List ℕ
     ended = λ k. more-gone old.members x k i;
     datagrams = (state_then past step old).datagrams;
     peer = peer-then past old moment join calls step (Some (Member number)) None by_new refl i;
-    members = λ k. join-given k i;
-    held = λ k spir. (more-held old.members x empty k spir
+    members = λ k. by-members past old moment join calls step k joined (join-given k)
+        (λ spir. more-held old.members x empty k spir
         ∙ unless-none (holder_of old.members k) spir
         ∙ ap (held_unless (is_none (holder_of old.members k))) (sym (either-held (is_end (Member k) (performer_at join step.verdict)) old.config.window spir calls step (held_in (holder_of old.members k) spir) none))) i;
   }

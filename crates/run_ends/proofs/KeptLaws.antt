@@ -53,8 +53,7 @@ kept-at_first boxes = record {
     ended = λ k. first-gone k i;
     datagrams = [];
     peer = peer_begun (gateway_of default_configuration);
-    members = λ k. first-given k i;
-    held = λ k spir. first-held k spir i;
+    members = λ k. record { given = first-given k i; held = λ spir. first-held k spir i };
   };
   in_place = λ place holder l sits. absurd (omega (arith, l));
   short = tt;

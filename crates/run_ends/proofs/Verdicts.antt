@@ -249,19 +249,19 @@ module _ (state : RunState) (moment : Moment) (calls : List Call) (step : Step) 
   receives-few : (to : Party) (found : Result PlainDatagram Refusal) → Receives state moment to found calls step → IsFew
   receives-few to (Err why) r = absurd r
   receives-few parties.Peer (Ok datagram) r = proper-few (peer_takes-proper state.peer.slots datagram.octets calls step r)
-  receives-few (parties.Member member) (Ok datagram) r = proper-few (member_takes-proper (state.held member) datagram.octets calls step r)
+  receives-few (parties.Member member) (Ok datagram) r = proper-few (member_takes-proper (state.members member).held datagram.octets calls step r)
 
   performs-few : (at : Event) → Fits (plain at) → Performs state moment at calls step → IsFew
   performs-few (event.Cluster identity lifetime window ticket_key) fits p = yields-few out.Configured p
   performs-few (event.Import sa) fits p = imports-few sa (not (admits (records state.peer.slots) sa)) p
   performs-few (event.Join fresh) fits p = yields-few _ p
   performs-few (event.Own member spir) fits p = proper-few (takes-proper spir member calls step p)
-  performs-few (event.Draw member spir) fits p = proper-few (draws-proper (state.held member spir) calls step p)
+  performs-few (event.Draw member spir) fits p = proper-few (draws-proper ((state.members member).held spir) calls step p)
   performs-few (event.Crash member) fits p = yields-few out.Down p
   performs-few (event.Send parties.Peer spir payload) fits p =
       (none-few calls p.0, (peer_sends-proper spir state.peer.slots payload.octets step (fits_send parties.Peer spir payload fits) p.1).brief)
   performs-few (event.Send (parties.Member member) spir payload) fits p =
-      proper-few (sends-proper (state.held member spir) payload.octets calls step (fits_send (parties.Member member) spir payload fits) p)
+      proper-few (sends-proper ((state.members member).held spir) payload.octets calls step (fits_send (parties.Member member) spir payload fits) p)
   performs-few (event.Deliver which to) fits p = receives-few to (arrives state.datagrams (event.Deliver which to)) p
   performs-few (event.Alter which to place octet) fits p = receives-few to (arrives state.datagrams (event.Alter which to place octet)) p
   performs-few (event.Cut which to keep) fits p = receives-few to (arrives state.datagrams (event.Cut which to keep)) p

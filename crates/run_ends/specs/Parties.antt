@@ -17,7 +17,7 @@ use Rattle.turn_rules.specs.Fits.{Does}
 use Rattle.turn_rules.specs.Held.{Held, held_at}
 use Rattle.turn_rules.specs.Local.{Local}
 use Rattle.turn_rules.specs.PeerStates.{PeerHeld}
-use Rattle.turn_rules.specs.States.{RunState, has_turns, state_after, state_by}
+use Rattle.turn_rules.specs.States.{MemberHeld, RunState, has_turns, state_after, state_by}
 use Rattle.cluster_member.specs.Members.{Holder}
 
 -- boxes: how many services were handed in for members; config: how members are configured that
@@ -56,6 +56,13 @@ abbrev pub held_in : Option Holder → ℕ → Option Held
 held_in None spir = None
 held_in (Some holder) spir = held_at holder.held spir
 
+-- what the member of this number holds
+abbrev pub member_in : List (Option Holder) → ℕ → MemberHeld
+member_in members number = record {
+  given = given_of members number;
+  held = λ spir. held_in (holder_of members number) spir;
+}
+
 -- what the ends hold, whether anything was played, and what was given
 abbrev pub state_with : Bool → List PlainDatagram → EndsHeld → RunState
 state_with started datagrams s = record {
@@ -66,8 +73,7 @@ state_with started datagrams s = record {
   ended = λ member. is_none (holder_of s.members member);
   datagrams = datagrams;
   peer = s.peer;
-  members = λ member. given_of s.members member;
-  held = λ member spir. held_in (holder_of s.members member) spir;
+  members = λ member. member_in s.members member;
 }
 
 -- what the ends hold after these turns

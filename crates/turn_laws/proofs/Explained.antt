@@ -40,13 +40,13 @@ module _ (boxes : ℕ) (past : List Turn) (own_spir : (member spir : ℕ) (held 
   imported sa importable true r = refused (event.Import sa) refusal.SpiInUse r
   imported sa importable false quietly = enters-deed past step sa calls importable quietly
 
-  drawn : (member spir : ℕ) (x : Option Held) → state.held member spir ≡ x → DrawsOf x calls step → Deed past (event.Draw member spir) calls step
+  drawn : (member spir : ℕ) (x : Option Held) → (state.members member).held spir ≡ x → DrawsOf x calls step → Deed past (event.Draw member spir) calls step
   drawn member spir None e r = refused (event.Draw member spir) refusal.NotOwner r
   drawn member spir (Some held) e draws =
       let is_held : held_by (window_by past) (own (Member member) past) spir ≡ Some held = own-held boxes past member spir held e in
       draws-deed past step member spir held (own_spir member spir held is_held) is_held calls draws
 
-  sent : (member spir : ℕ) (payload : WithRoom) (x : Option Held) → state.held member spir ≡ x → SendsOf x payload.octets calls step → Deed past (event.Send (parties.Member member) spir payload) calls step
+  sent : (member spir : ℕ) (payload : WithRoom) (x : Option Held) → (state.members member).held spir ≡ x → SendsOf x payload.octets calls step → Deed past (event.Send (parties.Member member) spir payload) calls step
   sent member spir payload None e r = refused (event.Send (parties.Member member) spir payload) refusal.NotOwner r
   sent member spir payload (Some held) e sends =
       let is_held : held_by (window_by past) (own (Member member) past) spir ≡ Some held = own-held boxes past member spir held e in
@@ -71,10 +71,10 @@ module _ (boxes : ℕ) (past : List Turn) (own_spir : (member spir : ℕ) (held 
   performed (event.Import sa) none p = imported sa (importable sa none) (not (admits (records state.peer.slots) sa)) p
   performed (event.Join fresh) none y = yields-deed past step (event.Join fresh) calls (out.Member _) tt refl y
   performed (event.Own member spir) none quietly = takes_over-deed past step member spir calls quietly
-  performed (event.Draw member spir) none draws = drawn member spir (state.held member spir) refl draws
+  performed (event.Draw member spir) none draws = drawn member spir ((state.members member).held spir) refl draws
   performed (event.Crash member) none y = Ended member (let said : _ = y.says.said in rw said refl) y.no_calls y.says.said refl y.says.quiet
   performed (event.Send parties.Peer spir payload) none sends = peer_sends-deed past step spir payload calls sends.0 sends.1
-  performed (event.Send (parties.Member member) spir payload) none sends = sent member spir payload (state.held member spir) refl sends
+  performed (event.Send (parties.Member member) spir payload) none sends = sent member spir payload ((state.members member).held spir) refl sends
   performed (event.Deliver which to) none r = received (event.Deliver which to) to (record { performs = λ verdict. refl; receives = λ spir verdict. refl; uses_none = λ spir verdict. refl; sends_none = λ spir verdict. refl; no_entry = λ verdict. refl }) (arrives state.datagrams (event.Deliver which to)) r
   performed (event.Alter which to place octet) none r = received (event.Alter which to place octet) to (record { performs = λ verdict. refl; receives = λ spir verdict. refl; uses_none = λ spir verdict. refl; sends_none = λ spir verdict. refl; no_entry = λ verdict. refl }) (arrives state.datagrams (event.Alter which to place octet)) r
   performed (event.Cut which to keep) none r = received (event.Cut which to keep) to (record { performs = λ verdict. refl; receives = λ spir verdict. refl; uses_none = λ spir verdict. refl; sends_none = λ spir verdict. refl; no_entry = λ verdict. refl }) (arrives state.datagrams (event.Cut which to keep)) r

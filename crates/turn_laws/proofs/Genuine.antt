@@ -36,11 +36,11 @@ use Rattle.turn_rules.specs.Draws.{counter_name}
 use Rattle.turn_rules.specs.Ends.{Member, Peer, Performer, end_of_party, own, receiver_of}
 use Rattle.turn_rules.specs.Fits.{Does, Performs, Receives, Refuses, has_joined, is_of_datagrams, member_of, named_in, refused_absent, refused_arrival, refused_besides, refused_where, run_refusal}
 use Rattle.turn_rules.specs.Genuine.{AreAccepted, Came, IsAcceptedAs, IsAcknowledged, IsGenuine, IsUp, MemberAccepts, PeerAccepts}
-use Rattle.turn_rules.specs.Held.{Held, held_by, window_by}
+use Rattle.turn_rules.specs.Held.{Held, config_by, held_by, window_by}
 use Rattle.turn_rules.specs.Local.{Explained}
 use Rattle.turn_rules.specs.MemberPackets.{IsReceiver, ReceivesPacket, TakesPacket, inbound_of}
 use Rattle.turn_rules.specs.Packets.{Drops, IsVerdictOf}
-use Rattle.turn_rules.specs.States.{RunState, held_unless, joins, told_state}
+use Rattle.turn_rules.specs.States.{RunState, joins, member_by, member_unless, told_state}
 use Rattle.turn_rules.specs.Slots.{Slot, SlotReceives, SlotTakes, first_slot, peer_counter, receives_at, slot_inbound, slots_by}
 
 -- what a packet that was opened is accepted as
@@ -166,7 +166,7 @@ module _ (law : SealedPacketsOpen) (boxes : ℕ) (past : List Turn) (turn : Turn
           let same : other ≡ member = cc in
           member-takes law number payload octets (held_of member) spir held turn.calls turn.step is genuine allowed
           (subst (λ k. MemberTakes (held_of k) octets turn.calls turn.step) same
-          (subst (λ b. MemberTakes (λ s. held_unless b (held_of other s)) octets turn.calls turn.step) here.1 does))
+          (subst (λ b. MemberTakes (member_unless b (member_by (config_by past) (own (Member other) past))).held octets turn.calls turn.step) here.1 does))
 
   pub peer-accepts-it : PeerAccepts past turn
   peer-accepts-it number slot payload octets came is genuine = by_party (came-received boxes past turn Peer octets does came)

@@ -16,8 +16,18 @@ use Rattle.turn_rules.specs.Local.{Explained, IsByRule, Local}
 use Rattle.turn_rules.specs.Peers.{AreDistinct, associations_by, entered_in}
 use Rattle.turn_rules.specs.PeerStates.{PeerHeld, peer_after, peer_by, peer_configured}
 use Rattle.turn_rules.specs.Slots.{Slot, slots_after, slots_by}
-use Rattle.turn_rules.specs.States.{ends, fresh_at, has_ended, held_unless, is_join, joined_after, joins, state_after, state_by, told_state}
+use Rattle.turn_rules.specs.States.{ends, MemberHeld, fresh_at, has_ended, held_unless, is_join, joined_after, joins, member_after, member_by, member_unless, state_after, state_by, told_state}
 use Rattle.turn_rules.specs.Tasks.{member_task, peer_task}
+
+-- a member, by what it was given and what it holds
+abbrev pub member_of : Option Membership → (ℕ → Option Held) → MemberHeld
+member_of given held = record { given = given; held = held }
+
+-- a member that acts, or does not, part by part
+pub by-parts : (ended acts : Bool) (after before : MemberHeld)
+    → member_of (held_unless ended (if acts then after.given else before.given)) (λ spir. held_unless ended (if acts then after.held spir else before.held spir)) ≡ member_unless ended (if acts then after else before)
+by-parts ended true after before = refl
+by-parts ended false after before = refl
 
 abbrev with_slots : Configuration → List Slot → PeerHeld
 with_slots config slots = record { gateway = gateway_of config; slots = slots }
@@ -77,6 +87,9 @@ module _ (boxes : ℕ) (past : List Turn) (turn : Turn) (does : DoesTold boxes p
     held-more true ended = refl
     held-more false up = held-up (or_parts (ends member turn.event turn.step.verdict) (has_ended member past) up).1 (is_by (Member member) turn) refl
 
+  abbrev told_member : ℕ → MemberHeld
+  told_member member = member_unless (has_ended member past) (member_by (config_by past) (own (Member member) past))
+
   -- what a member was given when it joined
   module _ (member : ℕ) where
     abbrev told_with : Configuration → List Turn → Option Membership
@@ -108,6 +121,24 @@ module _ (boxes : ℕ) (past : List Turn) (turn : Turn) (does : DoesTold boxes p
     given-more true ended = refl
     given-more false up = given-up (or_parts (ends member turn.event turn.step.verdict) (has_ended member past) up).1 (is_by (Member member) turn) refl
 
+  -- what a member holds, part by part
+  module _ (member : ℕ) where
+    abbrev gone : Bool
+    gone = ends member turn.event turn.step.verdict || has_ended member past
+
+    abbrev acted : MemberHeld
+    acted = member_after (config_by past) turn.moment (fresh_at turn) (member_task turn.event) turn.calls turn.step (told_member member)
+
+    parts-more : member_unless gone (member_by (config_by (turn ∷ past)) (own (Member member) (turn ∷ past)))
+        ≡ member_of (held_unless gone (if is_by (Member member) turn then acted.given else (told_member member).given)) (λ spir. held_unless gone (if is_by (Member member) turn then acted.held spir else (told_member member).held spir))
+    parts-more i = record {
+      given = given-more member gone refl i;
+      held = λ spir. held-more member spir gone refl i;
+    }
+
+    members-more : member_unless gone (member_by (config_by (turn ∷ past)) (own (Member member) (turn ∷ past))) ≡ member_unless gone (if is_by (Member member) turn then acted else told_member member)
+    members-more = parts-more ∙ by-parts gone (is_by (Member member) turn) acted (told_member member)
+
   pub told-cons : told_state boxes (turn ∷ past) ≡ state_after turn.moment turn.event turn.calls turn.step (told_state boxes past)
   told-cons i = record {
     boxes = boxes;
@@ -117,8 +148,7 @@ module _ (boxes : ℕ) (past : List Turn) (turn : Turn) (does : DoesTold boxes p
     ended = λ member. has_ended member (turn ∷ past);
     datagrams = datagrams_of (turn ∷ past);
     peer = peer-more (is_by Peer turn) refl i;
-    members = λ member. given-more member (ends member turn.event turn.step.verdict || has_ended member past) refl i;
-    held = λ member spir. held-more member spir (ends member turn.event turn.step.verdict || has_ended member past) refl i;
+    members = λ member. members-more member i;
   }
 
 -- where each turn follows its rule, each end's own turns tell what it holds

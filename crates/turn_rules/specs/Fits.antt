@@ -150,7 +150,7 @@ Receives state now to (Err why) calls step = ⊥
 Receives state now parties.Peer (Ok datagram) calls step =
     PeerTakes state.peer.slots datagram.octets calls step
 Receives state now (parties.Member member) (Ok datagram) calls step =
-    MemberTakes (state.held member) datagram.octets calls step
+    MemberTakes (state.members member).held datagram.octets calls step
 
 abbrev pub Delivers : RunState → Moment → Option Delivery → List Call → Step → Type 0
 Delivers state now None calls step = ⊥
@@ -165,12 +165,12 @@ Performs state now (event.Cluster identity lifetime window ticket_key) calls ste
 Performs state now (event.Import sa) calls step = Imports state sa calls step
 Performs state now (event.Join fresh) calls step = Yields (out.Member (state.joined + 1)) calls step
 Performs state now (event.Own member spir) calls step = Quietly (TakesOver spir member) calls step
-Performs state now (event.Draw member spir) calls step = DrawsOf (state.held member spir) calls step
+Performs state now (event.Draw member spir) calls step = DrawsOf ((state.members member).held spir) calls step
 Performs state now (event.Crash member) calls step = Yields out.Down calls step
 Performs state now (event.Send parties.Peer spir payload) calls step =
     (calls ≡ []) × PeerSends spir state.peer.slots payload.octets step
 Performs state now (event.Send (parties.Member member) spir payload) calls step =
-    SendsOf (state.held member spir) payload.octets calls step
+    SendsOf ((state.members member).held spir) payload.octets calls step
 Performs state now event calls step = Delivers state now (delivery_of event) calls step
 
 -- the calls of an event and what is done: the run refuses it, or its end performs it

@@ -14,13 +14,19 @@ use Rattle.keeper_book.specs.declared.calls.Call.{Call}
 use Rattle.turn_rules.specs.Configurations.{Configuration, Membership, configured_in, default_configuration, fresh_in, gateway_of, membership}
 use Rattle.turn_rules.specs.Datagrams.{PlainDatagram, datagrams_of, plain_datagram}
 use Rattle.turn_rules.specs.Ends.{Member, Peer, is_end, own, performer_at}
-use Rattle.turn_rules.specs.Held.{Held, config_by, first_some, found, held_after, held_by, window_by}
+use Rattle.turn_rules.specs.Held.{Held, config_by, first_some, found, held_after, held_by}
 use Rattle.turn_rules.specs.PeerStates.{PeerHeld, peer_after, peer_begun, peer_by, peer_configured}
-use Rattle.turn_rules.specs.Tasks.{member_task, peer_task}
+use Rattle.turn_rules.specs.Tasks.{Task, member_task, peer_task}
+
+-- What a member holds: what it was given as it joined, if it did, and what it holds of each
+-- association, by the responder's SPI.
+pub record MemberHeld : Type 0 where
+  pub given : Option Membership
+  pub held : ℕ → Option Held
 
 -- boxes: how many services were handed in for members; config: how members are configured that
--- join; joined: how many members joined; peer: what the peer holds. `ended`, `members` and `held`
--- are by the number of a member, counted from 1.
+-- join; joined: how many members joined; peer: what the peer holds. `ended` and `members` are by the
+-- number of a member, counted from 1.
 pub record RunState : Type 0 where
   pub boxes : ℕ
   pub started : Bool
@@ -29,8 +35,7 @@ pub record RunState : Type 0 where
   pub ended : ℕ → Bool
   pub datagrams : List PlainDatagram
   pub peer : PeerHeld
-  pub members : ℕ → Option Membership
-  pub held : ℕ → ℕ → Option Held
+  pub members : ℕ → MemberHeld
 
 abbrev pub is_join : Verdict → Bool
 is_join (out.Member number) = true
@@ -62,6 +67,26 @@ abbrev pub held_unless : {X : Type 0} → Bool → Option X → Option X
 held_unless true held = None
 held_unless false held = held
 
+-- what a member holds; once it ended that is nothing
+abbrev pub member_unless : Bool → MemberHeld → MemberHeld
+member_unless ended m = record {
+  given = held_unless ended m.given;
+  held = λ spir. held_unless ended (m.held spir);
+}
+
+-- a member that has not joined
+abbrev pub no_member : MemberHeld
+no_member = record { given = None; held = λ spir. None }
+
+-- what a member holds after a task of its own at a moment, by the configuration of the cluster;
+-- fresh: the octets of its own that it was given, where it joined
+abbrev pub member_after : Configuration → Moment → Option (List ℕ) → Task → List Call → Step
+    → MemberHeld → MemberHeld
+member_after config now fresh asked calls step m = record {
+  given = first_some (option_map (membership config) fresh) m.given;
+  held = λ spir. held_after config.window spir asked calls step (m.held spir);
+}
+
 -- before the first turn nobody holds anything
 abbrev pub at_first : ℕ → RunState
 at_first boxes = record {
@@ -72,8 +97,7 @@ at_first boxes = record {
   ended = λ member. false;
   datagrams = [];
   peer = peer_begun (gateway_of default_configuration);
-  members = λ member. None;
-  held = λ member spir. None;
+  members = λ member. no_member;
 }
 
 -- what a turn makes of what the ends hold: the end that performs it goes on, and the others stay as
@@ -90,16 +114,11 @@ state_after now event calls step state = record {
       (if is_end Peer (performer_at event step.verdict)
       then peer_after state.config.window now (peer_task event) step state.peer
       else state.peer);
-  members = λ member. held_unless (ends member event step.verdict || state.ended member)
+  members = λ member. member_unless (ends member event step.verdict || state.ended member)
       (if is_end (Member member) (performer_at event step.verdict)
-      then first_some (option_map (membership state.config) (fresh_in event step.verdict))
+      then member_after state.config now (fresh_in event step.verdict) (member_task event) calls step
       (state.members member)
       else state.members member);
-  held = λ member spir. held_unless (ends member event step.verdict || state.ended member)
-      (if is_end (Member member) (performer_at event step.verdict)
-      then held_after state.config.window spir (member_task event) calls step
-      (state.held member spir)
-      else state.held member spir);
 }
 
 -- what the turns of a run make of what its ends hold; the newest turn comes first
@@ -124,6 +143,13 @@ has_ended member past = list_any (λ turn. ends member turn.event turn.step.verd
 abbrev pub fresh_at : Turn → Option (List ℕ)
 fresh_at turn = fresh_in turn.event turn.step.verdict
 
+-- what a member holds, as the configuration and its own turns tell it
+abbrev pub member_by : Configuration → List Turn → MemberHeld
+member_by config past = record {
+  given = option_map (membership config) (found fresh_at past);
+  held = held_by config.window past;
+}
+
 -- The same, as each end's own turns tell it: with the greatest numbers that it used and saw
 -- acknowledged, and the sets of those that it received. The laws say that it is the same where each
 -- turn is explained.
@@ -136,8 +162,6 @@ told_state boxes past = record {
   ended = λ member. has_ended member past;
   datagrams = datagrams_of past;
   peer = peer_by (config_by past) (own Peer past);
-  members = λ member. held_unless (has_ended member past)
-      (option_map (membership (config_by past)) (found fresh_at (own (Member member) past)));
-  held = λ member spir. held_unless (has_ended member past)
-      (held_by (window_by past) (own (Member member) past) spir);
+  members = λ member. member_unless (has_ended member past)
+      (member_by (config_by past) (own (Member member) past));
 }
