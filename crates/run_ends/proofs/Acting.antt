@@ -26,8 +26,8 @@ use Rattle.turn_rules.specs.Tasks as task
 use Rattle.turn_rules.specs.Tasks.{member_task, peer_task}
 use Rattle.cluster_member.specs.Members.{Holder, IsAfter}
 use Rattle.run_ends.proofs.Holding.{IsOf, IsOfEnd, member-holds, refused-holds}
-use Rattle.run_ends.proofs.Seats.{acted-in_place, counted, seat_is}
-use Rattle.run_ends.specs.Parties.{AreInPlace, DeliversTo, EndsHeld, IsMember, IsMemberPlace, Plays, has_member, holder_of, state_of}
+use Rattle.run_ends.proofs.Seats.{acted-in_place, counted, seat_of}
+use Rattle.run_ends.specs.Parties.{AreInPlace, DeliversTo, EndsHeld, IsMember, IsMemberPlace, Plays, has_member, holder_of, nobody, state_of}
 
 -- what the run refuses, and what it does not
 pub does-refused : (state : RunState) (moment : Moment) (at : Event) (why : Refusal) (calls : List Call) (step : Step) → run_refusal state at ≡ Some why → Refuses why calls step → Does state moment at calls step
@@ -100,7 +100,7 @@ module _ (past : List Turn) (s : EndsHeld) (moment : Moment) (at : Event) (membe
 
   module _ (place : ℕ) (x : Option Holder) (is : IsMemberPlace member place s.members) (seat : x ≡ get_or s.members place x) where
     ended-is : (state_of past s).ended member ≡ is_none x
-    ended-is = ap is_none (seat_is s.members member place x is seat)
+    ended-is = ap is_none (seat_of (Some nobody) s.members member place x is seat)
 
     -- of one that ended
     pub down-plays : (step : Step) (new : EndsHeld) → x ≡ None → Says (out.Refused refusal.Down) step → new ≡ s → Plays past s moment at [] step new
@@ -111,7 +111,7 @@ module _ (past : List Turn) (s : EndsHeld) (moment : Moment) (at : Event) (membe
     up-refusal was some = is-up (state_of past s) at room member named is.joined (ended-is ∙ ap is_none some)
 
     pub its-seat : (was : Holder) → x ≡ Some was → holder_of s.members member ≡ Some was
-    its-seat was some = seat_is s.members member place x is seat ∙ some
+    its-seat was some = seat_of (Some nobody) s.members member place x is seat ∙ some
 
     pub its-member : (was : Holder) → x ≡ Some was → IsMember member s.config was
     its-member was some =

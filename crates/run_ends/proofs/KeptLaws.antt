@@ -12,10 +12,10 @@ use Rattle.turn_rules.specs.Datagrams.{PlainDatagram}
 use Rattle.turn_rules.specs.Fits.{Does}
 use Rattle.turn_rules.specs.Local.{AreShown, IsExplained, Local}
 use Rattle.turn_rules.specs.PeerStates.{peer_begun}
-use Rattle.turn_rules.specs.States.{RunState, state_after, state_by}
+use Rattle.turn_rules.specs.States.{RunState, no_member, state_after, state_by}
 use Rattle.cluster_member.specs.Members.{Holder}
 use Rattle.run_ends.proofs.Verdicts.{does-few}
-use Rattle.run_ends.specs.Parties.{AreKept, EndsHeld, IsShort, Plays, given_of, held_in, holder_of, state_of}
+use Rattle.run_ends.specs.Parties.{AreKept, EndsHeld, IsShort, Plays, holder_of, member_in, state_of}
 
 all-append : (xs ys : List PlainDatagram) → AllByRecursion IsShort xs → AllByRecursion IsShort ys → AllByRecursion IsShort (xs ++ ys)
 all-append [] ys a b = b
@@ -35,13 +35,9 @@ first-gone : (k : ℕ) → is_none (holder_of [] k) ≡ false
 first-gone zero = refl
 first-gone (suc k) = refl
 
-first-given : (k : ℕ) → given_of [] k ≡ None
-first-given zero = refl
-first-given (suc k) = refl
-
-first-held : (k spir : ℕ) → held_in (holder_of [] k) spir ≡ None
-first-held zero spir = refl
-first-held (suc k) spir = refl
+first-member : (k : ℕ) → member_in [] k ≡ no_member
+first-member zero = refl
+first-member (suc k) = refl
 
 pub kept-at_first : (boxes : ℕ) → AreKept [] (record { boxes = boxes; config = default_configuration; peer = peer_begun (gateway_of default_configuration); members = [] })
 kept-at_first boxes = record {
@@ -53,7 +49,7 @@ kept-at_first boxes = record {
     ended = λ k. first-gone k i;
     datagrams = [];
     peer = peer_begun (gateway_of default_configuration);
-    members = λ k. record { given = first-given k i; held = λ spir. first-held k spir i };
+    members = λ k. first-member k i;
   };
   in_place = λ place holder l sits. absurd (omega (arith, l));
   short = tt;

@@ -37,10 +37,10 @@ use Rattle.cluster_member.specs.Members.{Holder, IsAfter}
 use Rattle.cluster_peer.specs.Slots.{PeerWithRoom}
 use Rattle.run_ends.proofs.Acting.{Brings, WithRoomFor, acts-plays, brings, does-performed, has-room, of-peer, refused-plays, up-refusal, its-member}
 use Rattle.run_ends.proofs.Holding.{Holds, configured-holds, crash-holds, entered-after, join-holds, not_entered-after, peer-holds}
-use Rattle.run_ends.proofs.Seats.{counted, ended-in_place, joined-in_place, seat_is}
+use Rattle.run_ends.proofs.Seats.{counted, ended-in_place, joined-in_place, seat_of}
 use Rattle.run_ends.proofs.Verdicts.{draws-proper, enters-proper, member_takes-proper, peer_sends-proper, peer_takes-proper, sends-proper, takes-proper}
 use Rattle.run_ends.specs.Arrivals.{MemberTakesIn, PeerTakesIn}
-use Rattle.run_ends.specs.Parties.{AreInPlace, DeliversTo, EndsHeld, IsMemberPlace, Plays, held_in, holder_of, state_of}
+use Rattle.run_ends.specs.Parties.{AreInPlace, DeliversTo, EndsHeld, IsMemberPlace, Plays, member_seen, seat_or, state_of}
 
 -- a call that was asked for one thing was asked for what follows from it
 pub asked-as : {K : Type 0} {keeper : Ghosts K} {old new : K} {P Q : List Call → Type 0} → ((calls : List Call) → P calls → Q calls) → AsksFor keeper old new P → AsksFor keeper old new Q
@@ -52,8 +52,8 @@ if_ok-as (Err why) f p = tt
 
 module _ (past : List Turn) (s : EndsHeld) (moment : Moment) (member place : ℕ) (x : Option Holder) (in_place : AreInPlace s) (is : IsMemberPlace member place s.members) (seat : x ≡ get_or s.members place x) (was now : Holder) (some : x ≡ Some was)
     (new : EndsHeld) (leaves : new ≡ record s { members = set s.members place (Some now) }) where
-  abbrev its : holder_of s.members member ≡ Some was
-  its = seat_is s.members member place x is seat ∙ some
+  abbrev its : seat_or None s.members member ≡ Some was
+  its = seat_of None s.members member place x is seat ∙ some
 
   pub owns : (spir : ℕ) (calls : List Call) (step : Step) → Quietly (TakesOver spir was.number) calls step → IsAfter (task.TakeOver spir) calls step was now → Plays past s moment (event.Own member spir) calls step new
   owns spir calls step takes after =
@@ -64,7 +64,7 @@ module _ (past : List Turn) (s : EndsHeld) (moment : Moment) (member place : ℕ
 
   pub draws : (spir : ℕ) (calls : List Call) (step : Step) → DrawsOf (held_at was.held spir) calls step → IsAfter (task.Draw spir) calls step was now → Plays past s moment (event.Draw member spir) calls step new
   draws spir calls step does after = acts-plays past s moment (event.Draw member spir) member refl refl in_place place x is seat (record { by = λ v. refl; no_config = λ v. refl }) was now calls step new some refl refl
-      (draws-proper (held_at was.held spir) calls step does).said (subst (λ (y : Option Holder). DrawsOf (held_in y spir) calls step) (sym its) does) after leaves
+      (draws-proper (held_at was.held spir) calls step does).said (subst (λ (y : Option Holder). DrawsOf ((member_seen y).held spir) calls step) (sym its) does) after leaves
 
   pub sends : (spir : ℕ) (payload : WithRoom) (octets : List ℕ) (calls : List Call) (step : Step) → payload.octets ≡ octets → length octets ≤ PAYLOAD_OCTETS → nat_le MAX_DATAGRAMS (length (datagrams_of past)) ≡ false
       → SendsOf (held_at was.held spir) octets calls step → IsAfter (task.Send spir octets) calls step was now → Plays past s moment (event.Send (parties.Member member) spir payload) calls step new
@@ -73,7 +73,7 @@ module _ (past : List Turn) (s : EndsHeld) (moment : Moment) (member place : ℕ
       let it : SendsOf (held_at was.held spir) payload.octets calls step = subst (λ o. SendsOf (held_at was.held spir) o calls step) (sym same) does in
       let later : IsAfter (task.Send spir payload.octets) calls step was now = subst (λ o. IsAfter (task.Send spir o) calls step was now) (sym same) after in
       acts-plays past s moment at member refl room in_place place x is seat (record { by = λ v. refl; no_config = λ v. refl }) was now calls step new some refl refl
-      (sends-proper (held_at was.held spir) octets calls step size does).said (subst (λ (y : Option Holder). SendsOf (held_in y spir) payload.octets calls step) (sym its) it) later leaves
+      (sends-proper (held_at was.held spir) octets calls step size does).said (subst (λ (y : Option Holder). SendsOf ((member_seen y).held spir) payload.octets calls step) (sym its) it) later leaves
 
   -- what arrives is taken by a member
   pub takes : (at : Event) → DeliversTo at (parties.Member member) → nat_le MAX_DATAGRAMS (length (datagrams_of past)) ≡ false → (datagram : PlainDatagram) → arrives (datagrams_of past) at ≡ Ok datagram
@@ -103,7 +103,7 @@ module _ (past : List Turn) (s : EndsHeld) (moment : Moment) (member place : ℕ
           (member_takes-proper (held_at was.held) datagram.octets calls step it.0).said
           (facts.performs (state_of past s) moment calls step
           (subst (λ r. Receives (state_of past s) moment (parties.Member member) r calls step) (sym found)
-          (subst (λ (y : Option Holder). MemberTakes (λ spir. held_in y spir) datagram.octets calls step) (sym its) it.0)))
+          (subst (λ (y : Option Holder). MemberTakes (member_seen y).held datagram.octets calls step) (sym its) it.0)))
           (subst (λ t. IsAfter t calls step was now) (sym facts.member) it.1) leaves
 
 -- a member ends

@@ -14,10 +14,10 @@ use Rattle.keeper_book.specs.declared.calls.Call.{Call}
 use Rattle.turn_rules.specs.Configurations.{Configuration, Membership, default_configuration, first_ticket_key, membership}
 use Rattle.turn_rules.specs.Datagrams.{PlainDatagram, datagrams_of, delivery_of, plain_datagram}
 use Rattle.turn_rules.specs.Fits.{Does}
-use Rattle.turn_rules.specs.Held.{Held, held_at}
+use Rattle.turn_rules.specs.Held.{held_at}
 use Rattle.turn_rules.specs.Local.{Local}
 use Rattle.turn_rules.specs.PeerStates.{PeerHeld}
-use Rattle.turn_rules.specs.States.{MemberHeld, RunState, has_turns, state_after, state_by}
+use Rattle.turn_rules.specs.States.{MemberHeld, RunState, has_turns, no_member, state_after, state_by}
 use Rattle.cluster_member.specs.Members.{Holder}
 
 -- boxes: how many services were handed in for members; config: how members are configured that
@@ -47,21 +47,14 @@ holder_of members number = seat_or (Some nobody) members number
 abbrev pub given_to : Holder → Membership
 given_to holder = membership holder.config holder.fresh
 
--- what the member of this number was given, where it joined and did not end
-abbrev pub given_of : List (Option Holder) → ℕ → Option Membership
-given_of members number = option_map given_to (seat_or None members number)
-
 -- what is held where somebody is
-abbrev pub held_in : Option Holder → ℕ → Option Held
-held_in None spir = None
-held_in (Some holder) spir = held_at holder.held spir
+abbrev pub member_seen : Option Holder → MemberHeld
+member_seen None = no_member
+member_seen (Some holder) = record { given = Some (given_to holder); held = held_at holder.held }
 
--- what the member of this number holds
+-- what the member of this number holds, where it joined and did not end
 abbrev pub member_in : List (Option Holder) → ℕ → MemberHeld
-member_in members number = record {
-  given = given_of members number;
-  held = λ spir. held_in (holder_of members number) spir;
-}
+member_in members number = member_seen (seat_or None members number)
 
 -- what the ends hold, whether anything was played, and what was given
 abbrev pub state_with : Bool → List PlainDatagram → EndsHeld → RunState

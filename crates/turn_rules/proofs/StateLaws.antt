@@ -19,15 +19,16 @@ use Rattle.turn_rules.specs.Slots.{Slot, slots_after, slots_by}
 use Rattle.turn_rules.specs.States.{ends, MemberHeld, fresh_at, has_ended, held_unless, is_join, joined_after, joins, member_after, member_by, member_unless, state_after, state_by, told_state}
 use Rattle.turn_rules.specs.Tasks.{member_task, peer_task}
 
--- a member, by what it was given and what it holds
-abbrev pub member_of : Option Membership → (ℕ → Option Held) → MemberHeld
-member_of given held = record { given = given; held = held }
-
--- a member that acts, or does not, part by part
-pub by-parts : (ended acts : Bool) (after before : MemberHeld)
-    → member_of (held_unless ended (if acts then after.given else before.given)) (λ spir. held_unless ended (if acts then after.held spir else before.held spir)) ≡ member_unless ended (if acts then after else before)
-by-parts ended true after before = refl
-by-parts ended false after before = refl
+-- what own turns tell of a member, after one more of them
+member_by-cons : (config : Configuration) (turn : Turn) (mine : List Turn) → member_by config (turn ∷ mine) ≡ member_after config turn.moment (fresh_at turn) (member_task turn.event) turn.calls turn.step (member_by config mine)
+member_by-cons config turn mine i = record {
+  given = newest (fresh_at turn) (found fresh_at mine) i;
+  held = λ spir. held_by-cons config.window spir turn mine i;
+}
+  where
+    newest : (x y : Option (List ℕ)) → option_map (membership config) (first_some x y) ≡ first_some (option_map (membership config) x) (option_map (membership config) y)
+    newest None y = refl
+    newest (Some fresh) y = refl
 
 abbrev with_slots : Configuration → List Slot → PeerHeld
 with_slots config slots = record { gateway = gateway_of config; slots = slots }
@@ -62,82 +63,33 @@ module _ (boxes : ℕ) (past : List Turn) (turn : Turn) (does : DoesTold boxes p
   peer-more false other =
       ap₂ with_slots config-more (slots-other boxes past turn does other) ∙ peer-set (configured_at turn) (slots_by (window_by past) (own Peer past))
 
-  module _ (member spir : ℕ) where
-    abbrev held_now : Option Held
-    held_now = held_by (window_by (turn ∷ past)) (own (Member member) (turn ∷ past)) spir
-
-    abbrev held_then : Option Held
-    held_then = held_unless (has_ended member past) (held_by (window_by past) (own (Member member) past) spir)
-
-    held-up : has_ended member past ≡ false → (b : Bool) → is_by (Member member) turn ≡ b
-        → held_now ≡ (if b then held_after (window_by past) spir (member_task turn.event) turn.calls turn.step held_then else held_then)
-    held-up up true mine =
-        ap (λ (config : Configuration). held_by config.window (own (Member member) (turn ∷ past)) spir) (own-config (Member member) past turn mine)
-        ∙ ap (λ b. held_by (window_by past) (if b then turn ∷ own (Member member) past else own (Member member) past) spir) mine
-        ∙ held_by-cons (window_by past) spir turn (own (Member member) past)
-        ∙ ap (λ b. held_after (window_by past) spir (member_task turn.event) turn.calls turn.step (held_unless b (held_by (window_by past) (own (Member member) past) spir))) (sym up)
-    held-up up false other =
-        ap (λ b. held_by (window_by (turn ∷ past)) (if b then turn ∷ own (Member member) past else own (Member member) past) spir) other
-        ∙ other-config (λ config turns. held_by config.window turns spir) (Member member) boxes past turn does (λ c d. refl)
-        ∙ ap (λ b. held_unless b (held_by (window_by past) (own (Member member) past) spir)) (sym up)
-
-    held-more : (b : Bool) → (ends member turn.event turn.step.verdict || has_ended member past) ≡ b
-        → held_unless b held_now
-        ≡ held_unless b (if is_by (Member member) turn then held_after (window_by past) spir (member_task turn.event) turn.calls turn.step held_then else held_then)
-    held-more true ended = refl
-    held-more false up = held-up (or_parts (ends member turn.event turn.step.verdict) (has_ended member past) up).1 (is_by (Member member) turn) refl
-
-  abbrev told_member : ℕ → MemberHeld
-  told_member member = member_unless (has_ended member past) (member_by (config_by past) (own (Member member) past))
-
-  -- what a member was given when it joined
   module _ (member : ℕ) where
-    abbrev told_with : Configuration → List Turn → Option Membership
-    told_with config mine = option_map (membership config) (found fresh_at mine)
+    abbrev mine : List Turn
+    mine = own (Member member) past
 
-    abbrev given_then : Option Membership
-    given_then = held_unless (has_ended member past) (told_with (config_by past) (own (Member member) past))
+    abbrev told : MemberHeld
+    told = member_by (config_by past) mine
 
-    abbrev given_as : Bool → Option Membership → Option Membership
-    given_as b before = if b then first_some (option_map (membership (config_by past)) (fresh_at turn)) before else before
+    abbrev acted : MemberHeld → MemberHeld
+    acted m = member_after (config_by past) turn.moment (fresh_at turn) (member_task turn.event) turn.calls turn.step m
 
-    given-up : has_ended member past ≡ false → (b : Bool) → is_by (Member member) turn ≡ b → told_with (config_by (turn ∷ past)) (own (Member member) (turn ∷ past)) ≡ given_as b given_then
-    given-up up true mine =
-        ap (λ config. told_with config (own (Member member) (turn ∷ past))) (own-config (Member member) past turn mine)
-        ∙ ap (λ b. told_with (config_by past) (if b then turn ∷ own (Member member) past else own (Member member) past)) mine
-        ∙ newest (fresh_at turn) (found fresh_at (own (Member member) past))
-        ∙ ap (λ b. given_as true (held_unless b (told_with (config_by past) (own (Member member) past)))) (sym up)
-      where
-        newest : (x y : Option (List ℕ)) → option_map (membership (config_by past)) (first_some x y) ≡ first_some (option_map (membership (config_by past)) x) (option_map (membership (config_by past)) y)
-        newest None y = refl
-        newest (Some fresh) y = refl
-    given-up up false other =
-        ap (λ b. told_with (config_by (turn ∷ past)) (if b then turn ∷ own (Member member) past else own (Member member) past)) other
-        ∙ other-config told_with (Member member) boxes past turn does (λ c d. refl)
-        ∙ ap (λ b. held_unless b (told_with (config_by past) (own (Member member) past))) (sym up)
+    -- what own turns tell of a member after the turn, whether or not it is one of them
+    member-now : (b : Bool) → is_by (Member member) turn ≡ b → member_by (config_by (turn ∷ past)) (own (Member member) (turn ∷ past)) ≡ (if b then acted told else told)
+    member-now true by =
+        ap (λ config. member_by config (own (Member member) (turn ∷ past))) (own-config (Member member) past turn by)
+        ∙ ap (λ b. member_by (config_by past) (if b then turn ∷ mine else mine)) by
+        ∙ member_by-cons (config_by past) turn mine
+    member-now false other =
+        ap (λ b. member_by (config_by (turn ∷ past)) (if b then turn ∷ mine else mine)) other ∙ other-config member_by (Member member) boxes past turn does (λ c d. refl)
 
-    given-more : (b : Bool) → (ends member turn.event turn.step.verdict || has_ended member past) ≡ b
-        → held_unless b (told_with (config_by (turn ∷ past)) (own (Member member) (turn ∷ past))) ≡ held_unless b (given_as (is_by (Member member) turn) given_then)
-    given-more true ended = refl
-    given-more false up = given-up (or_parts (ends member turn.event turn.step.verdict) (has_ended member past) up).1 (is_by (Member member) turn) refl
-
-  -- what a member holds, part by part
-  module _ (member : ℕ) where
-    abbrev gone : Bool
-    gone = ends member turn.event turn.step.verdict || has_ended member past
-
-    abbrev acted : MemberHeld
-    acted = member_after (config_by past) turn.moment (fresh_at turn) (member_task turn.event) turn.calls turn.step (told_member member)
-
-    parts-more : member_unless gone (member_by (config_by (turn ∷ past)) (own (Member member) (turn ∷ past)))
-        ≡ member_of (held_unless gone (if is_by (Member member) turn then acted.given else (told_member member).given)) (λ spir. held_unless gone (if is_by (Member member) turn then acted.held spir else (told_member member).held spir))
-    parts-more i = record {
-      given = given-more member gone refl i;
-      held = λ spir. held-more member spir gone refl i;
-    }
-
-    members-more : member_unless gone (member_by (config_by (turn ∷ past)) (own (Member member) (turn ∷ past))) ≡ member_unless gone (if is_by (Member member) turn then acted else told_member member)
-    members-more = parts-more ∙ by-parts gone (is_by (Member member) turn) acted (told_member member)
+    members-more : (b : Bool) → (ends member turn.event turn.step.verdict || has_ended member past) ≡ b
+        → member_unless b (member_by (config_by (turn ∷ past)) (own (Member member) (turn ∷ past)))
+        ≡ member_unless b (if is_by (Member member) turn then acted (member_unless (has_ended member past) told) else member_unless (has_ended member past) told)
+    members-more true ended = refl
+    members-more false up = ap (member_unless false)
+        (member-now (is_by (Member member) turn) refl
+        ∙ ap (λ ended. if is_by (Member member) turn then acted (member_unless ended told) else member_unless ended told)
+        (sym (or_parts (ends member turn.event turn.step.verdict) (has_ended member past) up).1))
 
   pub told-cons : told_state boxes (turn ∷ past) ≡ state_after turn.moment turn.event turn.calls turn.step (told_state boxes past)
   told-cons i = record {
@@ -148,7 +100,7 @@ module _ (boxes : ℕ) (past : List Turn) (turn : Turn) (does : DoesTold boxes p
     ended = λ member. has_ended member (turn ∷ past);
     datagrams = datagrams_of (turn ∷ past);
     peer = peer-more (is_by Peer turn) refl i;
-    members = λ member. members-more member i;
+    members = λ member. members-more member (ends member turn.event turn.step.verdict || has_ended member past) refl i;
   }
 
 -- where each turn follows its rule, each end's own turns tell what it holds
