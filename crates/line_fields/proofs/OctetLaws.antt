@@ -1,5 +1,5 @@
 -- Octets and their hexadecimal word determine each other.
-use Rattle.std.proofs.Common.{◌≡◌, ℕ, zero, suc, ◌+◌, ◌*◌, ◌/◌, ◌%◌, ◌<◌, Bool, true, ◌&&◌, ◌||◌, not, eqb, ltb, List, [], ◌∷◌, length, Some, Ok, refl, sym, ap, ◌∙◌, arith, inl, inr}
+use Rattle.std.proofs.Common.{◌≡◌, ℕ, zero, suc, ◌+◌, ◌*◌, ◌/◌, ◌%◌, ◌<◌, Bool, true, ◌&&◌, ◌||◌, not, eqb, ltb, List, [], ◌∷◌, length, get_or, Some, Ok, refl, sym, ap, ◌∙◌, arith, inl, inr}
 use Rattle.std.specs.Prelude.{slice_index}
 use Rattle.std.proofs.lemmas.Bool.{and_parts, eqb-true, cases_lt, lt-ltb, ltb-true}
 use Rattle.std.proofs.lemmas.List.{nil_from_length}
@@ -111,6 +111,17 @@ unfolding decoded
 length-decoded [] = refl
 length-decoded (a ∷ []) = refl
 length-decoded (a ∷ b ∷ rest) = let e = length-decoded rest in omega (arith, e)
+
+-- the octet that the digits at two places stand for
+pub decoded_at : (w : List ℕ) (i : ℕ) → 2 * i + 1 < length w → get_or (decoded w) i 0 ≡ digit_of (get_or w (2 * i) 0) * 16 + digit_of (get_or w (2 * i + 1) 0)
+unfolding decoded
+decoded_at [] i h = absurd (omega arith)
+decoded_at (a ∷ []) i h = absurd (omega arith)
+decoded_at (a ∷ b ∷ rest) zero h = refl
+decoded_at (a ∷ b ∷ rest) (suc i) h =
+    let first : 2 * suc i ≡ suc (suc (2 * i)) = omega arith in
+    let second : 2 * suc i + 1 ≡ suc (suc (2 * i + 1)) = omega arith in
+    rw (second, first) (decoded_at rest i (omega arith))
 
 pub bytes-decoded : (w : List ℕ) → list_all is_lower w ≡ true → IsBytes (decoded w)
 unfolding decoded

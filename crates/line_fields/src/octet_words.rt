@@ -1,8 +1,8 @@
 //! Octets and SPIs as hexadecimal words.
 
-ghost use Rattle.std.specs.Prelude.{◌≡◌, ◌≤◌, ◌/◌, true, length, IfOk, OnOk};
+ghost use Rattle.std.specs.Prelude.{◌≡◌, ◌<◌, ◌≤◌, ◌/◌, true, length, IfOk, OnOk};
 ghost use Rattle.std.specs.List.{list_all};
-ghost use Rattle.line_fields.specs.Octets.{decoded, esp_spi_of, is_hex, is_lower, octet_of, spells_octets, size_of, sized, spi_in_word};
+ghost use Rattle.line_fields.specs.Octets.{decoded, digit_of, esp_spi_of, is_hex, is_lower, octet_of, spells_octets, size_of, sized, spi_in_word};
 
 use crate::fault::LineReason;
 use ha_base::{OctetArray, OctetList};
@@ -16,7 +16,11 @@ fn is_lower(octet: u8) -> bool
 fn all_lower(word: &[u8]) -> bool
     ensures { result ≡ list_all is_lower word.now }
 {
-    word.iter().all(|octet| is_lower(*octet))
+    let mut lower = true;
+    for i in 0..word.len() {
+        lower &= is_lower(word[i]);
+    }
+    lower
 }
 
 /// Whether the word is whole octets in lower-case hexadecimal, at least one.
@@ -26,22 +30,32 @@ pub fn is_hex(word: &[u8]) -> bool
     all_lower(word) && !word.is_empty() && word.len() % 2 == 0
 }
 
+/// What a digit stands for.
+#[inline(always)]
+fn digit(octet: u8) -> u8
+    requires { is_lower octet ≡ true }
+    ensures value { result ≡ digit_of octet }
+    ensures below { result < 16 }
+{
+    // a letter has bit 6, and the letters' lowest bits begin at 1
+    octet % 16 + 9 * (octet / 64)
+}
+
 /// Writes the octets that a word of lower-case hexadecimal spells over `out`, which has room for
 /// just these.
-#[tactic(auto, using(crate::proofs::OctetLaws::hex_sized))]
 pub fn fill_hex(word: &[u8], out: &mut [u8])
     requires hex { is_hex word.now ≡ true }
     requires long { length word.now / 2 ≡ length out.old }
     ensures { out.new ≡ decoded word.now }
 {
-    if hex::decode_to_slice(word, out).is_err() {
-        unreachable!();
+    for i in 0..out.len() {
+        out[i] = digit(word[2 * i]) * 16 + digit(word[2 * i + 1]);
     }
 }
 
-/// Writes the octets of a word.
+/// Writes the octets of a word over `out`, which has room for just these.
 #[tactic(auto, using(crate::proofs::OctetLaws::dash_fills))]
-fn fill(word: &[u8], out: &mut [u8])
+pub fn fill(word: &[u8], out: &mut [u8])
     requires octets { spells_octets word.now ≡ true }
     requires long { length word.now / 2 ≡ length out.old }
     ensures { out.new ≡ decoded word.now }
@@ -53,7 +67,7 @@ fn fill(word: &[u8], out: &mut [u8])
 }
 
 /// How many octets the word has, which is from `least` to `most`. `-` is no octets.
-fn size_word(word: &[u8], least: usize, most: usize) -> Result<usize, LineReason>
+pub fn size_word(word: &[u8], least: usize, most: usize) -> Result<usize, LineReason>
     ensures value { result ≡ size_of least most word.now }
     ensures octets { OnOk result (spells_octets word.now ≡ true) }
     ensures size { IfOk result (λ size. size ≡ length word.now / 2) }

@@ -1,18 +1,45 @@
 //! Octets and SPIs as lower-case hexadecimal words.
 
-ghost use Rattle.std.specs.Prelude.{◌≡◌, [], ◌∷◌, ◌++◌, IfOk, OnOk, string_bytes};
-ghost use Rattle.hex.specs.Hex.{encode_lower};
+ghost use Rattle.std.specs.Prelude.{◌≡◌, ◌*◌, ◌<◌, [], ◌∷◌, ◌++◌, length, slice_index, IfOk, OnOk};
+ghost use Rattle.hex.specs.Hex.{encode_lower, lower_digits};
 ghost use Rattle.line_fields.specs.Octets.{esp_spi_text, octets_text, spi_text};
 
 use crate::words::put_word;
 use ha_base::{Memory, Octets};
 use std::alloc::Global;
 
-fn hex_text(alloc: Global, octets: &[u8]) -> Result<String, Memory>
-    ensures { IfOk result (λ text. string_bytes text ≡ encode_lower octets.now) }
+/// The digit of four bits.
+#[inline(always)]
+fn digit(bits: u8) -> u8
+    requires { bits < 16 }
+    ensures { result ≡ slice_index lower_digits bits }
 {
-    match hex::encode(alloc, octets) {
-        Ok(text) => Ok(text),
+    if bits < 10 {
+        b'0' + bits
+    } else {
+        b'a' - 10 + bits
+    }
+}
+
+/// Writes two digits for each octet over `text`, which has room for just these.
+fn fill_text(octets: &[u8], text: &mut [u8])
+    requires { length text.old ≡ 2 * length octets.now }
+    ensures { text.new ≡ encode_lower octets.now }
+{
+    for i in 0..octets.len() {
+        text[2 * i] = digit(octets[i] / 16);
+        text[2 * i + 1] = digit(octets[i] % 16);
+    }
+}
+
+fn hex_text(alloc: Global, octets: &[u8]) -> Result<Vec<u8>, Memory>
+    ensures { IfOk result (λ text. text.items ≡ encode_lower octets.now) }
+{
+    match vec![in alloc; 0u8; 2 * octets.len()] {
+        Ok(mut text) => {
+            fill_text(octets, text.as_mut_slice());
+            Ok(text)
+        }
         Err(_) => Err(Memory),
     }
 }
@@ -26,7 +53,7 @@ pub fn put_bare_octets(alloc: Global, out: &mut Octets, octets: &[u8]) -> Result
         return out.extend(b"-");
     }
     let text = hex_text(alloc, octets)?;
-    out.extend(text.as_bytes())
+    out.extend(text.as_slice())
 }
 
 /// Appends a space, and two digits for each octet, or `-` where there are none. An error is want of
@@ -43,7 +70,7 @@ pub fn put_digits(alloc: Global, out: &mut Octets, octet: u8) -> Result<(), Memo
     ensures { OnOk result (out.new.octets ≡ out.old.octets ++ (32 ∷ encode_lower (octet ∷ []))) }
 {
     let text = hex_text(alloc, &[octet])?;
-    put_word(out, text.as_bytes())
+    put_word(out, text.as_slice())
 }
 
 /// Appends an SPI of the IKE header (RFC 7296, section 3.1) in 16 digits, and no space before it.
@@ -52,7 +79,7 @@ pub fn put_bare_spi(alloc: Global, out: &mut Octets, spi: u64) -> Result<(), Mem
     ensures { OnOk result (out.new.octets ≡ out.old.octets ++ spi_text spi) }
 {
     let text = hex_text(alloc, &spi.to_be_bytes())?;
-    out.extend(text.as_bytes())
+    out.extend(text.as_slice())
 }
 
 /// Appends a space, and an SPI of the IKE header (RFC 7296, section 3.1) in 16 digits. An error is
@@ -70,5 +97,5 @@ pub fn put_esp_spi(alloc: Global, out: &mut Octets, spi: u32) -> Result<(), Memo
     ensures { OnOk result (out.new.octets ≡ out.old.octets ++ (32 ∷ esp_spi_text spi)) }
 {
     let text = hex_text(alloc, &spi.to_be_bytes())?;
-    put_word(out, text.as_bytes())
+    put_word(out, text.as_slice())
 }
