@@ -166,8 +166,8 @@ fn given_fits(number: u64, gives: &Option<Datagram>)
     }
 }
 
-/// Each line of a turn whose event a line says is in its ranges, so that its words are those of no
-/// other line.
+/// Each line of a turn is in its ranges, where a line of an event file says its event. So their
+/// words tell these lines (`words_tell_their_line`).
 pub fn turn_lines_fit(number: u64, datagram: u64, turn: &Turn)
     ensures { (last : ℕ) (line : List ℕ)
         → EventLine last line turn.now.moment (plain turn.now.event)
