@@ -85,9 +85,23 @@ cluster_kinds = (domain_name_kind, λ identity. (lifetime_kind, λ lifetime. (wi
 
 import_kinds : AreKinds import_row.fields
 unfolding AreKinds
-import_kinds =
-    (spi_kind, λ spii. (spi_kind, λ spir. (key_size_kind, λ size. (identity_kind, λ identity. (ike_keys_kind size, λ keys.
-    (esp_spi_kind, λ spi_in. (esp_spi_kind, λ spi_out. (esp_keys_kind size, λ child. (starts_kind, λ starts. tt)))))))))
+import_kinds = (
+  spi_kind,
+  λ spii. (
+    spi_kind,
+    λ spir. (
+      key_size_kind,
+      λ size. (
+        identity_kind,
+        λ identity. (
+          ike_keys_kind size,
+          λ keys.
+              (esp_spi_kind, λ spi_in. (esp_spi_kind, λ spi_out. (esp_keys_kind size, λ child. (starts_kind, λ starts. tt)))),
+        ),
+      ),
+    ),
+  ),
+)
 
 join_kinds : AreKinds join_row.fields
 unfolding AreKinds

@@ -4,3 +4,4 @@ pub mod CallReading
 pub mod VerdictReading
 pub mod LineReading
 pub mod WritingLaws
+pub mod RangeLaws

@@ -9,25 +9,26 @@ use Rattle.report_text.specs.Lines.{PlainVerdict, Configured, Entered, Down, Mem
 use Rattle.report_text.specs.Spelling.{refusal_words, verdict_words}
 use Rattle.report_text.proofs.WordReading.{◌>>=◌, Reading, drop_again, drop_in, five_again, five_in, named, number_again, number_in, numbered, octets_again, octets_in}
 
+abbrev refusal_names : List (List ℕ × Refusal)
+refusal_names =
+    (codes "not-owner", refusals.NotOwner)
+    ∷ (codes "exhausted", refusals.Exhausted)
+    ∷ (codes "keeper-fault", refusals.KeeperFault)
+    ∷ (codes "closed", refusals.Closed)
+    ∷ (codes "unknown", refusals.Unknown)
+    ∷ (codes "spi-in-use", refusals.SpiInUse)
+    ∷ (codes "no-member", refusals.NoMember)
+    ∷ (codes "down", refusals.Down)
+    ∷ (codes "no-datagram", refusals.NoDatagram)
+    ∷ (codes "no-octet", refusals.NoOctet)
+    ∷ (codes "datagrams-full", refusals.DatagramsFull)
+    ∷ (codes "late", refusals.Late)
+    ∷ (codes "spi-range", refusals.SpiRange)
+    ∷ (codes "not-built", refusals.NotBuilt)
+    ∷ []
+
 abbrev refusal_in : List (List ℕ) → Reading Refusal
-refusal_in (w ∷ []) =
-    named (
-      (codes "not-owner", refusals.NotOwner)
-      ∷ (codes "exhausted", refusals.Exhausted)
-      ∷ (codes "keeper-fault", refusals.KeeperFault)
-      ∷ (codes "closed", refusals.Closed)
-      ∷ (codes "unknown", refusals.Unknown)
-      ∷ (codes "spi-in-use", refusals.SpiInUse)
-      ∷ (codes "no-member", refusals.NoMember)
-      ∷ (codes "down", refusals.Down)
-      ∷ (codes "no-datagram", refusals.NoDatagram)
-      ∷ (codes "no-octet", refusals.NoOctet)
-      ∷ (codes "datagrams-full", refusals.DatagramsFull)
-      ∷ (codes "late", refusals.Late)
-      ∷ (codes "spi-range", refusals.SpiRange)
-      ∷ (codes "not-built", refusals.NotBuilt)
-      ∷ []
-    ) w
+refusal_in (w ∷ []) = named refusal_names w
 refusal_in (w ∷ n ∷ []) = numbered ((codes "replaced", refusals.Replaced) ∷ (codes "full", refusals.Full) ∷ (codes "no-room", refusals.NoRoom) ∷ []) w n
 refusal_in other = Err Word
 

@@ -8,6 +8,7 @@ mod laws;
 mod line;
 mod named;
 mod origins;
+mod ranges;
 mod refusals;
 mod spelling;
 mod turn;
@@ -16,4 +17,5 @@ mod verdicts;
 
 pub use laws::{reports_are_lines, turns_repeat_their_lines, words_tell_their_line};
 pub use line::{KeyOrigin, Line, Part, PlainAnswer, PlainAsk};
+pub use ranges::turn_lines_fit;
 pub use turn::{write_head, write_turn};

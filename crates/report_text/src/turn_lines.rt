@@ -10,7 +10,7 @@ use events::Seal;
 use ha_base::{End, Kind, Origin};
 use keeper_book::{Call, Counter, KeeperAnswer, KeeperAsk, KeeperFault};
 
-fn plain_ask(ask: &KeeperAsk) -> Option<PlainAsk>
+pub(crate) fn plain_ask(ask: &KeeperAsk) -> Option<PlainAsk>
     ensures { result ≡ plain_ask ask.now }
 {
     match ask {
@@ -53,7 +53,7 @@ fn plain_fault(fault: KeeperFault) -> Option<PlainAnswer>
     }
 }
 
-fn plain_answer(answer: &KeeperAnswer) -> Option<PlainAnswer>
+pub(crate) fn plain_answer(answer: &KeeperAnswer) -> Option<PlainAnswer>
     ensures { result ≡ plain_answer answer.now }
 {
     match answer {
@@ -79,7 +79,7 @@ pub(crate) fn keep_line(call: &Call) -> Option<Line<'_>>
     })
 }
 
-fn key_origin(origin: &Origin) -> Option<KeyOrigin>
+pub(crate) fn key_origin(origin: &Origin) -> Option<KeyOrigin>
     ensures { result ≡ key_origin origin.now }
 {
     match origin {
@@ -90,7 +90,7 @@ fn key_origin(origin: &Origin) -> Option<KeyOrigin>
     }
 }
 
-fn part_of(kind: Kind, end: End) -> Option<Part>
+pub(crate) fn part_of(kind: Kind, end: End) -> Option<Part>
     ensures { result ≡ part_of kind end }
 {
     match (kind, end) {
