@@ -13,6 +13,8 @@ use Rattle.ha_base.specs.declared.outside.Moment.{Moment}
 use Rattle.keeper_book.specs.declared.counters.Counter.{Counter}
 use Rattle.keeper_book.specs.declared.counters.Counter.TheVariants as counters
 use Rattle.keeper_book.specs.declared.counters.Five.{Five}
+use Rattle.keeper_book.specs.declared.pools.Pool.{Pool}
+use Rattle.keeper_book.specs.declared.pools.Pool.TheVariants as pools
 use Rattle.events.specs.Events.{PlainEvent}
 use Rattle.events.specs.declared.turn.Medium.{Medium}
 use Rattle.events.specs.declared.turn.Medium.TheVariants as mediums
@@ -30,7 +32,7 @@ use Rattle.line_fields.specs.declared.fault.LineReason.TheVariants.{Word}
 use Rattle.line_fields.proofs.FieldLaws.{number_field, ok_is, sized_field, spi_field}
 use Rattle.report_text.specs.LineRanges.{AreReportBases, AreReportOctets, FitsAnswer, FitsAsk, FitsDerivation, FitsLine, FitsOrigin, FitsRefusal, FitsVerdict, IsReportNumber}
 use Rattle.report_text.specs.Lines.{PlainVerdict, ReportLine, Configured, Entered, Down, Member, Owned, Number, Sent, Accepted, DroppedEsp, Refused, TurnLine, KeepLine, ServeLine, SealLine, GivesLine, OutLine, EndLine}
-use Rattle.report_text.specs.Spelling.{answer_words, ask_words, counter_word, derivation_text, drop_word, lost_words, origin_text, part_word, refusal_words, report_words, verdict_words}
+use Rattle.report_text.specs.Spelling.{answer_words, ask_words, counter_word, derivation_text, drop_word, lost_words, origin_text, part_word, pool_word, refusal_words, report_words, verdict_words}
 use Rattle.report_text.specs.declared.line.KeyOrigin.{KeyOrigin}
 use Rattle.report_text.specs.declared.line.KeyOrigin.TheVariants as origins
 use Rattle.report_text.specs.declared.line.Part.{Part}
@@ -246,7 +248,8 @@ answer_in (w ∷ []) =
     else if bytes_eq w (codes "spi-in-use") then Ok answers.SpiInUse
     else Err Word
 answer_in (w ∷ n ∷ []) =
-    if bytes_eq w (codes "replaced") then number_in n >>= (λ epoch. Ok (answers.Replaced epoch))
+    if bytes_eq w (codes "ok") then number_in n >>= (λ number. Ok (answers.Number number))
+    else if bytes_eq w (codes "replaced") then number_in n >>= (λ epoch. Ok (answers.Replaced epoch))
     else if bytes_eq w (codes "full") then number_in n >>= (λ limit. Ok (answers.Full limit))
     else Err Word
 answer_in (w ∷ n ∷ f ∷ ws) = number_in n >>= (λ epoch. five_in (f ∷ ws) >>= (λ five. Ok (answers.Taken epoch five)))
@@ -255,6 +258,7 @@ answer_in [] = Err Word
 answer_again : (answer : PlainAnswer) → FitsAnswer answer → answer_in (answer_words answer) ≡ Ok answer
 answer_again answers.Done fits = refl
 answer_again (answers.Taken epoch bases) fits = rw (number_again epoch fits.0, five_again bases fits.1) refl
+answer_again (answers.Number number) fits = rw (number_again number fits) refl
 answer_again answers.Failed fits = refl
 answer_again (answers.Replaced epoch) fits = rw (number_again epoch fits) refl
 answer_again answers.Unknown fits = refl
@@ -274,6 +278,7 @@ marked_in ask (w ∷ ws) = if bytes_eq w (codes "lost") then answer_line ask tru
 unmarked : (ask : PlainAsk) (answer : PlainAnswer) → marked_in ask (answer_words answer) ≡ answer_line ask false (answer_in (answer_words answer))
 unmarked ask answers.Done = refl
 unmarked ask (answers.Taken epoch bases) = refl
+unmarked ask (answers.Number number) = refl
 unmarked ask answers.Failed = refl
 unmarked ask (answers.Replaced epoch) = refl
 unmarked ask answers.Unknown = refl
@@ -307,12 +312,45 @@ abbrev enter_line : List (List ℕ) → Reading ReportLine
 enter_line (s ∷ ws) = spi_in_word s >>= (λ spir. marked_in (calls.Enter spir) ws)
 enter_line other = Err Word
 
+abbrev pool_in : List ℕ → Reading Pool
+pool_in w =
+    if bytes_eq w (codes "ticket") then Ok pools.Ticket
+    else if bytes_eq w (codes "nonce") then Ok pools.Nonce
+    else Err Word
+
+pool_again : (pool : Pool) → pool_in (pool_word pool) ≡ Ok pool
+pool_again pools.Ticket = refl
+pool_again pools.Nonce = refl
+
+abbrev lease_line : List (List ℕ) → Reading ReportLine
+lease_line (p ∷ c ∷ ws) = do
+  pool ← pool_in p
+  count ← number_in c
+  marked_in (calls.Lease pool count) ws
+lease_line other = Err Word
+
+abbrev settle_line : List (List ℕ) → Reading ReportLine
+settle_line (t ∷ o ∷ s ∷ m ∷ ws) = do
+  ticket ← number_in t
+  old_spir ← spi_in_word o
+  spir ← spi_in_word s
+  member ← number_in m
+  marked_in (calls.Settle ticket old_spir spir member) ws
+settle_line other = Err Word
+
+abbrev look_line : List (List ℕ) → Reading ReportLine
+look_line (t ∷ ws) = number_in t >>= (λ ticket. marked_in (calls.Look ticket) ws)
+look_line other = Err Word
+
 abbrev keep_in : List (List ℕ) → Reading ReportLine
 keep_in [] = Err Word
 keep_in (w ∷ ws) =
     if bytes_eq w (codes "enter") then enter_line ws
     else if bytes_eq w (codes "take-over") then take_over_line ws
     else if bytes_eq w (codes "cover") then cover_line ws
+    else if bytes_eq w (codes "lease") then lease_line ws
+    else if bytes_eq w (codes "settle") then settle_line ws
+    else if bytes_eq w (codes "look") then look_line ws
     else Err Word
 
 keep_again : (ask : PlainAsk) (lost : Bool) (answer : PlainAnswer) → FitsAsk ask → FitsAnswer answer → keep_in (ask_words ask ++ (lost_words lost ++ answer_words answer)) ≡ Ok (KeepLine ask lost answer)
@@ -320,6 +358,10 @@ keep_again (calls.Enter spir) lost answer fits told = rw (spi_again spir fits) (
 keep_again (calls.TakeOver spir member) lost answer fits told = rw (spi_again spir fits.0, number_again member fits.1) (marked_again _ lost answer told)
 keep_again (calls.Cover spir counter child epoch upto) lost answer fits told =
     rw (spi_again spir fits.0, counter_again counter, number_again child fits.1, number_again epoch fits.2, number_again upto fits.3) (marked_again _ lost answer told)
+keep_again (calls.Lease pool count) lost answer fits told = rw (pool_again pool, number_again count fits) (marked_again _ lost answer told)
+keep_again (calls.Settle ticket old_spir spir member) lost answer fits told =
+    rw (number_again ticket fits.0, spi_again old_spir fits.1, spi_again spir fits.2, number_again member fits.3) (marked_again _ lost answer told)
+keep_again (calls.Look ticket) lost answer fits told = rw (number_again ticket fits) (marked_again _ lost answer told)
 
 -- ---- verdicts
 

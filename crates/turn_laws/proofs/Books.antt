@@ -5,9 +5,10 @@ use Rattle.std.proofs.lemmas.Bool.{eqb-true, or_parts, eq-eqb}
 use Rattle.std.proofs.lemmas.List.{length-map}
 use Rattle.std.specs.List.{list_any}
 use Rattle.std.specs.Option.{option_map}
-use Rattle.keeper_book.specs.Book.{Answers, Book, Entry, book_after, cover_refusal, enter_refusal, book_entered, entry_of, fresh, entry_raised, raised_at, refusal, shares_spi, takeover_answer, taken_over, unless_refused, when}
+use Rattle.keeper_book.specs.Book.{Answers, Book, Entry, book_after, book_entered, cover_refusal, enter_refusal, entry_of, entry_raised, fresh, pool_next, raised_at, refusal, shares_spi, taken_over, takeover_answer, unless_refused, when}
 use Rattle.keeper_book.specs.CounterEnds.{end_of}
 use Rattle.keeper_book.specs.Counters.{five_at}
+use Rattle.keeper_book.specs.Pools.{pool_end}
 use Rattle.keeper_book.specs.declared.TheConstants.{MAX_ASSOCIATIONS}
 use Rattle.keeper_book.specs.declared.calls.KeeperAnswer.{KeeperAnswer}
 use Rattle.keeper_book.specs.declared.calls.KeeperAnswer.TheVariants as answer
@@ -18,13 +19,13 @@ use Rattle.keeper_book.specs.declared.faults.KeeperFault.{KeeperFault}
 use Rattle.keeper_book.specs.declared.faults.KeeperFault.TheVariants as fault
 use Rattle.keeper_book.specs.declared.records.Record.{Record}
 use Rattle.keeper_book.specs.declared.records.Taken.{Taken}
-use Rattle.turn_laws.proofs.Columns.{goes_on-refl, mark-high}
+use Rattle.turn_laws.proofs.Columns.{goes_on-higher, goes_on-refl, mark-high}
 use Rattle.turn_laws.proofs.Entries.{entry_after, entry-entered, five_at-with_five, goes_on-ours, goes_on-theirs, is_counter-same, new-taken_over, new-theirs}
 use Rattle.turn_laws.specs.Acts.{holding_begun, begun_theirs}
 use Rattle.turn_laws.specs.Columns.{ColumnGoesOn, IsRising, column_mark}
 use Rattle.turn_laws.specs.Holdings.{Actor, Holding, IsNew}
 use Rattle.turn_laws.proofs.Pools.{pool-entered}
-use Rattle.turn_laws.specs.Places.{Ours, Place, Pooled, Theirs, column, column_ours, column_theirs, pool_end}
+use Rattle.turn_laws.specs.Places.{Ours, Place, Pooled, Theirs, column, column_ours, column_theirs}
 use Rattle.turn_rules.specs.Held.{first_some}
 
 -- the book is as it was, or has the entry of a call that is not refused
@@ -48,7 +49,7 @@ module _ (old : Book) (asked : KeeperAsk) where
   column-entered : (p : Place) (lots : List ℕ) → IsRising (column p lots old) → ColumnGoesOn (column p lots old) (column p lots (book_entered old asked))
   column-entered (Ours spir c) lots rising = subst (λ o. ColumnGoesOn (column (Ours spir c) [] old) (column_ours c o)) (sym (entry-entered spir old asked)) (goes_on-ours c spir asked (entry_of spir old.entries) rising)
   column-entered (Theirs spir c) lots rising = subst (λ o. ColumnGoesOn (column (Theirs spir c) [] old) (column_theirs c o)) (sym (entry-entered spir old asked)) (goes_on-theirs c spir asked (entry_of spir old.entries) rising)
-  column-entered (Pooled q) lots rising = subst (λ n. ColumnGoesOn (column (Pooled q) lots old) (record { bases = lots; high = n; end = pool_end q })) (sym (pool-entered q old asked)) (goes_on-refl (column (Pooled q) lots old) rising)
+  column-entered (Pooled q) lots rising = goes_on-higher (column (Pooled q) lots old) (pool_next q (book_entered old asked)) rising (pool-entered q old asked)
 
 -- Whatever a call is answered, every column goes on.
 pub column-goes_on : (old new : Book) (asked : KeeperAsk) (answered : KeeperAnswer) → Answers old asked answered new → (p : Place) (lots : List ℕ) → IsRising (column p lots old) → ColumnGoesOn (column p lots old) (column p lots new)

@@ -9,6 +9,7 @@ use Rattle.events.specs.declared.turn.Turn.{Turn}
 use Rattle.keeper_book.specs.Book.{Book}
 use Rattle.keeper_book.specs.CounterEnds.{end_of}
 use Rattle.keeper_book.specs.Counters.{AreWithinEnds, counter_named, five_at}
+use Rattle.keeper_book.specs.Pools.{pool_end}
 use Rattle.keeper_book.specs.Told.{AreAnswers, IsAnswerOf, seen}
 use Rattle.keeper_book.specs.declared.calls.Call.{Call}
 use Rattle.keeper_book.specs.declared.calls.KeeperAnswer.{KeeperAnswer}
@@ -18,6 +19,7 @@ use Rattle.keeper_book.specs.declared.calls.KeeperAsk.TheVariants as ask
 use Rattle.keeper_book.specs.declared.counters.Counter.{Counter}
 use Rattle.keeper_book.specs.declared.counters.Counter.TheVariants as counter
 use Rattle.keeper_book.specs.declared.faults.KeeperFault.TheVariants as fault
+use Rattle.keeper_book.specs.declared.pools.Pool.{Pool}
 use Rattle.keeper_book.specs.declared.records.Taken.{Taken}
 use Rattle.turn_laws.proofs.All.{owned-run, turn-well}
 use Rattle.turn_laws.proofs.Holdings.{is_actor-true}
@@ -27,7 +29,7 @@ use Rattle.turn_laws.proofs.Numbers.{counters-hold}
 use Rattle.turn_laws.proofs.Safety.{failed_effect, is_place-true, named-counter}
 use Rattle.turn_laws.specs.Acts.{Leases, effect_of_lease, lot_begun, lots_at, Act, Calls, Ends, HoldsFor, MayAsk, MayCover, MayDo, MayDoAll, Move, Seals, Uses, acts_onto, effect_of, effect_of_call, effect_of_use, effect_ours, effect_theirs, holding_at, numbers_at, uses_at}
 use Rattle.turn_laws.specs.Holdings.{Passes, Actor, Begins, Draws, Effect, Holding, Nothing, Rises, Use, drawn, holding_after, is_actor, raised_to, use_end, uses_after}
-use Rattle.turn_laws.specs.Places.{NumberPool, Pooled, is_pool, pool_end, Ours, Place, Theirs, column, end_at, is_place, place_of}
+use Rattle.turn_laws.specs.Places.{Pooled, is_pool, Ours, Place, Theirs, column, end_at, is_place, place_of}
 use Rattle.turn_laws.specs.Turns.{actor_of, acts_of, key_iv, moves_of, uses_of}
 use Rattle.turn_rules.specs.Held.{is_named, number_of}
 use Rattle.turn_rules.specs.Local.{Explained, Stands}
@@ -149,7 +151,7 @@ module _ (acts : List Act) (w : Actor) where
   ends-seal p None n may = tt
   ends-seal p (Some q) n may = ends-use p q n may
 
-  ends-lease : (p : Place) (lots : List ℕ) (pool : NumberPool) (first count : ℕ) (seen : Bool) → first + count ≤ pool_end pool → KeepsEnds (effect_of_lease p lots w pool first count seen) (holding_at p acts)
+  ends-lease : (p : Place) (lots : List ℕ) (pool : Pool) (first count : ℕ) (seen : Bool) → first + count ≤ pool_end pool → KeepsEnds (effect_of_lease p lots w pool first count seen) (holding_at p acts)
   ends-lease (Ours spir c) lots pool first count seen below = tt
   ends-lease (Theirs spir c) lots pool first count seen below = tt
   ends-lease (Pooled q) lots pool first count false below = tt

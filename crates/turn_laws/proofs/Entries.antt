@@ -4,7 +4,7 @@ use Rattle.std.proofs.lemmas.Bool.{eqb-true, eqb-false}
 use Rattle.std.proofs.lemmas.List.{length-map, map-append}
 use Rattle.std.specs.Option.{option_map}
 use Rattle.keeper_book.proofs.EntryLemmas.{entry_of-edit_other, entry_of-edit_same}
-use Rattle.keeper_book.specs.Book.{Book, Entry, edit_at, book_entered, entry_of, fresh, entry_raised, raised_at, taken_over}
+use Rattle.keeper_book.specs.Book.{Book, Entry, book_entered, closed, edit_at, entry_of, entry_raised, fresh, raised_at, settled, settled_highs, taken_over}
 use Rattle.keeper_book.specs.CounterEnds.{end_of}
 use Rattle.keeper_book.specs.Counters.{counter_named, five_at, with_five}
 use Rattle.keeper_book.specs.declared.calls.KeeperAsk.{KeeperAsk}
@@ -25,6 +25,9 @@ abbrev pub entry_after : ℕ → KeeperAsk → Option Entry → Option Entry
 entry_after spir (ask.Enter sa) old = first_some old (if sa.spir == spir then Some (fresh sa) else None)
 entry_after spir (ask.TakeOver asked member) old = if asked == spir then option_map (taken_over member) old else old
 entry_after spir (ask.Cover asked kind child epoch upto) old = if asked == spir then option_map (raised_at (counter_named kind child) upto) old else old
+entry_after spir (ask.Lease pool count) old = old
+entry_after spir (ask.Settle ticket asked sa member) old = first_some (if asked == spir then option_map closed old else old) (if sa.spir == spir then Some (settled sa member) else None)
+entry_after spir (ask.Look ticket) old = old
 
 entry_of-append : (spir : ℕ) (es : List Entry) (x : Entry) → entry_of spir (es ++ x ∷ []) ≡ first_some (entry_of spir es) (if x.sa.spir == spir then Some x else None)
 entry_of-append spir [] x = refl
@@ -51,6 +54,11 @@ pub entry-entered : (spir : ℕ) (book : Book) (asked : KeeperAsk) → entry_of 
 entry-entered spir book (ask.Enter sa) = entry_of-append spir book.entries (fresh sa)
 entry-entered spir book (ask.TakeOver asked member) = edited_entry asked spir (taken_over member) (λ e. refl) book.entries
 entry-entered spir book (ask.Cover asked kind child epoch upto) = edited_entry asked spir (raised_at (counter_named kind child) upto) (raised_keeps (counter_named kind child) upto) book.entries
+entry-entered spir book (ask.Lease pool count) = refl
+entry-entered spir book (ask.Settle ticket asked sa member) =
+    entry_of-append spir (edit_at asked closed book.entries) (settled sa member)
+    ∙ ap (λ x. first_some x (if sa.spir == spir then Some (settled sa member) else None)) (edited_entry asked spir closed (λ e. refl) book.entries)
+entry-entered spir book (ask.Look ticket) = refl
 
 pub five_at-with_five : (d c : Counter) (n : ℕ) (five : Five) → five_at (with_five d n five) c ≡ (if is_counter d c then n else five_at five c)
 five_at-with_five counter.EspOut counter.EspOut n five = refl
@@ -89,6 +97,14 @@ end-mirrored sa counter.EspIn = refl
 end-mirrored sa counter.Iv = refl
 end-mirrored sa counter.Ask = refl
 end-mirrored sa counter.Answer = refl
+
+-- what is settled is covered from the starts on
+settled_high : (starts : Five) (c : Counter) → five_at starts c ≤ five_at (settled_highs starts) c
+settled_high starts counter.EspOut = omega arith
+settled_high starts counter.EspIn = omega arith
+settled_high starts counter.Iv = omega arith
+settled_high starts counter.Ask = omega arith
+settled_high starts counter.Answer = omega arith
 
 start_within : (sa : Record) (c : Counter) → start_of sa c ≤ end_of sa c
 start_within sa c = subst (λ n. start_of sa c ≤ n) (end-mirrored sa c) (within_end sa (mirrored c))
@@ -137,6 +153,19 @@ module _ (c : Counter) where
       by_test false old rising = goes_on-refl (column_ours c old) rising
       by_test true None rising = goes_on-refl nothing rising
       by_test true (Some e) rising = goes_on-raised (counter_named kind child) upto e rising
+  goes_on-ours spir (ask.Lease pool count) old rising = goes_on-refl (column_ours c old) rising
+  goes_on-ours spir (ask.Settle ticket asked sa member) old rising = by_test (asked == spir) old rising
+    where
+      added : (b : Bool) → ColumnGoesOn nothing (column_ours c (if b then Some (settled sa member) else None))
+      added true = goes_on-first (column_ours c (Some (settled sa member))) (rising-one (five_at sa.starts c) (five_at (settled_highs sa.starts) c) (end_of sa c) (settled_high sa.starts c))
+      added false = goes_on-refl nothing (rising-none 0 0)
+
+      by_test : (b : Bool) (old : Option Entry) → IsRising (column_ours c old) → ColumnGoesOn (column_ours c old) (column_ours c (first_some (if b then option_map closed old else old) (if sa.spir == spir then Some (settled sa member) else None)))
+      by_test true None rising = added (sa.spir == spir)
+      by_test false None rising = added (sa.spir == spir)
+      by_test true (Some e) rising = goes_on-refl (column_ours c (Some e)) rising
+      by_test false (Some e) rising = goes_on-refl (column_ours c (Some e)) rising
+  goes_on-ours spir (ask.Look ticket) old rising = goes_on-refl (column_ours c old) rising
 
   rising-theirs : (sa : Record) → IsRising (record { bases = start_of sa c ∷ []; high = end_of sa c; end = end_of sa c })
   rising-theirs sa = rising-one (start_of sa c) (end_of sa c) (end_of sa c) (start_within sa c)
@@ -165,6 +194,19 @@ module _ (c : Counter) where
       by_test false old rising = goes_on-refl (column_theirs c old) rising
       by_test true None rising = goes_on-refl nothing rising
       by_test true (Some e) rising = kept (counter_named kind child) e rising
+  goes_on-theirs spir (ask.Lease pool count) old rising = goes_on-refl (column_theirs c old) rising
+  goes_on-theirs spir (ask.Settle ticket asked sa member) old rising = by_test (asked == spir) old rising
+    where
+      added : (b : Bool) → ColumnGoesOn nothing (column_theirs c (if b then Some (settled sa member) else None))
+      added true = goes_on-first (column_theirs c (Some (settled sa member))) (rising-theirs sa)
+      added false = goes_on-refl nothing (rising-none 0 0)
+
+      by_test : (b : Bool) (old : Option Entry) → IsRising (column_theirs c old) → ColumnGoesOn (column_theirs c old) (column_theirs c (first_some (if b then option_map closed old else old) (if sa.spir == spir then Some (settled sa member) else None)))
+      by_test true None rising = added (sa.spir == spir)
+      by_test false None rising = added (sa.spir == spir)
+      by_test true (Some e) rising = goes_on-refl (column_theirs c (Some e)) rising
+      by_test false (Some e) rising = goes_on-refl (column_theirs c (Some e)) rising
+  goes_on-theirs spir (ask.Look ticket) old rising = goes_on-refl (column_theirs c old) rising
 
   -- the epoch that a takeover begins is held by nobody yet
   pub new-taken_over : (member : ℕ) (e : Entry) → IsNew (column_ours c (Some e)) (column_ours c (Some (taken_over member e))) (holding_begun c (record { epoch = length e.bases + 1; bases = e.highs; sa = e.sa }))

@@ -1,20 +1,22 @@
 -- Lots of a pool do not meet, and each number is drawn of one lot, once.
 use Rattle.std.proofs.Common.{◌≡◌, ℕ, ◌+◌, ◌-◌, ◌<◌, ◌≤◌, Bool, Some, List, [], ◌∷◌, length, map, arith}
 use Rattle.std.specs.List.{AllByRecursion}
-use Rattle.keeper_book.specs.Book.{Book}
+use Rattle.keeper_book.specs.Book.{Book, pool_next, with_pool_next}
+use Rattle.keeper_book.specs.Pools.{pool_end}
+use Rattle.keeper_book.specs.declared.pools.Pool.{Pool}
 use Rattle.turn_laws.proofs.Columns.{mark-high}
 use Rattle.turn_laws.proofs.Safety.{owned-move}
 use Rattle.turn_laws.specs.Acts.{Act, Leases, acts_onto, holding_at, lots_at, numbers_at, uses_at}
 use Rattle.turn_laws.specs.Columns.{Column, column_mark}
 use Rattle.turn_laws.specs.Holdings.{Actor, Holding, IsOwned, IsUseOf, Use}
 use Rattle.turn_laws.specs.Owned.{Owned}
-use Rattle.turn_laws.specs.Places.{NumberPool, Pooled, column, pool_end, pool_next, with_pool_next}
+use Rattle.turn_laws.specs.Places.{Pooled, column}
 
-pub lease-owned : (acts : List Act) (w : Actor) (pool : NumberPool) (first count : ℕ) (seen : Bool) (old new : Book) → Owned acts old → first + count ≤ pool_end pool
+pub lease-owned : (acts : List Act) (w : Actor) (pool : Pool) (first count : ℕ) (seen : Bool) (old new : Book) → Owned acts old → first + count ≤ pool_end pool
     → first ≡ pool_next pool old → new ≡ with_pool_next pool (first + count) old → Owned (acts_onto w (Leases pool first count seen ∷ []) acts) new
 lease-owned acts w pool first count seen old new owned below next is = owned-move acts old new w owned (Leases pool first count seen) below (next, is)
 
-module _ (acts : List Act) (book : Book) (owned : Owned acts book) (q : NumberPool) where
+module _ (acts : List Act) (book : Book) (owned : Owned acts book) (q : Pool) where
   abbrev its_column : Column
   its_column = column (Pooled q) (lots_at (Pooled q) acts) book
 

@@ -7,13 +7,14 @@ use Rattle.keeper_book.specs.Book.{Book, EntersAll}
 use Rattle.keeper_book.specs.Told.{seen}
 use Rattle.keeper_book.specs.declared.calls.Call.{Call}
 use Rattle.keeper_book.specs.declared.counters.Counter.{Counter}
+use Rattle.keeper_book.specs.declared.pools.Pool.{Pool}
 use Rattle.keeper_book.specs.declared.records.Record.{Record}
 use Rattle.keeper_book.specs.declared.records.Taken.{Taken}
 use Rattle.turn_laws.proofs.Holdings.{is_actor-same}
 use Rattle.turn_laws.specs.Acts.{Act, Calls, Ends, MayDoAll, Move, Seals, Uses, holding_begun, Leases, effect_of, effect_of_lease, effect_of_use, lot_begun, lots_at, effect_ours, effect_theirs, entered_at, holding_at, acts_onto}
 use Rattle.turn_laws.specs.Holdings.{Passes, Actor, Begins, Draws, Effect, Holding, Nothing, Rises, holding_after, is_actor, raised_to}
 use Rattle.turn_laws.specs.Owned.{Lawful, Writes}
-use Rattle.turn_laws.specs.Places.{NumberPool, Ours, Place, Pooled, Theirs, is_place, is_pool, place_of}
+use Rattle.turn_laws.specs.Places.{Ours, Place, Pooled, Theirs, is_place, is_pool, place_of}
 use Rattle.turn_rules.specs.Ends.{Member, Peer, Performer, is_performer}
 use Rattle.turn_rules.specs.Held.{covered, covers_in, first_some, grant_in, granted, greatest}
 
@@ -43,7 +44,7 @@ module _ (w : Actor) where
       by_test true = refl
       by_test false = tt
 
-  by-lease : (p : Place) (lots : List ℕ) (pool : NumberPool) (first count : ℕ) (seen : Bool) → IsBy w (effect_of_lease p lots w pool first count seen)
+  by-lease : (p : Place) (lots : List ℕ) (pool : Pool) (first count : ℕ) (seen : Bool) → IsBy w (effect_of_lease p lots w pool first count seen)
   by-lease (Ours spir c) lots pool first count seen = tt
   by-lease (Theirs spir c) lots pool first count seen = tt
   by-lease (Pooled q) lots pool first count false = tt

@@ -3,8 +3,9 @@ use Rattle.std.proofs.Common.{◌≡◌, ℕ, ◌+◌, ◌≤◌, ◌==◌, ◌&
 use Rattle.std.proofs.lemmas.Bool.{eqb-true, and_parts}
 use Rattle.std.proofs.lemmas.Option.{same_Some}
 use Rattle.std.specs.Option.{option_map}
-use Rattle.keeper_book.specs.Book.{Answers, Book, Enters, Entry, cover_refusal, empty, entry_of, fresh, raised_at, refusal, taken_over}
+use Rattle.keeper_book.specs.Book.{Answers, Book, Enters, Entry, cover_refusal, empty, entry_of, fresh, pool_next, raised_at, refusal, taken_over}
 use Rattle.keeper_book.specs.Counters.{counter_named}
+use Rattle.keeper_book.specs.Pools.{pool_end}
 use Rattle.keeper_book.specs.Told.{seen}
 use Rattle.keeper_book.specs.declared.calls.Call.{Call}
 use Rattle.keeper_book.specs.declared.calls.KeeperAnswer.{KeeperAnswer}
@@ -24,7 +25,7 @@ use Rattle.turn_laws.specs.Acts.{IsImport, Leases, lots_after, lots_at, Act, Cal
 use Rattle.turn_laws.specs.Columns.{ColumnGoesOn, IsRising, column_mark}
 use Rattle.turn_laws.specs.Holdings.{Actor, Draws, Holding, IsNew, IsOwned, Nothing}
 use Rattle.turn_laws.specs.Owned.{Lawful, Owned, Writes}
-use Rattle.turn_laws.specs.Places.{Ours, Place, Pooled, Theirs, column, is_place, place_of, pool_end, pool_next}
+use Rattle.turn_laws.specs.Places.{Ours, Place, Pooled, Theirs, column, is_place, place_of}
 use Rattle.turn_rules.specs.Held.{is_counter, is_named}
 
 pub is_place-true : (p q : Place) → is_place p q ≡ true → p ≡ q
@@ -47,12 +48,21 @@ pub failed_effect : (w : Actor) (p : Place) (asked : KeeperAsk) (why : KeeperFau
 failed_effect w (Ours spir c) (ask.Enter sa) why = refl
 failed_effect w (Ours spir c) (ask.TakeOver asked member) why = refl
 failed_effect w (Ours spir c) (ask.Cover asked kind child epoch upto) why = refl
+failed_effect w (Ours spir c) (ask.Lease pool count) why = refl
+failed_effect w (Ours spir c) (ask.Settle ticket asked sa member) why = refl
+failed_effect w (Ours spir c) (ask.Look ticket) why = refl
 failed_effect w (Pooled q) (ask.Enter sa) why = refl
 failed_effect w (Pooled q) (ask.TakeOver asked member) why = refl
 failed_effect w (Pooled q) (ask.Cover asked kind child epoch upto) why = refl
+failed_effect w (Pooled q) (ask.Lease pool count) why = refl
+failed_effect w (Pooled q) (ask.Settle ticket asked sa member) why = refl
+failed_effect w (Pooled q) (ask.Look ticket) why = refl
 failed_effect w (Theirs spir c) (ask.Enter sa) why = refl
 failed_effect w (Theirs spir c) (ask.TakeOver asked member) why = refl
 failed_effect w (Theirs spir c) (ask.Cover asked kind child epoch upto) why = refl
+failed_effect w (Theirs spir c) (ask.Lease pool count) why = refl
+failed_effect w (Theirs spir c) (ask.Settle ticket asked sa member) why = refl
+failed_effect w (Theirs spir c) (ask.Look ticket) why = refl
 
 module _ (acts : List Act) (old new : Book) (w : Actor) where
   module _ (rising : (p : Place) → IsRising (column p (lots_at p acts) old)) (ends : (p : Place) (h : Holding) → holding_at p acts w ≡ Some h → h.end ≡ (column p (lots_at p acts) old).end) where
@@ -177,6 +187,9 @@ module _ (acts : List Act) (old new : Book) (w : Actor) where
         by_test : (b : Bool) → (asked == spir) ≡ b → (if asked == spir then option_map (raised_at (counter_named kind child) upto) x else x) ≡ Some e → e.highs ≡ e.sa.starts
         by_test true t found = raised_case (eqb-true asked spir t) x is (rw t at found)
         by_test false t found = owned.starts spir e (is ∙ (rw t at found)) none
+    starts-entry spir (ask.Lease pool count) may granted x is e found none = owned.starts spir e (is ∙ found) none
+    starts-entry spir (ask.Settle ticket asked sa member) may granted x is e found none = absurd may
+    starts-entry spir (ask.Look ticket) may granted x is e found none = owned.starts spir e (is ∙ found) none
 
     starts-call : (call : Call) → MayAsk acts w call.asked → Enters old call new → (spir : ℕ) (e : Entry) → entry_of spir new.entries ≡ Some e → e.bases ≡ [] → e.highs ≡ e.sa.starts
     starts-call call may enters spir e found none = ⊎_elim
@@ -200,6 +213,9 @@ module _ (acts : List Act) (old new : Book) (w : Actor) where
         may-enter (ask.Enter sa) may = may
         may-enter (ask.TakeOver asked member) may = tt
         may-enter (ask.Cover asked kind child epoch upto) may = tt
+        may-enter (ask.Lease pool count) may = tt
+        may-enter (ask.Settle ticket asked sa member) may = may
+        may-enter (ask.Look ticket) may = tt
 
         had : AreImports old old
         had spir r is = let entry = entry-record (entry_of spir old.entries) r is in subst (λ x. IsImport x) entry.2 (owned.imported spir entry.0 entry.1)

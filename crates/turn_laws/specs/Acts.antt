@@ -4,6 +4,7 @@ use Rattle.std.specs.Prelude.{ℕ, ◌+◌, ◌≡◌, ◌≤◌, ◌==◌, Bool
 use Rattle.ha_base.specs.declared.limits.TheConstants.{LEAST_ESP_SPI, LEAST_SPI}
 use Rattle.keeper_book.specs.CounterEnds.{end_of}
 use Rattle.keeper_book.specs.Counters.{counter_named, five_at}
+use Rattle.keeper_book.specs.Pools.{pool_end}
 use Rattle.keeper_book.specs.Told.{seen}
 use Rattle.keeper_book.specs.declared.calls.Call.{Call}
 use Rattle.keeper_book.specs.declared.calls.KeeperAnswer.{KeeperAnswer}
@@ -11,10 +12,11 @@ use Rattle.keeper_book.specs.declared.calls.KeeperAnswer.TheVariants as answer
 use Rattle.keeper_book.specs.declared.calls.KeeperAsk.{KeeperAsk}
 use Rattle.keeper_book.specs.declared.calls.KeeperAsk.TheVariants as ask
 use Rattle.keeper_book.specs.declared.counters.Counter.{Counter}
+use Rattle.keeper_book.specs.declared.pools.Pool.{Pool}
 use Rattle.keeper_book.specs.declared.records.Record.{Record}
 use Rattle.keeper_book.specs.declared.records.Taken.{Taken}
 use Rattle.turn_laws.specs.Holdings.{Actor, Begins, Draws, Effect, Holding, MayUse, Nothing, Rises, Use, holding_after, uses_after}
-use Rattle.turn_laws.specs.Places.{NumberPool, Place, Ours, Pooled, Theirs, is_place, is_pool, place_of, pool_end, start_of}
+use Rattle.turn_laws.specs.Places.{Place, Ours, Pooled, Theirs, is_place, is_pool, place_of, start_of}
 use Rattle.turn_rules.specs.Held.{covered, granted}
 use Rattle.turn_rules.specs.Safe.{KeyIv}
 
@@ -27,7 +29,7 @@ pub data Move : Type 0 where
   Seals : (key : KeyIv) → Move
   -- The book leases a range of a pool, from a number on and so many. Where the caller saw it, the
   -- range is its lot, in place of an earlier one.
-  Leases : (pool : NumberPool) → (first count : ℕ) → (seen : Bool) → Move
+  Leases : (pool : Pool) → (first count : ℕ) → (seen : Bool) → Move
   -- a member ends
   Ends : Move
 
@@ -82,7 +84,7 @@ effect_of_use p None w n = Nothing
 effect_of_use p (Some q) w n = if is_place q p then Draws w n else Nothing
 
 -- a lot that was leased after so many: all its numbers may be used
-abbrev pub lot_begun : ℕ → NumberPool → ℕ → ℕ → Holding
+abbrev pub lot_begun : ℕ → Pool → ℕ → ℕ → Holding
 lot_begun before pool first count = record {
   epoch = before + 1;
   base = first;
@@ -92,7 +94,7 @@ lot_begun before pool first count = record {
 }
 
 -- what a lease does at a place, after these lots
-abbrev pub effect_of_lease : Place → List ℕ → Actor → NumberPool → ℕ → ℕ → Bool → Effect
+abbrev pub effect_of_lease : Place → List ℕ → Actor → Pool → ℕ → ℕ → Bool → Effect
 effect_of_lease (Pooled q) lots w pool first count true =
     if is_pool pool q then Begins w (lot_begun (length lots) pool first count) else Nothing
 effect_of_lease p lots w pool first count seen = Nothing
@@ -106,7 +108,7 @@ effect_of p lots w (Leases pool first count seen) = effect_of_lease p lots w poo
 effect_of p lots w Ends = Nothing
 
 -- where the lots of a pool begin that were seen, once one more is leased
-abbrev pub lots_leased : Place → NumberPool → ℕ → Bool → List ℕ → List ℕ
+abbrev pub lots_leased : Place → Pool → ℕ → Bool → List ℕ → List ℕ
 lots_leased (Pooled q) pool first true lots = if is_pool pool q then lots ++ first ∷ [] else lots
 lots_leased p pool first seen lots = lots
 
@@ -159,6 +161,8 @@ MayAsk acts w (ask.Cover spir kind child epoch upto) =
     MatchOption (counter_named kind child) ⊥ (λ c. MayCover
     (holding_at (Ours spir c) acts w) epoch upto)
 MayAsk acts w (ask.Enter sa) = IsImport sa
+-- no event has an end spend a ticket
+MayAsk acts w (ask.Settle ticket old_spir sa member) = ⊥
 MayAsk acts w asked = Unit {0}
 
 -- what a move needs beside the book

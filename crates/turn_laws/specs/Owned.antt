@@ -1,9 +1,9 @@
 -- The numbers of the book's epochs belong to one end each.
 use Rattle.std.specs.Prelude.{ℕ, ◌+◌, ◌≡◌, Some, List, [], ◌∷◌}
-use Rattle.keeper_book.specs.Book.{Book, Entry, Enters, empty, entry_of}
+use Rattle.keeper_book.specs.Book.{Book, Enters, Entry, empty, entry_of, pool_next, with_pool_next}
 use Rattle.turn_laws.specs.Acts.{Act, Calls, Ends, IsImport, Leases, MayDo, Move, Seals, Uses, holding_at, lots_at, uses_at}
 use Rattle.turn_laws.specs.Holdings.{IsOwned}
-use Rattle.turn_laws.specs.Places.{Place, column, pool_next, with_pool_next}
+use Rattle.turn_laws.specs.Places.{Place, column}
 
 pub record Owned (acts : List Act) (book : Book) : Type 0 where
   -- of every counter of every association, the cluster's and the peer's, and of each pool
