@@ -6,10 +6,10 @@ ghost use Rattle.keeper_book.specs.Counters.{AreWithinEnds, counter_named};
 ghost use Rattle.keeper_book.specs.Entries.{IsPlaceOf};
 ghost use Rattle.keeper_book.specs.Told.{IsRefusalOf, taken_answer};
 
-use crate::{MAX_EPOCHS, SETTLED_ANSWER_HIGH, SETTLED_IV_HIGH};
 use crate::counters::{Counter, Five};
 use crate::faults::KeeperFault;
 use crate::records::{Record, Taken};
+use crate::{MAX_EPOCHS, SETTLED_ANSWER_HIGH, SETTLED_IV_HIGH};
 use ha_base::Kind;
 use std::alloc::{AllocError, Global};
 use std::marker::Model;
@@ -56,8 +56,8 @@ impl Association {
         }
     }
 
-    /// An association that was resumed, in its first epoch, which this member owns. An error is want
-    /// of memory.
+    /// An association that was resumed, in its first epoch, which the member owns. An error is
+    /// want of memory.
     pub fn settled(alloc: Global, sa: &Record, member: u32) -> Result<Association, AllocError>
         ensures { IfOk result (λ a. a ≡ settled sa.now member) }
     {
