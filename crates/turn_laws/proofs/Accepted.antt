@@ -22,6 +22,7 @@ use Rattle.turn_laws.specs.Holdings.{IsNotIn}
 use Rattle.turn_laws.specs.Places.{Ours, Place, Theirs, is_place, place_of}
 use Rattle.turn_laws.specs.Turns.{acts_of}
 use Rattle.turn_rules.specs.Local.{Explained, Stands}
+use Rattle.turn_rules.specs.Slots.{peer_counter}
 use Rattle.turn_rules.specs.Safe.{IsEachOnce, Packet, accepted_as, accepted_in}
 
 pub no-packet : {X : Type 0} (packet : X) → None ≡ Some packet → ⊥
@@ -34,7 +35,7 @@ idle-packet verdict idle = refl
 -- an accepted packet, the place of its number, and that the turn used it
 pub record Noted (packet : Packet) (spends : Place → Option ℕ) : Type 0 where
   pub place : Place
-  pub named : place_of packet.name ≡ Some place
+  pub named : place_of packet.name ≡ place
   pub number : spends place ≡ Some packet.number
 
 module _ (event : Event) (step : Step) (packet : Packet) (accepted : accepted_as step.verdict ≡ Some packet) where
@@ -49,7 +50,7 @@ module _ (event : Event) (step : Step) (packet : Packet) (accepted : accepted_as
   packet-noted (Idle rests) = absurd (no-packet packet (sym (idle-packet step.verdict rests.idle) ∙ accepted))
   packet-noted (Over member said ends quiet) = absurd (no-packet packet (sym (ap accepted_as said) ∙ accepted))
   packet-noted (Ours_used u it) = spends-packet (Ours u.held.sa.spir u.c) u.number it.spends
-  packet-noted (Theirs_used u) = spends-packet (Theirs u.slot.sa.spir u.c) u.number u.spends
+  packet-noted (Theirs_used u) = spends-packet (Theirs (peer_counter u.slot.sa u.c)) u.number u.spends
 
 -- what holds of one number more, or none, holds of the others
 fewer-not_in : (n : ℕ) (number : Option ℕ) (ns : List ℕ) → IsNotIn n (cons_option number ns) → IsNotIn n ns
@@ -70,7 +71,7 @@ module _ (boxes : ℕ) (past : List Turn) (turn : Turn) (local : Explained boxes
 
 -- a number that is in no use of a place is that of no packet there
 abbrev IsOther : Place → ℕ → Packet → Type 0
-IsOther p n packet = place_of packet.name ≡ Some p → packet.number ≢ n
+IsOther p n packet = place_of packet.name ≡ p → packet.number ≢ n
 
 not-accepted : (p : Place) (n : ℕ) (boxes : ℕ) (past : List Turn) → Explained boxes past → IsNotIn n (numbers_at p (acts_of past)) → AllByRecursion (IsOther p n) (filter_map accepted_in past)
 not-accepted p n boxes [] local none = tt
@@ -80,7 +81,7 @@ not-accepted p n boxes (turn ∷ past) local none = by_packet (accepted_in turn)
     other : (packet : Packet) → accepted_in turn ≡ Some packet → IsOther p n packet
     other packet is named =
         let noted : Noted packet (λ q. spent q (outcome boxes past turn local)) = packet-noted turn.event turn.step packet is (outcome boxes past turn local) in
-        let here : noted.place ≡ p = same_Some noted.place p (sym noted.named ∙ named) in
+        let here : noted.place ≡ p = sym noted.named ∙ named in
         let spends : spent p (outcome boxes past turn local) ≡ Some packet.number = ap (λ q. spent q (outcome boxes past turn local)) (sym here) ∙ noted.number in
         (subst (λ ns. IsNotIn n ns) (numbers-with boxes past turn local p packet.number spends) none).0
 

@@ -1,12 +1,15 @@
 -- Of whole runs: where each turn is explained and the book stands for the calls, all is owned.
-use Rattle.std.proofs.Common.{◌≡◌, ℕ, ◌-◌, ◌<◌, ◌≤◌, Some, List, [], ◌∷◌, ◌++◌, map, refl, sym, ◌∙◌, subst, arith}
+use Rattle.std.proofs.Common.{◌≡◌, ℕ, ◌-◌, ◌<◌, ◌≤◌, false, Some, List, [], ◌∷◌, ◌++◌, map, refl, sym, ◌∙◌, subst, arith}
 use Rattle.std.specs.List.{AllByRecursion, filter_map}
 use Rattle.events.specs.declared.seals.Seal.{Seal}
 use Rattle.events.specs.declared.turn.Turn.{Turn}
 use Rattle.keeper_book.specs.Book.{Book, EntersAll, empty}
 use Rattle.keeper_book.specs.Counters.{five_at}
+use Rattle.keeper_book.specs.declared.calls.Call.{Call}
 use Rattle.keeper_book.specs.declared.counters.Counter.{Counter}
 use Rattle.keeper_book.specs.declared.counters.Counter.TheVariants as counter
+use Rattle.turn_laws.proofs.Acting.{MayDoMoves, moves-all, moves_onto}
+use Rattle.turn_laws.proofs.Deeds.{NoneStarted}
 use Rattle.turn_laws.proofs.Lists.{all-append, all-each}
 use Rattle.turn_laws.proofs.Moves.{IsUseOrEnd, are-uses}
 use Rattle.turn_laws.proofs.Numbers.{counters-hold}
@@ -17,27 +20,56 @@ use Rattle.turn_laws.proofs.Tells.{Tells, tells}
 use Rattle.turn_laws.proofs.Opened.{peer-may}
 use Rattle.turn_laws.proofs.Told.{told-held}
 use Rattle.turn_laws.proofs.Well.{deed-well}
-use Rattle.turn_laws.specs.Acts.{Leases, Calls, Ends, MayDoAll, Move, Seals, Uses, holding_at, numbers_at, acts_onto, uses_at}
+use Rattle.turn_laws.specs.Acts.{Calls, Ends, Leaps, Leases, MayDoAll, Move, Opens, Seals, Starts, Uses, column_at, holding_at, numbers_at, starts_name, uses_at}
 use Rattle.turn_laws.specs.Columns.{column_mark}
 use Rattle.turn_laws.specs.Holdings.{End, Holding, IsOwned}
 use Rattle.turn_laws.specs.Owned.{Lawful, Owned}
-use Rattle.turn_laws.specs.Places.{Ours, Place, column}
-use Rattle.turn_laws.specs.Turns.{actor_of, acts_of, key_iv, moves_of, uses_of}
+use Rattle.turn_laws.specs.Places.{Ours, Place}
+use Rattle.turn_laws.specs.Turns.{actor_of, acts_in, acts_of, key_iv, moves_of, uses_of}
 use Rattle.turn_rules.specs.Ends.{Member, own}
 use Rattle.turn_rules.specs.Held.{Held, held_by, number_of, window_by}
 use Rattle.turn_rules.specs.Local.{IsByRule, Explained, Stands, calls_of}
 use Rattle.turn_rules.specs.Safe.{IsEachOnce}
 
+-- no event begins an association of the peer by a resumption
+none-started : (past : List Turn) → NoneStarted (acts_of past)
+none-started [] name = tt
+none-started (turn ∷ past) name = moves-all (λ move. starts_name name move ≡ false) (actor_of turn) (moves_of turn) (acts_of past)
+    (of_calls turn.calls (uses_of turn.event turn.step.verdict ++ map (λ seal. Seals (key_iv seal)) turn.step.seals)
+    (all-append (λ move. starts_name name move ≡ false) (uses_of turn.event turn.step.verdict) (map (λ seal. Seals (key_iv seal)) turn.step.seals) (all-each (uses_of turn.event turn.step.verdict) of_use (are-uses turn.event turn.step.verdict)) (of_seals turn.step.seals)))
+    (none-started past name)
+  where
+    of_use : (move : Move) → IsUseOrEnd move → starts_name name move ≡ false
+    of_use (Uses place n) is = refl
+    of_use Ends is = refl
+    of_use (Calls call) is = absurd is
+    of_use (Seals key) is = absurd is
+    of_use (Leases pool first count seen) is = absurd is
+    of_use (Leaps place n) is = absurd is
+    of_use (Opens sa) is = absurd is
+    of_use (Starts sa) is = absurd is
+
+    of_seals : (seals : List Seal) → AllByRecursion (λ move. starts_name name move ≡ false) (map (λ seal. Seals (key_iv seal)) seals)
+    of_seals [] = tt
+    of_seals (seal ∷ seals) = (refl, of_seals seals)
+
+    of_calls : (calls : List Call) (rest : List Move) → AllByRecursion (λ move. starts_name name move ≡ false) rest → AllByRecursion (λ move. starts_name name move ≡ false) (map Calls calls ++ rest)
+    of_calls [] rest all = all
+    of_calls (call ∷ calls) rest all = (refl, of_calls calls rest all)
+
 -- the moves of a turn that is explained may be made
-pub turn-well : (boxes : ℕ) (past : List Turn) (turn : Turn) → IsByRule boxes past turn → Explained boxes past → MayDoAll (acts_of past) (actor_of turn) (moves_of turn)
-turn-well boxes past turn explained local = deed-well past (acts_of past) (told-held boxes past local) (peer-may boxes past local) turn.event turn.calls turn.step (deed-of boxes past turn explained local)
+pub turn-well : (boxes : ℕ) (past : List Turn) (turn : Turn) → IsByRule boxes past turn → Explained boxes past → MayDoAll (acts_of past) (acts_in turn)
+turn-well boxes past turn explained local = deed-well past (acts_of past) (told-held boxes past local) (peer-may boxes past local) (none-started past) turn.event turn.calls turn.step (deed-of boxes past turn explained local)
 
 use-leaves : (move : Move) → IsUseOrEnd move → LeavesBook move
-use-leaves (Calls call) is book = absurd is
-use-leaves (Uses place n) is book = refl
-use-leaves (Seals key) is book = absurd is
-use-leaves (Leases pool first count seen) is book = absurd is
-use-leaves Ends is book = refl
+use-leaves (Uses place n) is = λ book. refl
+use-leaves Ends is = λ book. refl
+use-leaves (Calls call) is = absurd is
+use-leaves (Seals key) is = absurd is
+use-leaves (Leases pool first count seen) is = absurd is
+use-leaves (Leaps place n) is = absurd is
+use-leaves (Opens sa) is = absurd is
+use-leaves (Starts sa) is = absurd is
 
 seals-leave : (seals : List Seal) → AllByRecursion LeavesBook (map (λ seal. Seals (key_iv seal)) seals)
 seals-leave [] = tt
@@ -49,10 +81,10 @@ lawful-run boxes [] book local stands = stands
 lawful-run boxes (turn ∷ past) book local stands =
     let parts : (mid : Book) × EntersAll empty (calls_of past) mid × EntersAll mid turn.calls book = enters_all-append (calls_of past) turn.calls empty book stands in
     let rest : List Move = uses_of turn.event turn.step.verdict ++ map (λ seal. Seals (key_iv seal)) turn.step.seals in
-    let may : MayDoAll (acts_of past) (actor_of turn) (map Calls turn.calls) × MayDoAll (acts_onto (actor_of turn) (map Calls turn.calls) (acts_of past)) (actor_of turn) rest =
+    let may : MayDoMoves (acts_of past) (actor_of turn) (map Calls turn.calls) × MayDoMoves (moves_onto (actor_of turn) (map Calls turn.calls) (acts_of past)) (actor_of turn) rest =
     may_do-append (actor_of turn) (map Calls turn.calls) rest (acts_of past) (turn-well boxes past turn local.0 local.1) in
     subst (λ acts. Lawful acts book) (sym (onto-append (actor_of turn) (map Calls turn.calls) rest (acts_of past)))
-    (lawful-quiet (actor_of turn) rest (acts_onto (actor_of turn) (map Calls turn.calls) (acts_of past)) book
+    (lawful-quiet (actor_of turn) rest (moves_onto (actor_of turn) (map Calls turn.calls) (acts_of past)) book
     (all-append LeavesBook (uses_of turn.event turn.step.verdict) (map (λ seal. Seals (key_iv seal)) turn.step.seals) (all-each (uses_of turn.event turn.step.verdict) use-leaves (are-uses turn.event turn.step.verdict)) (seals-leave turn.step.seals))
     (lawful-calls (actor_of turn) turn.calls (acts_of past) parts.0 book (lawful-run boxes past parts.0 local.1 parts.1) parts.2 may.0)
     may.1)
@@ -80,7 +112,7 @@ module _ (boxes : ℕ) (past : List Turn) (book : Book) (local : Explained boxes
   of_k : (c : Counter) → (x : Holding) × Tells (own (Member k) past) spir c g x × (holding_at (Ours spir c) (acts_of past) (End (Member k)) ≡ Some x)
   of_k c = held-tells boxes past local k spir g other c
 
-  owned_at : (c : Counter) → IsOwned (holding_at (Ours spir c) (acts_of past)) (uses_at (Ours spir c) (acts_of past)) (column (Ours spir c) [] book)
+  owned_at : (c : Counter) → IsOwned (holding_at (Ours spir c) (acts_of past)) (uses_at (Ours spir c) (acts_of past)) (column_at (Ours spir c) (acts_of past) book)
   owned_at c = (owned-run boxes past book local stands).numbers (Ours spir c)
 
   -- two members that hold an association hold different epochs
@@ -98,9 +130,9 @@ module _ (boxes : ℕ) (past : List Turn) (book : Book) (local : Explained boxes
   highs-below earlier c =
       let a = of_m c in
       let b = of_k c in
-      let below : a.0.high ≤ column_mark (column (Ours spir c) [] book) a.0.epoch = ((owned_at c).holdings (End (Member m)) a.0 a.2).high in
-      let rises : column_mark (column (Ours spir c) [] book) a.0.epoch ≤ column_mark (column (Ours spir c) [] book) (b.0.epoch - 1) = (owned_at c).rising a.0.epoch (b.0.epoch - 1) (let p : a.0.epoch ≡ h.epoch = a.1.epoch in let q : b.0.epoch ≡ g.epoch = b.1.epoch in omega arith) in
-      let base : column_mark (column (Ours spir c) [] book) (b.0.epoch - 1) ≡ b.0.base = ((owned_at c).holdings (End (Member k)) b.0 b.2).base in
+      let below : a.0.high ≤ column_mark (column_at (Ours spir c) (acts_of past) book) a.0.epoch = ((owned_at c).holdings (End (Member m)) a.0 a.2).high in
+      let rises : column_mark (column_at (Ours spir c) (acts_of past) book) a.0.epoch ≤ column_mark (column_at (Ours spir c) (acts_of past) book) (b.0.epoch - 1) = (owned_at c).rising a.0.epoch (b.0.epoch - 1) (let p : a.0.epoch ≡ h.epoch = a.1.epoch in let q : b.0.epoch ≡ g.epoch = b.1.epoch in omega arith) in
+      let base : column_mark (column_at (Ours spir c) (acts_of past) book) (b.0.epoch - 1) ≡ b.0.base = ((owned_at c).holdings (End (Member k)) b.0 b.2).base in
       let high : a.0.high ≡ five_at h.highs c = a.1.high in
       let low : b.0.base ≡ five_at g.bases c = b.1.base in
       omega arith

@@ -19,13 +19,13 @@ use Rattle.keeper_book.specs.declared.calls.KeeperAnswer.TheVariants as answer
 use Rattle.keeper_book.specs.declared.calls.KeeperAsk.TheVariants as ask
 use Rattle.keeper_book.specs.declared.records.Record.{Record}
 use Rattle.keeper_book.specs.declared.records.Taken.{Taken}
-use Rattle.turn_laws.specs.PeerTurns.{came}
 use Rattle.turn_laws.proofs.Deeds.{says-rests, Asked, Deed, IsIdle, Rested}
-use Rattle.turn_laws.specs.Acts.{IsImport, entered_at}
+use Rattle.turn_laws.specs.Acts.{IsImport, entered_as}
 use Rattle.turn_rules.specs.Draws.{Admits, EntersRecord, Grants, TakesOver, refusal_of_import, refusal_of_takeover}
 use Rattle.turn_rules.specs.Fits.{Quietly, Refuses, Yields, is_importable}
 use Rattle.turn_rules.specs.Held.{granted}
 use Rattle.turn_rules.specs.Peers.{record_entered}
+use Rattle.turn_rules.specs.Slots.{peer_counter}
 
 admits-idle : (answered : KeeperAnswer) (verdict : Verdict) → Admits answered verdict → IsIdle verdict
 admits-idle answer.Done verdict a = subst (λ v. IsIdle v) (sym a) tt
@@ -39,16 +39,16 @@ admits-idle (answer.Refused why) verdict a = go (refusal_of_import why) a
     go (Some r) a = subst (λ v. IsIdle v) (sym a) tt
 
 -- an import that is entered brings its record to the peer
-admits-entry : (sa : Record) (spir : ℕ) (answered : KeeperAnswer) (verdict : Verdict) → Admits answered verdict → entered_at spir (ask.Enter sa) answered ≡ came spir (record_entered (event.Import sa) verdict)
-admits-entry sa spir answer.Done verdict a = sym (ap (λ v. came spir (record_entered (event.Import sa) v)) a)
-admits-entry sa spir (answer.Taken taken) verdict a = absurd a
-admits-entry sa spir (answer.First first) verdict a = absurd a
-admits-entry sa spir (answer.Look spent) verdict a = absurd a
-admits-entry sa spir (answer.Refused why) verdict a = go (refusal_of_import why) a
+admits-entry : (sa : Record) (answered : KeeperAnswer) (verdict : Verdict) → Admits answered verdict → entered_as (ask.Enter sa) answered ≡ record_entered (event.Import sa) verdict
+admits-entry sa answer.Done verdict a = sym (ap (λ v. record_entered (event.Import sa) v) a)
+admits-entry sa (answer.Taken taken) verdict a = absurd a
+admits-entry sa (answer.First first) verdict a = absurd a
+admits-entry sa (answer.Look spent) verdict a = absurd a
+admits-entry sa (answer.Refused why) verdict a = go (refusal_of_import why) a
   where
-    go : (x : Option Refusal) → MatchOption x ⊥ (λ r. verdict ≡ out.Refused r) → None ≡ came spir (record_entered (event.Import sa) verdict)
+    go : (x : Option Refusal) → MatchOption x ⊥ (λ r. verdict ≡ out.Refused r) → None ≡ record_entered (event.Import sa) verdict
     go None a = absurd a
-    go (Some r) a = sym (ap (λ v. came spir (record_entered (event.Import sa) v)) a)
+    go (Some r) a = sym (ap (λ v. record_entered (event.Import sa) v) a)
 
 refused-entry : (event : Event) (why : Refusal) → record_entered event (out.Refused why) ≡ None
 refused-entry (event.Import sa) why = refl
@@ -107,9 +107,9 @@ module _ (past : List Turn) (step : Step) where
       go (call ∷ []) e = Asked (record {
         call = call;
         one = refl;
-        may = λ acts w. rw e.0 (importable-is sa importable);
+        may = λ acts w none. rw e.0 (importable-is sa importable, λ c. none (peer_counter sa c));
         own_record = λ spir taken is. absurd (not_granted spir taken (rw e.0 at is));
-        entry = λ spir. ap (λ asked. entered_at spir asked (seen call)) e.0 ∙ admits-entry sa spir (seen call) step.verdict e.1;
+        entry = ap (λ asked. entered_as asked (seen call)) e.0 ∙ admits-entry sa (seen call) step.verdict e.1;
         rests = record { idle = admits-idle (seen call) step.verdict e.1; quiet = quietly.quiet };
       })
         where
@@ -125,8 +125,8 @@ module _ (past : List Turn) (step : Step) where
       go (call ∷ []) t = Asked (record {
         call = call;
         one = refl;
-        may = λ acts w. rw t.0 tt;
-        entry = λ other. ap (λ asked. entered_at other asked (seen call)) t.0;
+        may = λ acts w none. rw t.0 tt;
+        entry = ap (λ asked. entered_as asked (seen call)) t.0;
         own_record = λ other taken is. grants-record spir member (seen call) step.verdict t.1 other taken (rw t.0 at is);
         rests = record { idle = grants-idle spir (seen call) step.verdict t.1; quiet = quietly.quiet };
       })

@@ -20,12 +20,12 @@ use Rattle.keeper_book.specs.declared.faults.KeeperFault.TheVariants as fault
 use Rattle.keeper_book.specs.declared.records.Record.{Record}
 use Rattle.keeper_book.specs.declared.records.Taken.{Taken}
 use Rattle.turn_laws.proofs.Columns.{goes_on-higher, goes_on-refl, mark-high}
-use Rattle.turn_laws.proofs.Entries.{entry_after, entry-entered, five_at-with_five, goes_on-ours, goes_on-theirs, is_counter-same, new-taken_over, new-theirs}
-use Rattle.turn_laws.specs.Acts.{holding_begun, begun_theirs}
-use Rattle.turn_laws.specs.Columns.{ColumnGoesOn, IsRising, column_mark}
-use Rattle.turn_laws.specs.Holdings.{Actor, Holding, IsNew}
+use Rattle.turn_laws.proofs.Entries.{IsFreeFor, entry_after, entry-entered, five_at-with_five, goes_on-ours, is_counter-same, new-taken_over}
+use Rattle.turn_laws.specs.Acts.{holding_begun}
+use Rattle.turn_laws.specs.Columns.{Column, ColumnGoesOn, IsRising, column_mark}
+use Rattle.turn_laws.specs.Holdings.{IsNew}
 use Rattle.turn_laws.proofs.Pools.{pool-entered}
-use Rattle.turn_laws.specs.Places.{Ours, Place, Pooled, Theirs, column, column_ours, column_theirs}
+use Rattle.turn_laws.specs.Places.{Ours, Place, Pooled, Theirs, column, column_ours}
 use Rattle.turn_rules.specs.Held.{first_some}
 
 -- the book is as it was, or has the entry of a call that is not refused
@@ -45,17 +45,22 @@ answers-entry old new asked (answer.Refused fault.Failed) a = ⊎_elim (λ same.
 answers-entry old new asked (answer.Refused fault.Memory) a = inl a.2
 answers-entry old new asked answered a = after-entry old new asked a.1
 
+-- what is half open stands in the way of no call
+abbrev pub IsFree : Place → KeeperAsk → Column → Type 0
+IsFree (Ours spir c) asked begun = IsFreeFor c asked spir begun
+IsFree p asked begun = Unit {0}
+
 module _ (old : Book) (asked : KeeperAsk) where
-  column-entered : (p : Place) (lots : List ℕ) → IsRising (column p lots old) → ColumnGoesOn (column p lots old) (column p lots (book_entered old asked))
-  column-entered (Ours spir c) lots rising = subst (λ o. ColumnGoesOn (column (Ours spir c) [] old) (column_ours c o)) (sym (entry-entered spir old asked)) (goes_on-ours c spir asked (entry_of spir old.entries) rising)
-  column-entered (Theirs spir c) lots rising = subst (λ o. ColumnGoesOn (column (Theirs spir c) [] old) (column_theirs c o)) (sym (entry-entered spir old asked)) (goes_on-theirs c spir asked (entry_of spir old.entries) rising)
-  column-entered (Pooled q) lots rising = goes_on-higher (column (Pooled q) lots old) (pool_next q (book_entered old asked)) rising (pool-entered q old asked)
+  column-entered : (p : Place) (begun : Column) → IsFree p asked begun → IsRising (column p begun old) → ColumnGoesOn (column p begun old) (column p begun (book_entered old asked))
+  column-entered (Ours spir c) begun free rising = subst (λ o. ColumnGoesOn (column (Ours spir c) begun old) (column_ours c begun o)) (sym (entry-entered spir old asked)) (goes_on-ours c begun spir asked free (entry_of spir old.entries) rising)
+  column-entered (Theirs name) begun free rising = goes_on-refl begun rising
+  column-entered (Pooled q) begun free rising = goes_on-higher (column (Pooled q) begun old) (pool_next q (book_entered old asked)) rising (pool-entered q old asked)
 
 -- Whatever a call is answered, every column goes on.
-pub column-goes_on : (old new : Book) (asked : KeeperAsk) (answered : KeeperAnswer) → Answers old asked answered new → (p : Place) (lots : List ℕ) → IsRising (column p lots old) → ColumnGoesOn (column p lots old) (column p lots new)
-column-goes_on old new asked answered a p lots rising = ⊎_elim
-    (λ same. subst (λ b. ColumnGoesOn (column p lots old) (column p lots b)) (sym same) (goes_on-refl (column p lots old) rising))
-    (λ has. subst (λ b. ColumnGoesOn (column p lots old) (column p lots b)) (sym has.is) (column-entered old asked p lots rising))
+pub column-goes_on : (old new : Book) (asked : KeeperAsk) (answered : KeeperAnswer) → Answers old asked answered new → (p : Place) (begun : Column) → IsFree p asked begun → IsRising (column p begun old) → ColumnGoesOn (column p begun old) (column p begun new)
+column-goes_on old new asked answered a p begun free rising = ⊎_elim
+    (λ same. subst (λ b. ColumnGoesOn (column p begun old) (column p begun b)) (sym same) (goes_on-refl (column p begun old) rising))
+    (λ has. subst (λ b. ColumnGoesOn (column p begun old) (column p begun b)) (sym has.is) (column-entered old asked p begun free rising))
     (answers-entry old new asked answered a)
 
 -- what a takeover that was granted shows
@@ -70,7 +75,7 @@ shows-taken taken (Some e) None is = record { entry = e; found = refl; granted =
 shows-taken taken None None is = absurd (cc)
 shows-taken taken x (Some why) is = absurd (cc)
 
-shows-done : (r : Option KeeperFault) → answer.Done ≡ unless_refused r answer.Refused answer.Done → r ≡ None
+pub shows-done : (r : Option KeeperFault) → answer.Done ≡ unless_refused r answer.Refused answer.Done → r ≡ None
 shows-done None is = refl
 shows-done (Some why) is = absurd (cc)
 
@@ -100,7 +105,7 @@ none-shared sa (e ∷ es) none = go (or_parts (shares_spi sa e) (list_any (share
         let differs : (e.sa.spir == sa.spir) ≡ false = (or_parts (e.sa.spir == sa.spir) (e.sa.spi_in == sa.spi_in) parts.0).0 in
         rw differs (rest parts.1)
 
-shows-entered : (sa : Record) (es : List Entry) → enter_refusal sa es ≡ None → entry_of sa.spir es ≡ None
+pub shows-entered : (sa : Record) (es : List Entry) → enter_refusal sa es ≡ None → entry_of sa.spir es ≡ None
 shows-entered sa es none = by_test (list_any (shares_spi sa) es) refl none
   where
     by_test : (b : Bool) → list_any (shares_spi sa) es ≡ b → when b fault.SpiInUse (when (nat_le MAX_ASSOCIATIONS (length es)) (fault.Full MAX_ASSOCIATIONS) None) ≡ None → entry_of sa.spir es ≡ None
@@ -108,15 +113,15 @@ shows-entered sa es none = by_test (list_any (shares_spi sa) es) refl none
     by_test false t none = none-shared sa es t
 
 -- the book has the entry where a call was granted
-after-granted : (old new : Book) (asked : KeeperAsk) → refusal old asked ≡ None → new ≡ book_after old asked → new ≡ book_entered old asked
+pub after-granted : (old new : Book) (asked : KeeperAsk) → refusal old asked ≡ None → new ≡ book_after old asked → new ≡ book_entered old asked
 after-granted old new asked granted is = is ∙ ap (λ r. unless_refused r (λ why. old) (book_entered old asked)) granted
 
-module _ (old new : Book) (held : Actor → Option Holding) (w : Actor) where
+module _ (old new : Book) (begun : Column) where
   -- a takeover that was granted begins a holding of a new epoch
-  pub keeps-taken : (spir : ℕ) (c : Counter) (member : ℕ) (taken : Taken) → Answers old (ask.TakeOver spir member) (answer.Taken taken) new → IsNew (column (Ours spir c) [] old) (column (Ours spir c) [] new) (holding_begun c taken)
+  pub keeps-taken : (spir : ℕ) (c : Counter) (member : ℕ) (taken : Taken) → Answers old (ask.TakeOver spir member) (answer.Taken taken) new → IsNew (column (Ours spir c) begun old) (column (Ours spir c) begun new) (holding_begun c taken)
   keeps-taken spir c member taken a = go (shows-taken taken (entry_of spir old.entries) (refusal old (ask.TakeOver spir member)) a.0)
     where
-      go : ShowsTaken taken (entry_of spir old.entries) (refusal old (ask.TakeOver spir member)) → IsNew (column (Ours spir c) [] old) (column (Ours spir c) [] new) (holding_begun c taken)
+      go : ShowsTaken taken (entry_of spir old.entries) (refusal old (ask.TakeOver spir member)) → IsNew (column (Ours spir c) begun old) (column (Ours spir c) begun new) (holding_begun c taken)
       go shows =
           let here : (spir == spir) ≡ true = eq-eqb spir spir refl in
           let now : entry_of spir new.entries ≡ Some (taken_over member shows.entry) =
@@ -124,43 +129,29 @@ module _ (old new : Book) (held : Actor → Option Holding) (w : Actor) where
           ∙ (entry-entered spir old (ask.TakeOver spir member)
           ∙ (ap (λ b. if b then option_map (taken_over member) (entry_of spir old.entries) else entry_of spir old.entries) here
           ∙ ap (option_map (taken_over member)) shows.found)) in
-          subst (λ o. IsNew (column (Ours spir c) [] old) (column_ours c o) (holding_begun c taken)) (sym now)
-          (subst (λ o. IsNew (column_ours c o) (column_ours c (Some (taken_over member shows.entry))) (holding_begun c taken)) (sym shows.found)
-          (subst (λ t. IsNew (column_ours c (Some shows.entry)) (column_ours c (Some (taken_over member shows.entry))) (holding_begun c t)) (sym shows.is)
+          subst (λ o. IsNew (column (Ours spir c) begun old) (column_ours c begun o) (holding_begun c taken)) (sym now)
+          (subst (λ o. IsNew (column_ours c begun o) (column_ours c begun (Some (taken_over member shows.entry))) (holding_begun c taken)) (sym shows.found)
+          (subst (λ t. IsNew (column_ours c begun (Some shows.entry)) (column_ours c begun (Some (taken_over member shows.entry))) (holding_begun c t)) (sym shows.is)
           (new-taken_over c member shows.entry)))
 
-  -- an association that was entered begins what the peer holds
-  pub keeps-entered : (sa : Record) (c : Counter) → Answers old (ask.Enter sa) answer.Done new → IsNew (column (Theirs sa.spir c) [] old) (column (Theirs sa.spir c) [] new) (begun_theirs c sa)
-  keeps-entered sa c a =
-      let granted : refusal old (ask.Enter sa) ≡ None = shows-done (refusal old (ask.Enter sa)) a.0 in
-      let was : entry_of sa.spir old.entries ≡ None = shows-entered sa old.entries granted in
-      let here : (sa.spir == sa.spir) ≡ true = eq-eqb sa.spir sa.spir refl in
-      let now : entry_of sa.spir new.entries ≡ Some (fresh sa) =
-      ap (λ (b : Book). entry_of sa.spir b.entries) (after-granted old new (ask.Enter sa) granted a.1)
-      ∙ (entry-entered sa.spir old (ask.Enter sa)
-      ∙ (ap (λ o. first_some o (if sa.spir == sa.spir then Some (fresh sa) else None)) was
-      ∙ ap (λ b. if b then Some (fresh sa) else None) here)) in
-      subst (λ o. IsNew (column (Theirs sa.spir c) [] old) (column_theirs c o) (begun_theirs c sa)) (sym now)
-      (subst (λ o. IsNew (column_theirs c o) (column_theirs c (Some (fresh sa))) (begun_theirs c sa)) (sym was) (new-theirs c sa))
-
   -- a cover that was granted leaves no lower high
-  pub keeps-covered : (spir : ℕ) (c : Counter) (asked : KeeperAsk) (named : Option Counter) (epoch upto : ℕ) → refusal old asked ≡ cover_refusal (entry_of spir old.entries) named epoch → named ≡ Some c → entry_after spir asked (entry_of spir old.entries) ≡ option_map (raised_at named upto) (entry_of spir old.entries) → upto ≤ (column (Ours spir c) [] old).end → answer.Done ≡ unless_refused (refusal old asked) answer.Refused answer.Done → new ≡ book_after old asked → upto ≤ column_mark (column (Ours spir c) [] new) epoch
+  pub keeps-covered : (spir : ℕ) (c : Counter) (asked : KeeperAsk) (named : Option Counter) (epoch upto : ℕ) → refusal old asked ≡ cover_refusal (entry_of spir old.entries) named epoch → named ≡ Some c → entry_after spir asked (entry_of spir old.entries) ≡ option_map (raised_at named upto) (entry_of spir old.entries) → upto ≤ (column (Ours spir c) begun old).end → answer.Done ≡ unless_refused (refusal old asked) answer.Refused answer.Done → new ≡ book_after old asked → upto ≤ column_mark (column (Ours spir c) begun new) epoch
   keeps-covered spir c asked named epoch upto refused is edits below answered enters =
       let granted : refusal old asked ≡ None = shows-done (refusal old asked) answered in
       go granted (shows-covered (entry_of spir old.entries) named epoch (sym refused ∙ granted))
     where
-      go : refusal old asked ≡ None → ShowsCovered (entry_of spir old.entries) named epoch → upto ≤ column_mark (column (Ours spir c) [] new) epoch
+      go : refusal old asked ≡ None → ShowsCovered (entry_of spir old.entries) named epoch → upto ≤ column_mark (column (Ours spir c) begun new) epoch
       go granted shows =
-          let inside : upto ≤ end_of shows.entry.sa c = subst (λ o. upto ≤ (column_ours c o).end) shows.found below in
+          let inside : upto ≤ end_of shows.entry.sa c = subst (λ o. upto ≤ (column_ours c begun o).end) shows.found below in
           let now : entry_of spir new.entries ≡ Some (entry_raised c upto shows.entry) =
           ap (λ (b : Book). entry_of spir b.entries) (after-granted old new asked granted enters)
           ∙ (entry-entered spir old asked
           ∙ (edits
           ∙ (ap (option_map (raised_at named upto)) shows.found
           ∙ ap (λ d. Some (raised_at d upto shows.entry)) is))) in
-          let top : column_mark (column_ours c (Some (entry_raised c upto shows.entry))) epoch ≡ five_at (entry_raised c upto shows.entry).highs c =
-          mark-high (column_ours c (Some (entry_raised c upto shows.entry))) epoch (let a : length (map (λ five. five_at five c) shows.entry.bases) ≡ length shows.entry.bases = length-map shows.entry.bases (λ five. five_at five c) in let b : epoch ≡ length shows.entry.bases = shows.is_last in omega arith) in
+          let top : column_mark (column_ours c begun (Some (entry_raised c upto shows.entry))) epoch ≡ five_at (entry_raised c upto shows.entry).highs c =
+          mark-high (column_ours c begun (Some (entry_raised c upto shows.entry))) epoch (let a : length (map (λ five. five_at five c) shows.entry.bases) ≡ length shows.entry.bases = length-map shows.entry.bases (λ five. five_at five c) in let b : epoch ≡ length shows.entry.bases = shows.is_last in omega arith) in
           let high : five_at (entry_raised c upto shows.entry).highs c ≡ max (five_at shows.entry.highs c) (min upto (end_of shows.entry.sa c)) =
           five_at-with_five c c (max (five_at shows.entry.highs c) (min upto (end_of shows.entry.sa c))) shows.entry.highs
           ∙ ap (λ b. if b then max (five_at shows.entry.highs c) (min upto (end_of shows.entry.sa c)) else five_at shows.entry.highs c) (is_counter-same c) in
-          subst (λ o. upto ≤ column_mark (column_ours c o) epoch) (sym now) (omega arith)
+          subst (λ o. upto ≤ column_mark (column_ours c begun o) epoch) (sym now) (omega arith)

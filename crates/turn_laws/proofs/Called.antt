@@ -3,7 +3,8 @@ use Rattle.std.proofs.Common.{List, [], ◌∷◌, ◌++◌, map}
 use Rattle.std.specs.List.{AllByRecursion}
 use Rattle.events.specs.declared.turn.Turn.{Turn}
 use Rattle.keeper_book.specs.declared.calls.Call.{Call}
-use Rattle.turn_laws.specs.Acts.{Act, Calls, Move, Seals, acts_onto}
+use Rattle.turn_laws.proofs.Acting.{moves_onto}
+use Rattle.turn_laws.specs.Acts.{Act, Calls, Move, Seals, act_by}
 use Rattle.turn_laws.specs.Holdings.{Actor}
 use Rattle.turn_laws.specs.Turns.{actor_of, acts_of, key_iv, moves_of, uses_of}
 
@@ -15,10 +16,10 @@ module _ (P : Call → Type 0) where
   abbrev pub HoldOfCalls : List Act → Type 0
   HoldOfCalls acts = AllByRecursion (λ act. IfCall act.move) acts
 
-  onto-hold : (w : Actor) (moves : List Move) (acts : List Act) → HoldOfCalls (acts_onto w moves acts) → AllByRecursion IfCall moves × HoldOfCalls acts
+  onto-hold : (w : Actor) (moves : List Move) (acts : List Act) → HoldOfCalls (moves_onto w moves acts) → AllByRecursion IfCall moves × HoldOfCalls acts
   onto-hold w [] acts all = (tt, all)
   onto-hold w (move ∷ moves) acts all =
-      let rest : AllByRecursion IfCall moves × HoldOfCalls (record { by = w; move = move } ∷ acts) = onto-hold w moves (record { by = w; move = move } ∷ acts) all in
+      let rest : AllByRecursion IfCall moves × HoldOfCalls (act_by w (move) ∷ acts) = onto-hold w moves (act_by w (move) ∷ acts) all in
       ((rest.1.0, rest.0), rest.1.1)
 
   calls-first : (calls : List Call) (rest : List Move) → AllByRecursion IfCall (map Calls calls ++ rest) → AllByRecursion P calls

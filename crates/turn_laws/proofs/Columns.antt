@@ -8,6 +8,13 @@ use Rattle.turn_laws.specs.Columns.{Column, ColumnGoesOn, IsRising, column_mark,
 pub mark-high : (column : Column) (i : ℕ) → length column.bases ≤ i → column_mark column i ≡ column.high
 mark-high column i past = get_or_past column.bases i column.high past
 
+-- and no epoch is above it
+pub mark-top : (column : Column) → IsRising column → (i : ℕ) → i ≤ length column.bases → column_mark column i ≤ column.high
+mark-top column rising i l =
+    let a : column_mark column i ≤ column_mark column (length column.bases) = rising i (length column.bases) l in
+    let b : column_mark column (length column.bases) ≡ column.high = mark-high column (length column.bases) (omega arith) in
+    omega arith
+
 -- an epoch that began ends no lower
 pub mark-goes_on : (old new : Column) → ColumnGoesOn old new → (i : ℕ) → i ≤ length old.bases → column_mark old i ≤ column_mark new i
 mark-goes_on old new goes i within = ⊎_elim before last (cases_lt i (length old.bases))

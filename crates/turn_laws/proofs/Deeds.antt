@@ -1,10 +1,11 @@
 -- What a turn may be: it makes no call or one, a member ends, or a number of a member or of the peer is used.
-use Rattle.std.proofs.Common.{◌≡◌, ℕ, ◌<◌, Bool, Some, None, List, [], ◌∷◌, ◌++◌, map, sym, subst}
+use Rattle.std.proofs.Common.{◌≡◌, ℕ, ◌<◌, Bool, Option, Some, None, List, [], ◌∷◌, ◌++◌, map, sym, subst}
 use Rattle.events.specs.declared.event.Event.{Event}
 use Rattle.events.specs.declared.turn.Step.{Step}
 use Rattle.events.specs.declared.turn.Turn.{Turn}
 use Rattle.events.specs.declared.verdict.Verdict.{Verdict}
 use Rattle.events.specs.declared.verdict.Verdict.TheVariants as out
+use Rattle.ha_base.specs.declared.counter_names.CounterName.{CounterName}
 use Rattle.horizons.specs.Ready.{Ready}
 use Rattle.keeper_book.specs.CounterEnds.{end_of}
 use Rattle.keeper_book.specs.Counters.{five_at}
@@ -15,18 +16,17 @@ use Rattle.keeper_book.specs.declared.counters.Counter.TheVariants as counter
 use Rattle.keeper_book.specs.declared.records.Taken.{Taken}
 use Rattle.replay_set.specs.Window.{judged}
 use Rattle.replay_set.specs.declared.judgement.Judgement.TheVariants.{Fresh}
-use Rattle.turn_laws.specs.PeerTurns.{came, number_theirs}
 use Rattle.turn_laws.proofs.Uses.{IsUse, number_at}
-use Rattle.turn_laws.specs.Acts.{Act, MayAsk, Move, Seals, entered_at}
+use Rattle.turn_laws.specs.Acts.{Act, IsUnstarted, MayAsk, Move, Seals, entered_as}
 use Rattle.turn_laws.specs.Holdings.{Actor}
 use Rattle.turn_laws.specs.Places.{Ours, Place, Theirs, place_of}
 use Rattle.turn_laws.specs.Turns.{key_iv, number_taken, uses_of}
 use Rattle.turn_rules.specs.Draws.{reach_of}
 use Rattle.turn_rules.specs.Ends.{Member, Peer, own, performer_at}
-use Rattle.turn_rules.specs.Held.{Held, granted, held_by, used, window_by}
+use Rattle.turn_rules.specs.Held.{Held, granted, held_by, received, used, window_by}
 use Rattle.turn_rules.specs.Peers.{record_entered}
 use Rattle.turn_rules.specs.Safe.{Packet, accepted_as}
-use Rattle.turn_rules.specs.Slots.{Slot, first_slot, slots_by}
+use Rattle.turn_rules.specs.Slots.{Slot, first_slot, peer_counter, sent, slots_by}
 use Rattle.turn_rules.specs.States.{ended_by}
 use Rattle.turn_rules.specs.Steps.{IsQuiet, Says}
 
@@ -41,6 +41,19 @@ IsIdle verdict = Unit {0}
 -- the moves of a turn beside its calls
 abbrev pub rest_of : Event → Step → List Move
 rest_of event step = uses_of event step.verdict ++ map (λ seal. Seals (key_iv seal)) step.seals
+
+-- the number of the peer's counter of the association that an event used
+abbrev pub number_theirs : ℕ → Counter → Event → Verdict → Option ℕ
+number_theirs spir counter.EspOut event verdict = sent spir event verdict
+number_theirs spir counter.EspIn event verdict = received spir event verdict
+number_theirs spir c event verdict = None
+
+abbrev pub number_theirs_of : ℕ → Counter → Turn → Option ℕ
+number_theirs_of spir c turn = number_theirs spir c turn.event turn.step.verdict
+
+-- no association was begun by a resumption
+abbrev pub NoneStarted : List Act → Type 0
+NoneStarted acts = (name : CounterName) → IsUnstarted name acts
 
 -- what a call grants is a record with the SPI that was asked for
 abbrev pub HasItsRecord : Call → Type 0
@@ -69,7 +82,7 @@ IsOpenTo slot c n = ⊥
 pub record Spends (place : Place) (n : ℕ) (event : Event) (step : Step) : Type 0 where
   pub served : step.served ≡ None
   pub uses_it : IsUse place n (rest_of event step)
-  pub of_packet : (packet : Packet) → accepted_as step.verdict ≡ Some packet → (place_of packet.name ≡ Some place) × (packet.number ≡ n)
+  pub of_packet : (packet : Packet) → accepted_as step.verdict ≡ Some packet → (place_of packet.name ≡ place) × (packet.number ≡ n)
 
 -- a number of the association is used, and own turns tell it
 pub record UsesIt (spir : ℕ) (c : Counter) (n : ℕ) (event : Event) (step : Step) : Type 0 where
@@ -99,18 +112,18 @@ pub record PeerUses (past : List Turn) (event : Event) (calls : List Call) (step
   pub is_first : first_slot test (slots_by (window_by past) (own Peer past)) ≡ Some slot
   pub is_open : IsOpenTo slot c number
   pub no_calls : calls ≡ []
-  pub spends : Spends (Theirs slot.sa.spir c) number event step
+  pub spends : Spends (Theirs (peer_counter slot.sa c)) number event step
   pub not_ours : (spir : ℕ) (d : Counter) → used spir d event step.verdict ≡ None
-  pub told : (other : ℕ) (d : Counter) → number_theirs other d event step.verdict ≡ number_at (Theirs other d) (Theirs slot.sa.spir c) number
+  pub told : (other : ℕ) (d : Counter) → number_theirs other d event step.verdict ≡ number_at (Ours other d) (Ours slot.sa.spir c) number
   pub no_entry : record_entered event step.verdict ≡ None
 
 -- one call is made that asks for no number
 pub record Asks (event : Event) (calls : List Call) (step : Step) : Type 0 where
   pub call : Call
   pub one : calls ≡ call ∷ []
-  pub may : (acts : List Act) (w : Actor) → MayAsk acts w call.asked
+  pub may : (acts : List Act) (w : Actor) → NoneStarted acts → MayAsk acts w call.asked
   pub own_record : HasItsRecord call
-  pub entry : (spir : ℕ) → entered_at spir call.asked (seen call) ≡ came spir (record_entered event step.verdict)
+  pub entry : entered_as call.asked (seen call) ≡ record_entered event step.verdict
   pub rests : Rests step
 
 pub data Deed (past : List Turn) (event : Event) (calls : List Call) (step : Step) : Type 0 where

@@ -6,6 +6,7 @@ use Rattle.std.specs.List.{AllByRecursion, filter_map}
 use Rattle.std.specs.Option.{option_map}
 use Rattle.events.specs.declared.seals.Seal.{Seal}
 use Rattle.events.specs.declared.turn.Turn.{Turn}
+use Rattle.ha_base.specs.declared.counter_names.CounterName.{CounterName}
 use Rattle.keeper_book.specs.Book.{Book}
 use Rattle.keeper_book.specs.CounterEnds.{end_of}
 use Rattle.keeper_book.specs.Counters.{AreWithinEnds, counter_named, five_at}
@@ -20,16 +21,20 @@ use Rattle.keeper_book.specs.declared.counters.Counter.{Counter}
 use Rattle.keeper_book.specs.declared.counters.Counter.TheVariants as counter
 use Rattle.keeper_book.specs.declared.faults.KeeperFault.TheVariants as fault
 use Rattle.keeper_book.specs.declared.pools.Pool.{Pool}
+use Rattle.keeper_book.specs.declared.pools.Pool.TheVariants as pools
+use Rattle.keeper_book.specs.declared.records.Record.{Record}
 use Rattle.keeper_book.specs.declared.records.Taken.{Taken}
+use Rattle.turn_laws.proofs.Acting.{MayDoMoves, moves_onto}
 use Rattle.turn_laws.proofs.All.{owned-run, turn-well}
 use Rattle.turn_laws.proofs.Holdings.{is_actor-true}
 use Rattle.turn_laws.proofs.Lists.{all-append, all-both, all-each}
 use Rattle.turn_laws.proofs.Moves.{IsUseOrEnd, are-uses}
 use Rattle.turn_laws.proofs.Numbers.{counters-hold}
-use Rattle.turn_laws.proofs.Safety.{failed_effect, is_place-true, named-counter}
-use Rattle.turn_laws.specs.Acts.{Leases, effect_of_lease, lot_begun, lots_at, Act, Calls, Ends, HoldsFor, MayAsk, MayCover, MayDo, MayDoAll, Move, Seals, Uses, acts_onto, effect_of, effect_of_call, effect_of_use, effect_ours, effect_theirs, holding_at, numbers_at, uses_at}
-use Rattle.turn_laws.specs.Holdings.{Passes, Actor, Begins, Draws, Effect, Holding, Nothing, Rises, Use, drawn, holding_after, is_actor, raised_to, use_end, uses_after}
-use Rattle.turn_laws.specs.Places.{Pooled, is_pool, Ours, Place, Theirs, column, end_at, is_place, place_of}
+use Rattle.turn_laws.proofs.Safety.{begun-is, failed_effect, is_place-true, named-counter, opened-is}
+use Rattle.turn_laws.specs.Acts.{Act, Calls, Ends, HoldsFor, Leaps, Leases, MayAsk, MayCover, MayDo, Move, Opens, Seals, Starts, Uses, act_by, begun_at, begun_leased, begun_named, begun_open, begun_started, effect_begun, effect_of, effect_of_call, effect_of_open, effect_of_use, effect_ours, end_at, half_begun, holding_at, lot_begun, numbers_at, uses_at}
+use Rattle.turn_laws.specs.Columns.{Column}
+use Rattle.turn_laws.specs.Holdings.{Passes, Actor, Begins, Draws, Effect, Half, Holding, Jumps, Nothing, Rises, Use, drawn, holding_after, is_actor, jumped_to, raised_to, use_end, uses_after}
+use Rattle.turn_laws.specs.Places.{Pooled, is_pool, Ours, Place, Theirs, is_place, place_of}
 use Rattle.turn_laws.specs.Turns.{actor_of, acts_of, key_iv, moves_of, uses_of}
 use Rattle.turn_rules.specs.Held.{is_named, number_of}
 use Rattle.turn_rules.specs.Local.{Explained, Stands}
@@ -46,6 +51,7 @@ abbrev KeepsEnds : Effect → (Actor → Option Holding) → Type 0
 KeepsEnds Nothing held = Unit {0}
 KeepsEnds (Begins w h) held = h.high ≤ h.end
 KeepsEnds (Rises w upto) held = (h : Holding) → held w ≡ Some h → upto ≤ h.end
+KeepsEnds (Jumps w n) held = Unit {0}
 KeepsEnds (Passes w v) held = Unit {0}
 KeepsEnds (Draws w n) held = (h : Holding) × (held w ≡ Some h) × (n < h.high)
 
@@ -68,6 +74,15 @@ highs-after held (Rises w upto) within keeps v g is = by_test (is_actor w v) ref
     by_test : (b : Bool) → is_actor w v ≡ b → (if b then option_map (raised_to upto) (held v) else held v) ≡ Some g → g.high ≤ g.end
     by_test true t is = raised (held v) refl (ap held (is_actor-true w v t)) is
     by_test false t is = within v g is
+highs-after held (Jumps w n) within keeps v g is = by_test (is_actor w v) is
+  where
+    jumped : (x : Option Holding) → held v ≡ x → option_map (jumped_to n) x ≡ Some g → g.high ≤ g.end
+    jumped None e is = absurd (cc)
+    jumped (Some h) e is = subst (λ (x : Holding). x.high ≤ x.end) (same_Some (jumped_to n h) g is) (within v h e)
+
+    by_test : (b : Bool) → (if b then option_map (jumped_to n) (held v) else held v) ≡ Some g → g.high ≤ g.end
+    by_test true is = jumped (held v) refl is
+    by_test false is = within v g is
 highs-after held (Passes w u) within keeps v g is = by_test (is_actor u v) (is_actor w v) is
   where
     by_test : (b c : Bool) → (if b then held w else (if c then None else held v)) ≡ Some g → g.high ≤ g.end
@@ -104,7 +119,18 @@ bases-within taken counter.Iv within = within.iv
 bases-within taken counter.Ask within = within.ask
 bases-within taken counter.Answer within = within.answer
 
+within-named : (name : CounterName) (sa : Record) (h : Holding) → begun_named name sa ≡ Some h → h.high ≤ h.end
+within-named name sa h is = subst (λ (x : Holding). x.high ≤ x.end) (sym (begun-is name sa h is).is) (omega arith)
+
+half-within : (sa : Record) → (half_begun sa).high ≤ (half_begun sa).end
+half-within sa = omega arith
+
 module _ (acts : List Act) (w : Actor) where
+  -- what begins does not pass the end
+  ends-begun : (p : Place) (v : Actor) (x : Option Holding) → ((h : Holding) → x ≡ Some h → h.high ≤ h.end) → KeepsEnds (effect_begun v x) (holding_at p acts)
+  ends-begun p v None within = tt
+  ends-begun p v (Some h) within = within h refl
+
   ends-answered : (p : Place) (asked : KeeperAsk) (answered : KeeperAnswer) → MayAsk acts w asked → IsAnswerOf asked answered → KeepsEnds (effect_of_call p w asked answered) (holding_at p acts)
   ends-answered (Ours spir c) (ask.TakeOver asked member) (answer.Taken taken) may is = by_test (asked == spir)
     where
@@ -124,11 +150,7 @@ module _ (acts : List Act) (w : Actor) where
       by_test : (b : Bool) → ((asked == spir) && is_named c (counter_named kind child)) ≡ b → KeepsEnds (effect_ours w c None (if b then Some upto else None)) (holding_at (Ours spir c) acts)
       by_test true t = covers t
       by_test false t = tt
-  ends-answered (Theirs spir c) (ask.Enter sa) answer.Done may is = by_test (sa.spir == spir)
-    where
-      by_test : (b : Bool) → KeepsEnds (effect_theirs w c (if b then Some sa else None)) (holding_at (Theirs spir c) acts)
-      by_test true = let least : end_of sa c ≤ end_of sa c = omega arith in least
-      by_test false = tt
+  ends-answered (Theirs name) (ask.Enter sa) answer.Done may is = ends-begun (Theirs name) w (begun_named name sa) (within-named name sa)
   ends-answered p asked answered may is = tt
 
   ends-call : (p : Place) (call : Call) → MayAsk acts w call.asked → IsAnswerOf call.asked call.answer → KeepsEnds (effect_of_call p w call.asked (seen call)) (holding_at p acts)
@@ -138,7 +160,7 @@ module _ (acts : List Act) (w : Actor) where
       by_test true t = rw t (subst (λ e. KeepsEnds e (holding_at p acts)) (failed_effect w p call.asked fault.Failed) tt)
       by_test false t = rw t (ends-answered p call.asked call.answer may is)
 
-  ends-use : (p q : Place) (n : ℕ) → HoldsFor (holding_at q acts w) n → KeepsEnds (effect_of_use p (Some q) w n) (holding_at p acts)
+  ends-use : (p q : Place) (n : ℕ) → HoldsFor (holding_at q acts w) n → KeepsEnds (effect_of_use p q w n) (holding_at p acts)
   ends-use p q n may = by_test (is_place q p) refl
     where
       by_test : (b : Bool) → is_place q p ≡ b → KeepsEnds (if b then Draws w n else Nothing) (holding_at p acts)
@@ -147,25 +169,41 @@ module _ (acts : List Act) (w : Actor) where
           (here.holding, here.holds, here.may.below_high)
       by_test false t = tt
 
-  ends-seal : (p : Place) (place : Option Place) (n : ℕ) → MatchOption place ⊥ (λ q. HoldsFor (holding_at q acts w) n) → KeepsEnds (effect_of_use p place w n) (holding_at p acts)
-  ends-seal p None n may = tt
-  ends-seal p (Some q) n may = ends-use p q n may
-
-  ends-lease : (p : Place) (lots : List ℕ) (pool : Pool) (first count : ℕ) (seen : Bool) → first + count ≤ pool_end pool → KeepsEnds (effect_of_lease p lots w pool first count seen) (holding_at p acts)
-  ends-lease (Ours spir c) lots pool first count seen below = tt
-  ends-lease (Theirs spir c) lots pool first count seen below = tt
-  ends-lease (Pooled q) lots pool first count false below = tt
-  ends-lease (Pooled q) lots pool first count true below = by_test (is_pool pool q)
+  ends-leap : (p q : Place) (n : ℕ) → KeepsEnds (if is_place q p then Jumps w n else Nothing) (holding_at p acts)
+  ends-leap p q n = by_test (is_place q p)
     where
-      by_test : (b : Bool) → KeepsEnds (if b then Begins w (lot_begun (length lots) pool first count) else Nothing) (holding_at (Pooled q) acts)
-      by_test true = below
+      by_test : (b : Bool) → KeepsEnds (if b then Jumps w n else Nothing) (holding_at p acts)
+      by_test true = tt
       by_test false = tt
 
-  ends-move : (p : Place) (move : Move) → MayDo acts w move → IsAnswered move → KeepsEnds (effect_of p (lots_at p acts) w move) (holding_at p acts)
+  within-leased : (p : Place) (begun : Column) (pool : Pool) (first count : ℕ) (seen : Bool) → first + count ≤ pool_end pool → (h : Holding) → begun_leased p begun pool first count seen ≡ Some h → h.high ≤ h.end
+  within-leased (Ours spir c) begun pool first count seen below h is = absurd (cc)
+  within-leased (Theirs name) begun pool first count seen below h is = absurd (cc)
+  within-leased (Pooled q) begun pool first count false below h is = absurd (cc)
+  within-leased (Pooled q) begun pool first count true below h is = by_test (is_pool pool q) is
+    where
+      by_test : (b : Bool) → (if b then Some (lot_begun (length begun.bases) pool first count) else None) ≡ Some h → h.high ≤ h.end
+      by_test true is = subst (λ (x : Holding). x.high ≤ x.end) (same_Some (lot_begun (length begun.bases) pool first count) h is) below
+      by_test false is = absurd (cc)
+
+  within-started : (p : Place) (sa : Record) (h : Holding) → begun_started p sa ≡ Some h → h.high ≤ h.end
+  within-started (Ours spir c) sa h is = absurd (cc)
+  within-started (Pooled q) sa h is = absurd (cc)
+  within-started (Theirs name) sa h is = within-named name sa h is
+
+  ends-open : (p : Place) (sa : Record) → HoldsFor (holding_at (Pooled pools.Nonce) acts w) sa.spir → KeepsEnds (effect_of_open p w sa) (holding_at p acts)
+  ends-open (Pooled q) sa may = ends-use (Pooled q) (Pooled pools.Nonce) sa.spir may
+  ends-open (Theirs name) sa may = tt
+  ends-open (Ours spir c) sa may = ends-begun (Ours spir c) (Half sa.spir) (begun_open (Ours spir c) sa) (λ h is. subst (λ (x : Holding). x.high ≤ x.end) (sym (opened-is (Ours spir c) sa h is).is) (half-within sa))
+
+  ends-move : (p : Place) (move : Move) → MayDo acts w move → IsAnswered move → KeepsEnds (effect_of p (begun_at p acts) w move) (holding_at p acts)
   ends-move p (Calls call) may is = ends-call p call may is
   ends-move p (Uses q n) may is = ends-use p q n may
-  ends-move p (Seals key) may is = ends-seal p (place_of key.name) key.iv may
-  ends-move p (Leases pool first count seen) may is = ends-lease p (lots_at p acts) pool first count seen may
+  ends-move p (Seals key) may is = ends-use p (place_of key.name) key.iv may
+  ends-move p (Leases pool first count seen) may is = ends-begun p w (begun_leased p (begun_at p acts) pool first count seen) (within-leased p (begun_at p acts) pool first count seen may)
+  ends-move p (Leaps q n) may is = ends-leap p q n
+  ends-move p (Opens sa) may is = ends-open p sa may
+  ends-move p (Starts sa) may is = ends-begun p w (begun_started p sa) (within-started p sa)
   ends-move p Ends may is = tt
 
 -- so it is after these acts
@@ -173,13 +211,13 @@ record WithinEnds (p : Place) (acts : List Act) : Type 0 where
   pub highs : HighsWithin (holding_at p acts)
   pub uses : AllByRecursion IsBelowEnd (uses_at p acts)
 
-moves-within : (p : Place) (w : Actor) (moves : List Move) (acts : List Act) → MayDoAll acts w moves → AllByRecursion IsAnswered moves → WithinEnds p acts → WithinEnds p (acts_onto w moves acts)
+moves-within : (p : Place) (w : Actor) (moves : List Move) (acts : List Act) → MayDoMoves acts w moves → AllByRecursion IsAnswered moves → WithinEnds p acts → WithinEnds p (moves_onto w moves acts)
 moves-within p w [] acts may answered within = within
 moves-within p w (move ∷ moves) acts may answered within =
-    let keeps : KeepsEnds (effect_of p (lots_at p acts) w move) (holding_at p acts) = ends-move acts w p move may.0 answered.0 in
-    moves-within p w moves (record { by = w; move = move } ∷ acts) may.1 answered.1 (record {
-      highs = highs-after (holding_at p acts) (effect_of p (lots_at p acts) w move) within.highs keeps;
-      uses = below-after (holding_at p acts) (uses_at p acts) (effect_of p (lots_at p acts) w move) within.highs keeps within.uses;
+    let keeps : KeepsEnds (effect_of p (begun_at p acts) w move) (holding_at p acts) = ends-move acts w p move may.0 answered.0 in
+    moves-within p w moves (act_by w move ∷ acts) may.1 answered.1 (record {
+      highs = highs-after (holding_at p acts) (effect_of p (begun_at p acts) w move) within.highs keeps;
+      uses = below-after (holding_at p acts) (uses_at p acts) (effect_of p (begun_at p acts) w move) within.highs keeps within.uses;
     })
 
 -- the calls of a turn are answered so
@@ -192,6 +230,9 @@ use-answered (Calls call) is = absurd is
 use-answered (Uses place n) is = tt
 use-answered (Seals key) is = tt
 use-answered (Leases pool first count seen) is = absurd is
+use-answered (Leaps place n) is = absurd is
+use-answered (Opens sa) is = absurd is
+use-answered (Starts sa) is = absurd is
 use-answered Ends is = tt
 
 seals-answered : (seals : List Seal) → AllByRecursion IsAnswered (map (λ seal. Seals (key_iv seal)) seals)
@@ -222,15 +263,10 @@ numbers-below : (end : ℕ) (uses : List Use) → AllByRecursion (λ u. u.number
 numbers-below end [] all = tt
 numbers-below end (u ∷ us) all = (all.0, numbers-below end us all.1)
 
-end-same : (p : Place) (lots : List ℕ) (book : Book) → (column p lots book).end ≡ end_at p book
-end-same (Ours spir c) lots book = refl
-end-same (Theirs spir c) lots book = refl
-end-same (Pooled q) lots book = refl
-
-pub numbers-end : (boxes : ℕ) (past : List Turn) (book : Book) → Explained boxes past → Stands past book → (p : Place) → AllByRecursion (λ n. n < end_at p book) (numbers_at p (acts_of past))
-numbers-end boxes past book local stands p = numbers-below (end_at p book) (uses_at p (acts_of past))
-    (all-both (uses_at p (acts_of past)) (λ u of below. let a : u.end ≡ end_at p book = of.end ∙ end-same p (lots_at p (acts_of past)) book in let b : u.number < u.end = below in let c : u.number < end_at p book = omega arith in c)
+pub numbers-end : (boxes : ℕ) (past : List Turn) (book : Book) → Explained boxes past → Stands past book → (p : Place) → AllByRecursion (λ n. n < end_at p (acts_of past) book) (numbers_at p (acts_of past))
+numbers-end boxes past book local stands p = numbers-below (end_at p (acts_of past) book) (uses_at p (acts_of past))
+    (all-both (uses_at p (acts_of past)) (λ u of below. let a : u.end ≡ end_at p (acts_of past) book = of.end in let b : u.number < u.end = below in let c : u.number < end_at p (acts_of past) book = omega arith in c)
     ((owned-run boxes past book local stands).numbers p).within (uses-end boxes past local p))
 
-pub counters-end : (boxes : ℕ) (past : List Turn) (book : Book) → Explained boxes past → Stands past book → (spir : ℕ) (c : Counter) → AllByRecursion (λ n. n < end_at (Ours spir c) book) (filter_map (number_of spir c) past)
-counters-end boxes past book local stands spir c = counters-hold (λ ns. AllByRecursion (λ n. n < end_at (Ours spir c) book) ns) tt boxes past local spir c (numbers-end boxes past book local stands (Ours spir c))
+pub counters-end : (boxes : ℕ) (past : List Turn) (book : Book) → Explained boxes past → Stands past book → (spir : ℕ) (c : Counter) → AllByRecursion (λ n. n < end_at (Ours spir c) (acts_of past) book) (filter_map (number_of spir c) past)
+counters-end boxes past book local stands spir c = counters-hold (λ ns. AllByRecursion (λ n. n < end_at (Ours spir c) (acts_of past) book) ns) tt boxes past local spir c (numbers-end boxes past book local stands (Ours spir c))

@@ -4,7 +4,7 @@ use Rattle.std.proofs.lemmas.Bool.{eqb-true, eqb-false}
 use Rattle.std.proofs.lemmas.List.{length-map, map-append}
 use Rattle.std.specs.Option.{option_map}
 use Rattle.keeper_book.proofs.EntryLemmas.{entry_of-edit_other, entry_of-edit_same}
-use Rattle.keeper_book.specs.Book.{Book, Entry, book_entered, closed, edit_at, entry_of, entry_raised, fresh, raised_at, settled, settled_highs, taken_over}
+use Rattle.keeper_book.specs.Book.{Book, Entry, book_entered, closed, edit_at, entry_of, entry_raised, fresh, raised_at, settled, taken_over}
 use Rattle.keeper_book.specs.CounterEnds.{end_of}
 use Rattle.keeper_book.specs.Counters.{counter_named, five_at, with_five}
 use Rattle.keeper_book.specs.declared.calls.KeeperAsk.{KeeperAsk}
@@ -13,11 +13,12 @@ use Rattle.keeper_book.specs.declared.counters.Counter.{Counter}
 use Rattle.keeper_book.specs.declared.counters.Counter.TheVariants as counter
 use Rattle.keeper_book.specs.declared.counters.Five.{Five}
 use Rattle.keeper_book.specs.declared.records.Record.{Record}
-use Rattle.turn_laws.proofs.Columns.{goes_on-epoch, goes_on-first, goes_on-higher, goes_on-refl, length-append_one, mark-high, mark-with_epoch, rising-none, rising-one, with_epoch}
-use Rattle.turn_laws.specs.Acts.{holding_begun, begun_theirs}
+use Rattle.turn_laws.proofs.Columns.{goes_on-epoch, goes_on-first, goes_on-higher, goes_on-refl, length-append_one, mark-high, mark-with_epoch, rising-none, with_epoch}
+use Rattle.turn_laws.proofs.Holdings.{IsFirstHolding}
+use Rattle.turn_laws.specs.Acts.{begun_theirs, holding_begun}
 use Rattle.turn_laws.specs.Columns.{Column, ColumnGoesOn, IsRising, column_mark, nothing}
 use Rattle.turn_laws.specs.Holdings.{IsNew}
-use Rattle.turn_laws.specs.Places.{column_ours, column_theirs, mirrored, start_of}
+use Rattle.turn_laws.specs.Places.{column_ours, mirrored, start_of}
 use Rattle.turn_rules.specs.Held.{first_some, is_counter}
 
 -- what a call makes of the association of a responder's SPI
@@ -98,19 +99,14 @@ end-mirrored sa counter.Iv = refl
 end-mirrored sa counter.Ask = refl
 end-mirrored sa counter.Answer = refl
 
--- what is settled is covered from the starts on
-settled_high : (starts : Five) (c : Counter) → five_at starts c ≤ five_at (settled_highs starts) c
-settled_high starts counter.EspOut = omega arith
-settled_high starts counter.EspIn = omega arith
-settled_high starts counter.Iv = omega arith
-settled_high starts counter.Ask = omega arith
-settled_high starts counter.Answer = omega arith
-
-start_within : (sa : Record) (c : Counter) → start_of sa c ≤ end_of sa c
-start_within sa c = subst (λ n. start_of sa c ≤ n) (end-mirrored sa c) (within_end sa (mirrored c))
+pub first-theirs : (sa : Record) (c : Counter) → IsFirstHolding (begun_theirs c sa)
+first-theirs sa c = record { epoch = refl; rising = start_within sa c; from_base = omega arith; unused = refl }
+  where
+    start_within : (sa : Record) (c : Counter) → start_of sa c ≤ end_of sa c
+    start_within sa c = subst (λ n. start_of sa c ≤ n) (end-mirrored sa c) (within_end sa (mirrored c))
 
 module _ (c : Counter) where
-  column-taken_over : (member : ℕ) (e : Entry) → column_ours c (Some (taken_over member e)) ≡ with_epoch (column_ours c (Some e))
+  column-taken_over : (member : ℕ) (e : Entry) → column_ours c nothing (Some (taken_over member e)) ≡ with_epoch (column_ours c nothing (Some e))
   column-taken_over member e i = record { bases = map-append (λ (five : Five). five_at five c) e.bases (e.highs ∷ []) i; high = five_at e.highs c; end = end_of e.sa c }
 
   raised_high : (d : Counter) (upto : ℕ) (e : Entry) → five_at e.highs c ≤ five_at (entry_raised d upto e).highs c
@@ -126,90 +122,44 @@ module _ (c : Counter) where
           let is : five_at (entry_raised d upto e).highs c ≡ five_at e.highs c = five_at-with_five d c (max (five_at e.highs d) (min upto (end_of e.sa d))) e.highs ∙ rw t in
           omega arith
 
-  goes_on-raised : (d : Option Counter) (upto : ℕ) (e : Entry) → IsRising (column_ours c (Some e)) → ColumnGoesOn (column_ours c (Some e)) (column_ours c (Some (raised_at d upto e)))
-  goes_on-raised None upto e rising = goes_on-refl (column_ours c (Some e)) rising
-  goes_on-raised (Some d) upto e rising = goes_on-higher (column_ours c (Some e)) (five_at (entry_raised d upto e).highs c) rising (raised_high d upto e)
+  goes_on-raised : (d : Option Counter) (upto : ℕ) (e : Entry) → IsRising (column_ours c nothing (Some e)) → ColumnGoesOn (column_ours c nothing (Some e)) (column_ours c nothing (Some (raised_at d upto e)))
+  goes_on-raised None upto e rising = goes_on-refl (column_ours c nothing (Some e)) rising
+  goes_on-raised (Some d) upto e rising = goes_on-higher (column_ours c nothing (Some e)) (five_at (entry_raised d upto e).highs c) rising (raised_high d upto e)
 
-  goes_on-taken_over : (member : ℕ) (e : Entry) → IsRising (column_ours c (Some e)) → ColumnGoesOn (column_ours c (Some e)) (column_ours c (Some (taken_over member e)))
-  goes_on-taken_over member e rising = subst (λ col. ColumnGoesOn (column_ours c (Some e)) col) (sym (column-taken_over member e)) (goes_on-epoch (column_ours c (Some e)) rising)
+  goes_on-taken_over : (member : ℕ) (e : Entry) → IsRising (column_ours c nothing (Some e)) → ColumnGoesOn (column_ours c nothing (Some e)) (column_ours c nothing (Some (taken_over member e)))
+  goes_on-taken_over member e rising = subst (λ col. ColumnGoesOn (column_ours c nothing (Some e)) col) (sym (column-taken_over member e)) (goes_on-epoch (column_ours c nothing (Some e)) rising)
 
-  -- the cluster's column goes on
-  pub goes_on-ours : (spir : ℕ) (asked : KeeperAsk) (old : Option Entry) → IsRising (column_ours c old) → ColumnGoesOn (column_ours c old) (column_ours c (entry_after spir asked old))
-  goes_on-ours spir (ask.Enter sa) (Some e) rising = goes_on-refl (column_ours c (Some e)) rising
-  goes_on-ours spir (ask.Enter sa) None rising = by_test (sa.spir == spir)
+  -- The cluster's column goes on, where nothing is half open under the SPI of what is entered.
+  abbrev pub IsFreeFor : KeeperAsk → ℕ → Column → Type 0
+  IsFreeFor (ask.Enter sa) spir begun = sa.spir ≡ spir → begun ≡ nothing
+  IsFreeFor (ask.Settle ticket asked sa member) spir begun = ⊥
+  IsFreeFor asked spir begun = Unit {0}
+
+  pub goes_on-ours : (begun : Column) (spir : ℕ) (asked : KeeperAsk) → IsFreeFor asked spir begun → (old : Option Entry) → IsRising (column_ours c begun old) → ColumnGoesOn (column_ours c begun old) (column_ours c begun (entry_after spir asked old))
+  goes_on-ours begun spir (ask.Enter sa) free (Some e) rising = goes_on-refl (column_ours c begun (Some e)) rising
+  goes_on-ours begun spir (ask.Enter sa) free None rising = by_test (sa.spir == spir) refl
     where
-      by_test : (b : Bool) → ColumnGoesOn nothing (column_ours c (if b then Some (fresh sa) else None))
-      by_test true = goes_on-first (column_ours c (Some (fresh sa))) (rising-none (five_at sa.starts c) (end_of sa c))
-      by_test false = goes_on-refl nothing (rising-none 0 0)
-  goes_on-ours spir (ask.TakeOver asked member) old rising = by_test (asked == spir) old rising
+      by_test : (b : Bool) → (sa.spir == spir) ≡ b → ColumnGoesOn begun (column_ours c begun (if b then Some (fresh sa) else None))
+      by_test true t = subst (λ column. ColumnGoesOn column (column_ours c begun (Some (fresh sa)))) (sym (free (eqb-true sa.spir spir t))) (goes_on-first (column_ours c begun (Some (fresh sa))) (rising-none (five_at sa.starts c) (end_of sa c)))
+      by_test false t = goes_on-refl begun rising
+  goes_on-ours begun spir (ask.TakeOver asked member) free old rising = by_test (asked == spir) old rising
     where
-      by_test : (b : Bool) (old : Option Entry) → IsRising (column_ours c old) → ColumnGoesOn (column_ours c old) (column_ours c (if b then option_map (taken_over member) old else old))
-      by_test false old rising = goes_on-refl (column_ours c old) rising
-      by_test true None rising = goes_on-refl nothing rising
+      by_test : (b : Bool) (old : Option Entry) → IsRising (column_ours c begun old) → ColumnGoesOn (column_ours c begun old) (column_ours c begun (if b then option_map (taken_over member) old else old))
+      by_test false old rising = goes_on-refl (column_ours c begun old) rising
+      by_test true None rising = goes_on-refl begun rising
       by_test true (Some e) rising = goes_on-taken_over member e rising
-  goes_on-ours spir (ask.Cover asked kind child epoch upto) old rising = by_test (asked == spir) old rising
+  goes_on-ours begun spir (ask.Cover asked kind child epoch upto) free old rising = by_test (asked == spir) old rising
     where
-      by_test : (b : Bool) (old : Option Entry) → IsRising (column_ours c old) → ColumnGoesOn (column_ours c old) (column_ours c (if b then option_map (raised_at (counter_named kind child) upto) old else old))
-      by_test false old rising = goes_on-refl (column_ours c old) rising
-      by_test true None rising = goes_on-refl nothing rising
+      by_test : (b : Bool) (old : Option Entry) → IsRising (column_ours c begun old) → ColumnGoesOn (column_ours c begun old) (column_ours c begun (if b then option_map (raised_at (counter_named kind child) upto) old else old))
+      by_test false old rising = goes_on-refl (column_ours c begun old) rising
+      by_test true None rising = goes_on-refl begun rising
       by_test true (Some e) rising = goes_on-raised (counter_named kind child) upto e rising
-  goes_on-ours spir (ask.Lease pool count) old rising = goes_on-refl (column_ours c old) rising
-  goes_on-ours spir (ask.Settle ticket asked sa member) old rising = by_test (asked == spir) old rising
-    where
-      added : (b : Bool) → ColumnGoesOn nothing (column_ours c (if b then Some (settled sa member) else None))
-      added true = goes_on-first (column_ours c (Some (settled sa member))) (rising-one (five_at sa.starts c) (five_at (settled_highs sa.starts) c) (end_of sa c) (settled_high sa.starts c))
-      added false = goes_on-refl nothing (rising-none 0 0)
-
-      by_test : (b : Bool) (old : Option Entry) → IsRising (column_ours c old) → ColumnGoesOn (column_ours c old) (column_ours c (first_some (if b then option_map closed old else old) (if sa.spir == spir then Some (settled sa member) else None)))
-      by_test true None rising = added (sa.spir == spir)
-      by_test false None rising = added (sa.spir == spir)
-      by_test true (Some e) rising = goes_on-refl (column_ours c (Some e)) rising
-      by_test false (Some e) rising = goes_on-refl (column_ours c (Some e)) rising
-  goes_on-ours spir (ask.Look ticket) old rising = goes_on-refl (column_ours c old) rising
-
-  rising-theirs : (sa : Record) → IsRising (record { bases = start_of sa c ∷ []; high = end_of sa c; end = end_of sa c })
-  rising-theirs sa = rising-one (start_of sa c) (end_of sa c) (end_of sa c) (start_within sa c)
-
-  -- the peer's column goes on
-  pub goes_on-theirs : (spir : ℕ) (asked : KeeperAsk) (old : Option Entry) → IsRising (column_theirs c old) → ColumnGoesOn (column_theirs c old) (column_theirs c (entry_after spir asked old))
-  goes_on-theirs spir (ask.Enter sa) (Some e) rising = goes_on-refl (column_theirs c (Some e)) rising
-  goes_on-theirs spir (ask.Enter sa) None rising = by_test (sa.spir == spir)
-    where
-      by_test : (b : Bool) → ColumnGoesOn nothing (column_theirs c (if b then Some (fresh sa) else None))
-      by_test true = goes_on-first (column_theirs c (Some (fresh sa))) (rising-theirs sa)
-      by_test false = goes_on-refl nothing (rising-none 0 0)
-  goes_on-theirs spir (ask.TakeOver asked member) old rising = by_test (asked == spir) old rising
-    where
-      by_test : (b : Bool) (old : Option Entry) → IsRising (column_theirs c old) → ColumnGoesOn (column_theirs c old) (column_theirs c (if b then option_map (taken_over member) old else old))
-      by_test false old rising = goes_on-refl (column_theirs c old) rising
-      by_test true None rising = goes_on-refl nothing rising
-      by_test true (Some e) rising = goes_on-refl (column_theirs c (Some e)) rising
-  goes_on-theirs spir (ask.Cover asked kind child epoch upto) old rising = by_test (asked == spir) old rising
-    where
-      kept : (d : Option Counter) (e : Entry) → IsRising (column_theirs c (Some e)) → ColumnGoesOn (column_theirs c (Some e)) (column_theirs c (Some (raised_at d upto e)))
-      kept None e rising = goes_on-refl (column_theirs c (Some e)) rising
-      kept (Some d) e rising = goes_on-refl (column_theirs c (Some e)) rising
-
-      by_test : (b : Bool) (old : Option Entry) → IsRising (column_theirs c old) → ColumnGoesOn (column_theirs c old) (column_theirs c (if b then option_map (raised_at (counter_named kind child) upto) old else old))
-      by_test false old rising = goes_on-refl (column_theirs c old) rising
-      by_test true None rising = goes_on-refl nothing rising
-      by_test true (Some e) rising = kept (counter_named kind child) e rising
-  goes_on-theirs spir (ask.Lease pool count) old rising = goes_on-refl (column_theirs c old) rising
-  goes_on-theirs spir (ask.Settle ticket asked sa member) old rising = by_test (asked == spir) old rising
-    where
-      added : (b : Bool) → ColumnGoesOn nothing (column_theirs c (if b then Some (settled sa member) else None))
-      added true = goes_on-first (column_theirs c (Some (settled sa member))) (rising-theirs sa)
-      added false = goes_on-refl nothing (rising-none 0 0)
-
-      by_test : (b : Bool) (old : Option Entry) → IsRising (column_theirs c old) → ColumnGoesOn (column_theirs c old) (column_theirs c (first_some (if b then option_map closed old else old) (if sa.spir == spir then Some (settled sa member) else None)))
-      by_test true None rising = added (sa.spir == spir)
-      by_test false None rising = added (sa.spir == spir)
-      by_test true (Some e) rising = goes_on-refl (column_theirs c (Some e)) rising
-      by_test false (Some e) rising = goes_on-refl (column_theirs c (Some e)) rising
-  goes_on-theirs spir (ask.Look ticket) old rising = goes_on-refl (column_theirs c old) rising
+  goes_on-ours begun spir (ask.Lease pool count) free old rising = goes_on-refl (column_ours c begun old) rising
+  goes_on-ours begun spir (ask.Settle ticket asked sa member) free old rising = absurd free
+  goes_on-ours begun spir (ask.Look ticket) free old rising = goes_on-refl (column_ours c begun old) rising
 
   -- the epoch that a takeover begins is held by nobody yet
-  pub new-taken_over : (member : ℕ) (e : Entry) → IsNew (column_ours c (Some e)) (column_ours c (Some (taken_over member e))) (holding_begun c (record { epoch = length e.bases + 1; bases = e.highs; sa = e.sa }))
+  pub new-taken_over : (member : ℕ) (e : Entry) → IsNew (column_ours c nothing (Some e)) (column_ours c nothing (Some (taken_over member e))) (holding_begun c (record { epoch = length e.bases + 1; bases = e.highs; sa = e.sa }))
   new-taken_over member e = subst (λ col. IsNew was col (holding_begun c (record { epoch = length e.bases + 1; bases = e.highs; sa = e.sa }))) (sym (column-taken_over member e)) (record {
     next_epoch = ap (λ n. n + 1) (sym count);
     of_column = record {
@@ -223,23 +173,17 @@ module _ (c : Counter) where
           let top : column_mark was (length e.bases + 1) ≡ was.high = mark-high was (length e.bases + 1) (let b : length was.bases ≡ length e.bases = count in omega arith) in
           omega arith;
       end = refl;
+      from_base = omega arith;
+      above_used = tt;
     };
     unused = refl;
   })
     where
       was : Column
-      was = column_ours c (Some e)
+      was = column_ours c nothing (Some e)
 
       count : length was.bases ≡ length e.bases
       count = length-map e.bases (λ (five : Five). five_at five c)
 
       longer : length (with_epoch was).bases ≡ length was.bases + 1
       longer = length-append_one was.bases was.high
-
-  -- what the peer begins
-  pub new-theirs : (sa : Record) → IsNew nothing (column_theirs c (Some (fresh sa))) (begun_theirs c sa)
-  new-theirs sa = record {
-    next_epoch = refl;
-    of_column = record { some = omega arith; begun = omega arith; base = refl; high = omega arith; end = refl };
-    unused = refl;
-  }

@@ -23,7 +23,7 @@ use Rattle.replay_set.specs.declared.judgement.Judgement.TheVariants.{Fresh}
 use Rattle.turn_laws.proofs.Accepted.{no-packet}
 use Rattle.turn_laws.proofs.Deeds.{Spends}
 use Rattle.turn_laws.proofs.Genuine.{member-accepts-it, peer-accepts-it}
-use Rattle.turn_laws.proofs.Opened.{slot-told}
+use Rattle.turn_laws.proofs.Opened.{IsNamed, its-told, slot-told}
 use Rattle.turn_laws.proofs.Outcomes.{Idle, Ours_used, Outcome, Over, Theirs_used, idle-received, outcome-of, over-received}
 use Rattle.turn_laws.proofs.Records.{deed-of}
 use Rattle.turn_laws.proofs.Safety.{is_place-true}
@@ -33,6 +33,7 @@ use Rattle.turn_laws.proofs.Uses.{number_at}
 use Rattle.turn_laws.specs.FirstDelivery.{IsFirst, IsOtherPacket, MemberAcceptsFirst, PeerAcceptsFirst}
 use Rattle.turn_laws.specs.Holdings.{IsNotIn}
 use Rattle.turn_laws.specs.Places.{Ours, Place, Theirs, is_place, place_of}
+use Rattle.turn_laws.proofs.Lists.{all-both, all-filter}
 use Rattle.turn_rules.proofs.SlotTies.{DoesTold, first-passes}
 use Rattle.turn_rules.proofs.StateLaws.{does-told}
 use Rattle.turn_rules.specs.Datagrams.{Delivery, delivery_of}
@@ -40,7 +41,7 @@ use Rattle.turn_rules.specs.Ends.{Member, Peer, is_by, own, performer, performer
 use Rattle.turn_rules.specs.Held.{Held, accepted, found, grant_of, held_by, holding, is_of_spir, received, received_in, received_of, since, window_by}
 use Rattle.turn_rules.specs.Local.{Explained}
 use Rattle.turn_rules.specs.Safe.{Packet, accepted_as, accepted_in}
-use Rattle.turn_rules.specs.Slots.{Slot, first_slot, is_entered, receives_at, since_entered, slots_by}
+use Rattle.turn_rules.specs.Slots.{Slot, first_slot, is_entered, peer_counter, receives_at, since_entered, slots_by}
 use Rattle.turn_rules.specs.Peers.{entered_in}
 use Rattle.turn_rules.specs.Tasks.{receipt}
 
@@ -85,26 +86,17 @@ module _ (spir n : ℕ) (past : List Turn) (event : Event) (calls : List Call) (
   took = received-took spir n event step.verdict is
 
   -- of the counter that received it
-  spent-here : (p q : Place) (k : ℕ) → Spends q k event step → number_at p q k ≡ Some n → place_of took.packet.name ≡ Some p
-  spent-here p q k spends here = (spends.of_packet took.packet took.accepted_it).0 ∙ ap Some (number-here p q k n here)
+  spent-here : (p q : Place) (k : ℕ) → Spends q k event step → number_at p q k ≡ Some n → place_of took.packet.name ≡ p
+  spent-here p q k spends here = (spends.of_packet took.packet took.accepted_it).0 ∙ number-here p q k n here
 
-  member-took : (member : ℕ) → performer_at event step.verdict ≡ Some (Member member) → place_of took.packet.name ≡ Some (Ours spir counter.EspIn)
+  member-took : (member : ℕ) → performer_at event step.verdict ≡ Some (Member member) → place_of took.packet.name ≡ Ours spir counter.EspIn
   member-took member by = go o
     where
-      go : Outcome past event calls step → place_of took.packet.name ≡ Some (Ours spir counter.EspIn)
+      go : Outcome past event calls step → place_of took.packet.name ≡ Ours spir counter.EspIn
       go (Idle rests) = absurd (no-packet n (sym (idle-received spir event step.verdict rests.idle) ∙ is))
       go (Over ended said ends quiet) = absurd (no-packet n (sym (ap (received spir event) said ∙ over-received spir event) ∙ is))
       go (Ours_used u it) = spent-here (Ours spir counter.EspIn) (Ours u.held.sa.spir u.c) u.number it.spends (sym (it.told spir counter.EspIn) ∙ is)
       go (Theirs_used u) = not-both member (performer_at event step.verdict) by u.by_it
-
-  peer-took : performer_at event step.verdict ≡ Some Peer → place_of took.packet.name ≡ Some (Theirs spir counter.EspIn)
-  peer-took by = go o
-    where
-      go : Outcome past event calls step → place_of took.packet.name ≡ Some (Theirs spir counter.EspIn)
-      go (Idle rests) = absurd (no-packet n (sym (idle-received spir event step.verdict rests.idle) ∙ is))
-      go (Over ended said ends quiet) = absurd (no-packet n (sym (ap (received spir event) said ∙ over-received spir event) ∙ is))
-      go (Ours_used u it) = not-both u.member (performer_at event step.verdict) u.by_it by
-      go (Theirs_used u) = spent-here (Theirs spir counter.EspIn) (Theirs u.slot.sa.spir u.c) u.number u.spends (sym (u.told spir counter.EspIn) ∙ is)
 
 -- what holds of more packets holds of the others
 fewer-others : {X : Type 0} (P : X → Type 0) (x : Option X) (xs : List X) → AllByRecursion P (cons_option x xs) → AllByRecursion P xs
@@ -121,7 +113,7 @@ ReceivesOther spir n turn = received_of spir turn ≢ Some n
 -- so an end did that accepted no such packet
 module _ (spir n : ℕ) (p : Place) (test : Turn → Bool)
     (took_here : (boxes : ℕ) (past : List Turn) (turn : Turn) (explained : Explained boxes (turn ∷ past)) → test turn ≡ true → (is : received_of spir turn ≡ Some n)
-    → place_of (received-took spir n turn.event turn.step.verdict is).packet.name ≡ Some p) where
+    → place_of (received-took spir n turn.event turn.step.verdict is).packet.name ≡ p) where
   none-received : (boxes : ℕ) (past : List Turn) → Explained boxes past → IsFirst p n past → AllByRecursion (ReceivesOther spir n) (filter test past)
   none-received boxes [] explained first = tt
   none-received boxes (turn ∷ past) explained first = by_test (none-received boxes past explained.1 (fewer-others (IsOtherPacket p n) (accepted_in turn) (filter_map accepted_in past) first)) (test turn) refl
@@ -180,15 +172,34 @@ module _ (boxes : ℕ) (past : List Turn) (explained : Explained boxes past) whe
           subst (λ window. judged window n ≡ Fresh) window
           (covered-fresh (window_by past) taken.bases.esp_in n (filter_map (received_of spir) (since spir mine)) (subst (λ window. WindowCovers window n) (sym window) covers) none)
 
-  slot-fresh : (test : Slot → Bool) (slot : Slot) (n : ℕ) → first_slot test (slots_by (window_by past) (own Peer past)) ≡ Some slot → WindowCovers slot.window n → IsFirst (Theirs slot.sa.spir counter.EspIn) n past → judged slot.window n ≡ Fresh
+  slot-fresh : (test : Slot → Bool) (slot : Slot) (n : ℕ) → first_slot test (slots_by (window_by past) (own Peer past)) ≡ Some slot → WindowCovers slot.window n → IsFirst (Theirs (peer_counter slot.sa counter.EspIn)) n past → judged slot.window n ≡ Fresh
   slot-fresh test slot n is covers first =
       let window = ap (λ (s : Slot). s.window) (slot-told (window_by past) (own Peer past) test slot is) in
       subst (λ window. judged window n ≡ Fresh) (sym window)
-      (covered-fresh (window_by past) slot.sa.starts.esp_out n (filter_map (received_of slot.sa.spir) (since_entered slot.sa.spir (own Peer past))) (subst (λ window. WindowCovers window n) window covers)
-      (numbers-other slot.sa.spir n (since_entered slot.sa.spir (own Peer past)) (since_entered-all (ReceivesOther slot.sa.spir n) slot.sa.spir (own Peer past)
-      (none-received slot.sa.spir n (Theirs slot.sa.spir counter.EspIn) (is_by Peer)
-      (λ boxes past turn explained by is. peer-took slot.sa.spir n past turn.event turn.calls turn.step (outcome-of past turn.event turn.calls turn.step (deed-of boxes past turn explained.0 explained.1)) is (is_end-true Peer (performer turn) by))
-      boxes past explained first))))
+      (covered-fresh (window_by past) slot.sa.starts.esp_out n (filter_map (received_of spir) turns) (subst (λ window. WindowCovers window n) window covers)
+      (numbers-other spir n turns (all-both turns other (its-told boxes past explained test slot is counter.EspIn).named
+      (since_entered-all OtherPacket spir (own Peer past) (all-filter OtherPacket (is_by Peer) past (packets-other past first))))))
+    where
+      p : Place
+      p = Theirs (peer_counter slot.sa counter.EspIn)
+
+      spir : ℕ
+      spir = slot.sa.spir
+
+      turns : List Turn
+      turns = since_entered spir (own Peer past)
+
+      OtherPacket : Turn → Type 0
+      OtherPacket turn = (packet : Packet) → accepted_in turn ≡ Some packet → IsOtherPacket p n packet
+
+      packets-other : (past : List Turn) → IsFirst p n past → AllByRecursion OtherPacket past
+      packets-other [] first = tt
+      packets-other (turn ∷ past) first = ((λ packet is. first-other (IsOtherPacket p n) (accepted_in turn) packet (filter_map accepted_in past) is first), packets-other past (fewer-others (IsOtherPacket p n) (accepted_in turn) (filter_map accepted_in past) first))
+
+      other : (turn : Turn) → IsNamed slot.sa turn → OtherPacket turn → ReceivesOther spir n turn
+      other turn named packets is =
+          let took : Took spir n turn.step.verdict = received-took spir n turn.event turn.step.verdict is in
+          packets took.packet took.accepted_it (named n took.packet is took.accepted_it) took.number_is
 
 module _ (law : SealedPacketsOpen) (boxes : ℕ) (past : List Turn) (turn : Turn) (explained : Explained boxes (turn ∷ past)) where
   does : DoesTold boxes past turn

@@ -1,13 +1,14 @@
 -- Each move keeps the numbers of one counter apart.
-use Rattle.std.proofs.Common.{◌≡◌, ◌≢◌, ◌⊎◌, inl, inr, ℕ, ◌+◌, ◌-◌, ◌<◌, ◌≤◌, Bool, true, false, Option, Some, None, List, [], ◌∷◌, length, map, ⊎_elim, refl, ap, sym, ◌∙◌, subst, arith, if◌then◌else◌}
+use Rattle.std.proofs.Common.{◌≡◌, ◌≢◌, ◌⊎◌, inl, inr, ℕ, ◌+◌, ◌-◌, ◌<◌, ◌≤◌, max, Bool, true, false, Option, Some, None, List, [], ◌∷◌, length, map, ⊎_elim, refl, ap, sym, ◌∙◌, subst, arith, if◌then◌else◌}
 use Rattle.std.proofs.lemmas.Bool.{cases_order, eqb-true, eq-eqb}
 use Rattle.std.proofs.lemmas.Option.{same_Some}
 use Rattle.std.specs.List.{AllByRecursion}
 use Rattle.std.specs.Option.{option_map}
-use Rattle.turn_laws.proofs.Columns.{mark-goes_on}
+use Rattle.turn_laws.proofs.Columns.{goes_on-first, goes_on-refl, mark-goes_on, mark-high, rising-one}
 use Rattle.turn_laws.proofs.Lists.{all-each}
-use Rattle.turn_laws.specs.Columns.{Column, ColumnGoesOn, column_mark}
-use Rattle.turn_laws.specs.Holdings.{Actor, Begins, Draws, Effect, End, Half, Passes, Holding, IsHoldingOf, IsNew, IsNotIn, IsOwned, IsUseOf, MayUse, Nothing, Rises, Run, Use, drawn, epoch_of, use_end, holding_after, is_actor, raised_to, uses_after}
+use Rattle.turn_laws.specs.Acts.{effect_begun, with_begun}
+use Rattle.turn_laws.specs.Columns.{Column, ColumnGoesOn, IsRising, column_mark, nothing}
+use Rattle.turn_laws.specs.Holdings.{Actor, Begins, Draws, Effect, End, Half, Jumps, Passes, Holding, IsHoldingOf, IsNew, IsNotIn, IsOwned, IsUseOf, MayUse, Nothing, Rises, Run, Use, column_begun, drawn, epoch_of, use_end, holding_after, is_actor, jumped_to, raised_to, uses_after}
 use Rattle.turn_rules.specs.Ends.{Member, Peer, Performer, is_performer}
 
 pub is_performer-same : (a : Performer) → is_performer a a ≡ true
@@ -31,6 +32,16 @@ is_actor-true (End a) (End b) e = ap End (is_performer-true a b e)
 is_actor-true (Half a) (Half b) e = ap Half (eqb-true a b e)
 is_actor-true w v e = absurd (cc)
 
+pub apart : (a b : Actor) → is_actor a b ≡ false → a ≢ b
+apart a b other same = let here : is_actor a b ≡ true = subst (λ x. is_actor a x ≡ true) same (is_actor-same a) in absurd (cc)
+
+pub differ : (a b : Actor) → a ≢ b → is_actor a b ≡ false
+differ a b other = by_test (is_actor a b) refl
+  where
+    by_test : (test : Bool) → is_actor a b ≡ test → test ≡ false
+    by_test true t = absurd (other (is_actor-true a b t))
+    by_test false t = refl
+
 -- what is held of a column, once it goes on
 pub holding-goes_on : (old new : Column) (h : Holding) → ColumnGoesOn old new → IsHoldingOf old h → IsHoldingOf new h
 holding-goes_on old new h goes of = record {
@@ -39,6 +50,8 @@ holding-goes_on old new h goes of = record {
   base = goes.same_bases (h.epoch - 1) (let a : h.epoch ≤ length old.bases = of.begun in let b : 1 ≤ h.epoch = of.some in omega arith) ∙ of.base;
   high = let a : h.high ≤ column_mark old h.epoch = of.high in let b : column_mark old h.epoch ≤ column_mark new h.epoch = mark-goes_on old new goes h.epoch of.begun in omega arith;
   end = of.end ∙ sym (goes.same_end (let a : h.epoch ≤ length old.bases = of.begun in let b : 1 ≤ h.epoch = of.some in omega arith));
+  from_base = of.from_base;
+  above_used = of.above_used;
 }
 
 pub use-goes_on : (old new : Column) (u : Use) → ColumnGoesOn old new → IsUseOf old u → IsUseOf new u
@@ -164,13 +177,50 @@ module _ (held : Actor → Option Holding) (uses : List Use) (column : Column) (
         base = was.base;
         high = let a : h.high ≤ column_mark column h.epoch = was.high in omega arith;
         end = was.end;
+        from_base = was.from_base;
+        above_used = was.above_used;
       }
+
+  -- A jump: the next number rises.
+  pub owned-jumped : (n : ℕ) → IsOwned (changed held uses column owned w (Some (jumped_to n h))) uses column
+  owned-jumped n = record {
+    rising = owned.rising;
+    holdings = holdings-changed (jumped_to n h) (record {
+      some = was.some;
+      begun = was.begun;
+      base = was.base;
+      high = was.high;
+      end = was.end;
+      from_base = let a : h.base ≤ h.next = was.from_base in omega arith;
+      above_used = all-each h.numbers (λ k below. let a : k < h.next = below in let b : k < max n h.next = omega arith in b) was.above_used;
+    });
+    alone = alone-changed (jumped_to n h) refl;
+    within = owned.within;
+    known = λ v g e k none. changed_cases held uses column owned w (Some (jumped_to n h)) v g e
+        (λ same is.
+        let q : jumped_to n h ≡ g = same_Some (jumped_to n h) g is in
+        subst (λ (x : Holding). AllByRecursion (λ u. u.epoch ≡ x.epoch → u.number ≢ k) uses) q
+        (owned.known w h holds k (subst (λ (x : Holding). IsNotIn k x.numbers) (sym q) none)))
+        (λ was. owned.known v g was k none);
+    once = owned.once;
+  }
+    where
+      was : IsHoldingOf column h
+      was = owned.holdings w h holds
 
   -- The use of a number from a holding's base on and below its high.
   pub owned-drawn : (n : ℕ) → MayUse h n → IsOwned (changed held uses column owned w (Some (drawn n h))) (record { epoch = h.epoch; number = n; end = h.end } ∷ uses) column
   owned-drawn n may = record {
     rising = owned.rising;
-    holdings = holdings-changed (drawn n h) (record { some = was.some; begun = was.begun; base = was.base; high = was.high; end = was.end });
+    holdings = holdings-changed (drawn n h) (record {
+      some = was.some;
+      begun = was.begun;
+      base = was.base;
+      high = was.high;
+      end = was.end;
+      from_base = let a : h.base ≤ h.next = was.from_base in omega arith;
+      above_used = (omega arith, all-each h.numbers (λ k below. let a : k < h.next = below in let b : k < max (n + 1) h.next = omega arith in b) was.above_used);
+    });
     alone = alone-changed (drawn n h) refl;
     within = (of, owned.within);
     known = λ v g e k none. changed_cases held uses column owned w (Some (drawn n h)) v g e
@@ -235,16 +285,13 @@ module _ (held : Actor → Option Holding) (w v : Actor) where
     pub holds : held from ≡ Some g
     pub is : ((v ≡ u) × (from ≡ w)) ⊎ ((w ≢ u) × (from ≡ u))
 
-  differ : (a b : Actor) → is_actor a b ≡ false → a ≢ b
-  differ a b other same = let here : is_actor a b ≡ true = subst (λ x. is_actor a x ≡ true) same (is_actor-same a) in absurd (cc)
-
   source : (u : Actor) (g : Holding) → holding_after (Passes w v) held u ≡ Some g → Source u g
   source u g e = by_test (is_actor v u) (is_actor w u) refl refl e
     where
       by_test : (b c : Bool) → is_actor v u ≡ b → is_actor w u ≡ c → (if b then held w else (if c then None else held u)) ≡ Some g → Source u g
       by_test true c t s e = record { from = w; holds = e; is = inl (is_actor-true v u t, refl) }
       by_test false true t s e = absurd (cc)
-      by_test false false t s e = record { from = u; holds = e; is = inr (differ w u s, refl) }
+      by_test false false t s e = record { from = u; holds = e; is = inr (apart w u s, refl) }
 
   pub owned-passes : (uses : List Use) (column : Column) → IsOwned held uses column → IsOwned (holding_after (Passes w v) held) uses column
   owned-passes uses column owned = record {
@@ -265,11 +312,28 @@ module _ (held : Actor → Option Holding) (w v : Actor) where
           one : s.from ≡ t.from
           one = owned.alone s.from t.from g k s.holds t.holds same
 
+-- what one end holds changes, if it holds something
+module _ (held : Actor → Option Holding) (w : Actor) (edit : Holding → Holding) where
+  map_none : held w ≡ None → (v : Actor) → held v ≡ (if is_actor w v then option_map edit (held v) else held v)
+  map_none e v = by_test (is_actor w v) refl
+    where
+      by_test : (b : Bool) → is_actor w v ≡ b → held v ≡ (if b then option_map edit (held v) else held v)
+      by_test true t = let none : held v ≡ None = subst (λ u. held u ≡ None) (is_actor-true w v t) e in rw none refl
+      by_test false t = refl
+
+  map_some : (h : Holding) → held w ≡ Some h → (v : Actor) → (if is_actor w v then Some (edit h) else held v) ≡ (if is_actor w v then option_map edit (held v) else held v)
+  map_some h e v = by_test (is_actor w v) refl
+    where
+      by_test : (b : Bool) → is_actor w v ≡ b → (if b then Some (edit h) else held v) ≡ (if b then option_map edit (held v) else held v)
+      by_test true t = let some : held v ≡ Some h = subst (λ u. held u ≡ Some h) (is_actor-true w v t) e in rw some refl
+      by_test false t = refl
+
 -- what an effect needs of the column before it, and of the one after it
 abbrev pub Keeps : Effect → (Actor → Option Holding) → Column → Column → Type 0
 Keeps Nothing held old new = ColumnGoesOn old new
 Keeps (Begins w h) held old new = ColumnGoesOn old new × IsNew old new h
 Keeps (Rises w upto) held old new = ColumnGoesOn old new × ((h : Holding) → held w ≡ Some h → upto ≤ column_mark new h.epoch)
+Keeps (Jumps w n) held old new = ColumnGoesOn old new
 Keeps (Passes w v) held old new = ColumnGoesOn old new
 Keeps (Draws w n) held old new = ColumnGoesOn old new × (h : Holding) × (held w ≡ Some h) × MayUse h n
 
@@ -284,33 +348,55 @@ owned-after held uses old new (Rises w upto) owned keeps = by_held (held w) refl
     later = owned-goes_on held uses old new owned keeps.0
 
     by_held : (x : Option Holding) → held w ≡ x → IsOwned (holding_after (Rises w upto) held) uses new
-    by_held None e = owned-agrees held (holding_after (Rises w upto) held) uses new later (λ v. unchanged v (is_actor w v) refl)
-      where
-        unchanged : (v : Actor) (b : Bool) → is_actor w v ≡ b → held v ≡ (if is_actor w v then option_map (raised_to upto) (held v) else held v)
-        unchanged v true t =
-            let none : held v ≡ None = subst (λ u. held u ≡ None) (is_actor-true w v t) e in
-            rw (t, none)
-        unchanged v false t = rw t
+    by_held None e = owned-agrees held (holding_after (Rises w upto) held) uses new later (map_none held w (raised_to upto) e)
     by_held (Some h) e = owned-agrees (changed held uses new later w (Some (raised_to upto h))) (holding_after (Rises w upto) held) uses new
-        (owned-raised held uses new later w h e upto (keeps.1 h e)) (λ v. same v (is_actor w v) refl)
-      where
-        same : (v : Actor) (b : Bool) → is_actor w v ≡ b → (if is_actor w v then Some (raised_to upto h) else held v) ≡ (if is_actor w v then option_map (raised_to upto) (held v) else held v)
-        same v true t =
-            let some : held v ≡ Some h = subst (λ u. held u ≡ Some h) (is_actor-true w v t) e in
-            rw (t, some)
-        same v false t = rw t
+        (owned-raised held uses new later w h e upto (keeps.1 h e)) (map_some held w (raised_to upto) h e)
+owned-after held uses old new (Jumps w n) owned keeps = by_held (held w) refl
+  where
+    later : IsOwned held uses new
+    later = owned-goes_on held uses old new owned keeps
+
+    by_held : (x : Option Holding) → held w ≡ x → IsOwned (holding_after (Jumps w n) held) uses new
+    by_held None e = owned-agrees held (holding_after (Jumps w n) held) uses new later (map_none held w (jumped_to n) e)
+    by_held (Some h) e = owned-agrees (changed held uses new later w (Some (jumped_to n h))) (holding_after (Jumps w n) held) uses new
+        (owned-jumped held uses new later w h e n) (map_some held w (jumped_to n) h e)
 owned-after held uses old new (Draws w n) owned keeps =
     let h : Holding = keeps.1 in
     let e : held w ≡ Some h = keeps.2 in
     subst (λ us. IsOwned (holding_after (Draws w n) held) us new) (ap (λ x. record { epoch = epoch_of x; number = n; end = use_end x } ∷ uses) (sym e))
     (owned-agrees (changed held uses new later w (Some (drawn n h))) (holding_after (Draws w n) held) (record { epoch = h.epoch; number = n; end = h.end } ∷ uses) new
-    (owned-drawn held uses new later w h e n keeps.3) (λ v. same h e v (is_actor w v) refl))
+    (owned-drawn held uses new later w h e n keeps.3) (map_some held w (drawn n) h e))
   where
     later : IsOwned held uses new
     later = owned-goes_on held uses old new owned keeps.0
 
-    same : (h : Holding) → held w ≡ Some h → (v : Actor) (b : Bool) → is_actor w v ≡ b → (if is_actor w v then Some (drawn n h) else held v) ≡ (if is_actor w v then option_map (drawn n) (held v) else held v)
-    same h e v true t =
-        let some : held v ≡ Some h = subst (λ u. held u ≡ Some h) (is_actor-true w v t) e in
-        rw (t, some)
-    same h e v false t = rw t
+-- a holding of a first epoch
+pub record IsFirstHolding (h : Holding) : Type 0 where
+  pub epoch : h.epoch ≡ 1
+  pub rising : h.base ≤ h.high
+  pub from_base : h.base ≤ h.next
+  pub unused : h.numbers ≡ []
+
+-- where no epoch began, the first one begins
+pub keeps-first : (held : Actor → Option Holding) (w : Actor) (h : Holding) → IsFirstHolding h → Keeps (Begins w h) held nothing (column_begun h nothing)
+keeps-first held w h first = (
+  goes_on-first (column_begun h nothing) (rising-one h.base h.high h.end first.rising),
+  record {
+    next_epoch = first.epoch;
+    of_column = record {
+      some = let e : h.epoch ≡ 1 = first.epoch in omega arith;
+      begun = let e : h.epoch ≡ 1 = first.epoch in omega arith;
+      base = ap (λ n. column_mark (column_begun h nothing) (n - 1)) first.epoch;
+      high = let e : column_mark (column_begun h nothing) h.epoch ≡ h.high = mark-high (column_begun h nothing) h.epoch (let e : h.epoch ≡ 1 = first.epoch in omega arith) in omega arith;
+      end = refl;
+      from_base = first.from_base;
+      above_used = subst (λ ns. AllByRecursion (λ n. n < h.next) ns) (sym first.unused) tt;
+    };
+    unused = first.unused;
+  },
+)
+
+-- Where something begins, no epoch began.
+pub keeps-begun : (held : Actor → Option Holding) (w : Actor) (x : Option Holding) (begun : Column) → IsRising begun → ((h : Holding) → x ≡ Some h → (begun ≡ nothing) × IsFirstHolding h) → Keeps (effect_begun w x) held begun (with_begun x begun)
+keeps-begun held w None begun rising first = goes_on-refl begun rising
+keeps-begun held w (Some h) begun rising first = subst (λ column. Keeps (Begins w h) held column (column_begun h column)) (sym (first h refl).0) (keeps-first held w h (first h refl).1)

@@ -1,4 +1,6 @@
 mod Lists
+mod Same
+mod Acting
 mod Columns
 mod Entries
 mod Books
@@ -7,6 +9,7 @@ mod Pools
 mod Lots
 mod Holdings
 mod Safety
+mod Halves
 mod Runs
 mod Names
 mod Uses

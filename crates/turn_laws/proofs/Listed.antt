@@ -10,47 +10,72 @@ use Rattle.events.specs.declared.turn.Turn.{Turn}
 use Rattle.events.specs.declared.verdict.Verdict.{Verdict}
 use Rattle.events.specs.declared.verdict.Verdict.TheVariants as out
 use Rattle.keeper_book.specs.declared.calls.Call.{Call}
-use Rattle.turn_laws.proofs.Numbers.{call-uses}
-use Rattle.turn_laws.proofs.Pools.{lease-uses}
-use Rattle.turn_laws.specs.Acts.{Leases, lots_at, Act, Calls, Ends, Move, Seals, Uses, acts_onto, effect_of_use, holding_at, numbers_at, uses_at}
-use Rattle.turn_laws.specs.Holdings.{Actor, Draws, Nothing, uses_after}
+use Rattle.keeper_book.specs.declared.pools.Pool.{Pool}
+use Rattle.keeper_book.specs.declared.pools.Pool.TheVariants as pools
+use Rattle.keeper_book.specs.declared.records.Record.{Record}
+use Rattle.turn_laws.proofs.Acting.{moves_onto}
+use Rattle.turn_laws.proofs.Numbers.{begun-uses, call-uses}
+use Rattle.turn_laws.specs.Acts.{Act, Calls, Ends, Leaps, Leases, Move, Opens, Seals, Starts, Uses, act_by, begun_at, begun_leased, begun_open, begun_started, effect_of_open, effect_of_use, holding_at, numbers_at, uses_at}
+use Rattle.turn_laws.specs.Holdings.{Actor, Draws, Half, Holding, Jumps, Nothing, Use, uses_after}
 use Rattle.turn_laws.specs.Listed.{drawn_at, drew, ivs_at, listed_at, number_where, packet_at}
-use Rattle.turn_laws.specs.Places.{Place, is_place, place_of}
-use Rattle.turn_laws.specs.Turns.{actor_of, acts_of, drawn_by, end_moves, key_iv, moves_of, received_at, uses_of}
+use Rattle.turn_laws.specs.Places.{Ours, Place, Pooled, Theirs, is_place, place_of}
+use Rattle.turn_laws.specs.Turns.{actor_of, acts_of, drawn_by, end_moves, key_iv, moves_of, uses_of}
 use Rattle.turn_rules.specs.Safe.{accepted_as, accepted_in}
 use Rattle.turn_rules.specs.States.{ended_by}
 
+-- what gets half open uses a number of the nonces' pool
+abbrev number_opened : Place → Record → Option ℕ
+number_opened (Pooled q) sa = number_where (Pooled q) (Pooled pools.Nonce) sa.spir
+number_opened p sa = None
+
+open-number : (p : Place) (w : Actor) (sa : Record) (held : Actor → Option Holding) (us : List Use) → map (λ u. u.number) (uses_after (effect_of_open p w sa) held us) ≡ cons_option (number_opened p sa) (map (λ u. u.number) us)
+open-number (Pooled q) w sa held us = by_test (is_place (Pooled pools.Nonce) (Pooled q))
+  where
+    by_test : (b : Bool) → map (λ u. u.number) (uses_after (if b then Draws w sa.spir else Nothing) held us) ≡ cons_option (if b then Some sa.spir else None) (map (λ u. u.number) us)
+    by_test true = refl
+    by_test false = refl
+open-number (Ours spir c) w sa held us = ap (λ us. map (λ u. u.number) us) (begun-uses (Half sa.spir) held us (begun_open (Ours spir c) sa))
+open-number (Theirs name) w sa held us = refl
+
 module _ (p : Place) where
   -- the number of the place that a move uses
-  abbrev number_moved : Move → Option ℕ
-  number_moved (Calls call) = None
-  number_moved (Uses q n) = number_where p (Some q) n
+  abbrev pub number_moved : Move → Option ℕ
+  number_moved (Uses q n) = number_where p q n
   number_moved (Seals key) = number_where p (place_of key.name) key.iv
-  number_moved (Leases pool first count seen) = None
-  number_moved Ends = None
+  number_moved (Opens sa) = number_opened p sa
+  number_moved move = None
 
-  abbrev moved : List Move → List ℕ
+  abbrev pub moved : List Move → List ℕ
   moved moves = filter_map number_moved moves
 
-  use-number : (w : Actor) (acts : List Act) (q : Option Place) (n : ℕ) → map (λ u. u.number) (uses_after (effect_of_use p q w n) (holding_at p acts) (uses_at p acts)) ≡ cons_option (number_where p q n) (numbers_at p acts)
-  use-number w acts None n = refl
-  use-number w acts (Some q) n = by_test (is_place q p)
+  use-number : (w : Actor) (acts : List Act) (q : Place) (n : ℕ) → map (λ u. u.number) (uses_after (effect_of_use p q w n) (holding_at p acts) (uses_at p acts)) ≡ cons_option (number_where p q n) (numbers_at p acts)
+  use-number w acts q n = by_test (is_place q p)
     where
       by_test : (b : Bool) → map (λ u. u.number) (uses_after (if b then Draws w n else Nothing) (holding_at p acts) (uses_at p acts)) ≡ cons_option (if b then Some n else None) (numbers_at p acts)
       by_test true = refl
       by_test false = refl
 
-  move-number : (w : Actor) (move : Move) (acts : List Act) → numbers_at p (record { by = w; move = move } ∷ acts) ≡ cons_option (number_moved move) (numbers_at p acts)
+  leap-uses : (w : Actor) (acts : List Act) (q : Place) (n : ℕ) → uses_after (if is_place q p then Jumps w n else Nothing) (holding_at p acts) (uses_at p acts) ≡ uses_at p acts
+  leap-uses w acts q n = by_test (is_place q p)
+    where
+      by_test : (b : Bool) → uses_after (if b then Jumps w n else Nothing) (holding_at p acts) (uses_at p acts) ≡ uses_at p acts
+      by_test true = refl
+      by_test false = refl
+
+  move-number : (w : Actor) (move : Move) (acts : List Act) → numbers_at p (act_by w move ∷ acts) ≡ cons_option (number_moved move) (numbers_at p acts)
   move-number w (Calls call) acts = ap (λ us. map (λ u. u.number) us) (call-uses w (holding_at p acts) (uses_at p acts) p call)
-  move-number w (Uses q n) acts = use-number w acts (Some q) n
+  move-number w (Uses q n) acts = use-number w acts q n
   move-number w (Seals key) acts = use-number w acts (place_of key.name) key.iv
-  move-number w (Leases pool first count seen) acts = ap (λ us. map (λ u. u.number) us) (lease-uses p (lots_at p acts) w pool first count seen (holding_at p acts) (uses_at p acts))
+  move-number w (Leases pool first count seen) acts = ap (λ us. map (λ u. u.number) us) (begun-uses w (holding_at p acts) (uses_at p acts) (begun_leased p (begun_at p acts) pool first count seen))
+  move-number w (Leaps q n) acts = ap (λ us. map (λ u. u.number) us) (leap-uses w acts q n)
+  move-number w (Opens sa) acts = open-number p w sa (holding_at p acts) (uses_at p acts)
+  move-number w (Starts sa) acts = ap (λ us. map (λ u. u.number) us) (begun-uses w (holding_at p acts) (uses_at p acts) (begun_started p sa))
   move-number w Ends acts = refl
 
-  moves-numbers : (w : Actor) (moves : List Move) (acts : List Act) → numbers_at p (acts_onto w moves acts) ≡ reverse (moved moves) ++ numbers_at p acts
+  moves-numbers : (w : Actor) (moves : List Move) (acts : List Act) → numbers_at p (moves_onto w moves acts) ≡ reverse (moved moves) ++ numbers_at p acts
   moves-numbers w [] acts = refl
   moves-numbers w (move ∷ moves) acts =
-      moves-numbers w moves (record { by = w; move = move } ∷ acts)
+      moves-numbers w moves (act_by w move ∷ acts)
       ∙ (ap (λ ns. reverse (moved moves) ++ ns) (move-number w move acts)
       ∙ by_number (number_moved move))
     where
@@ -66,7 +91,7 @@ module _ (p : Place) where
       by_number None = refl
       by_number (Some n) = refl
 
-  moved-calls : (calls : List Call) (rest : List Move) → moved (map Calls calls ++ rest) ≡ moved rest
+  pub moved-calls : (calls : List Call) (rest : List Move) → moved (map Calls calls ++ rest) ≡ moved rest
   moved-calls [] rest = refl
   moved-calls (call ∷ calls) rest = moved-calls calls rest
 
@@ -82,20 +107,16 @@ module _ (p : Place) where
   moved-drawn (event.Draw member spir) n = one-moved (drew p (event.Draw member spir) n) ∙ sym (append-nil (option_to_list (drew p (event.Draw member spir) n)))
   moved-drawn event n = refl
 
-  moved-received : (q : Option Place) (n : ℕ) → moved (received_at q n) ≡ option_to_list (number_where p q n)
-  moved-received None n = refl
-  moved-received (Some q) n = one-moved (number_where p (Some q) n)
-
   moved-end : (x : Option ℕ) → moved (end_moves x) ≡ []
   moved-end None = refl
   moved-end (Some member) = refl
 
   moved-uses : (event : Event) (verdict : Verdict) → moved (uses_of event verdict) ≡ option_to_list (drawn_at p event verdict) ++ option_to_list (packet_at p (accepted_as verdict))
   moved-uses event (out.Number n) = moved-drawn event n
-  moved-uses event (out.Accepted name n next_header payload) = moved-received (place_of name) n
+  moved-uses event (out.Accepted name n next_header payload) = one-moved (number_where p (place_of name) n)
   moved-uses event verdict = moved-end (ended_by event verdict)
 
-  turn-listed : (turn : Turn) → reverse (moved (moves_of turn)) ≡ listed_at p turn
+  pub turn-listed : (turn : Turn) → reverse (moved (moves_of turn)) ≡ listed_at p turn
   turn-listed turn =
       let used : List ℕ = option_to_list (drawn_at p turn.event turn.step.verdict) in
       let taken : List ℕ = option_to_list (packet_at p (accepted_in turn)) in

@@ -5,9 +5,8 @@ use Rattle.events.specs.declared.event.Event.{Event}
 use Rattle.events.specs.declared.event.Event.TheVariants as event
 use Rattle.events.specs.declared.verdict.Verdict.{Verdict}
 use Rattle.events.specs.declared.verdict.Verdict.TheVariants as out
-use Rattle.turn_laws.specs.Acts.{Leases, Calls, Ends, Move, Seals, Uses}
-use Rattle.turn_laws.specs.Places.{Place, place_of}
-use Rattle.turn_laws.specs.Turns.{drawn_by, end_moves, received_at, uses_of}
+use Rattle.turn_laws.specs.Acts.{Calls, Ends, Leaps, Leases, Move, Opens, Seals, Starts, Uses}
+use Rattle.turn_laws.specs.Turns.{drawn_by, end_moves, uses_of}
 use Rattle.turn_rules.specs.States.{ended_by}
 
 abbrev pub IsUseOrEnd : Move → Type 0
@@ -15,15 +14,14 @@ IsUseOrEnd (Calls call) = ⊥
 IsUseOrEnd (Uses place number) = Unit {0}
 IsUseOrEnd (Seals key) = ⊥
 IsUseOrEnd (Leases pool first count seen) = ⊥
+IsUseOrEnd (Leaps place number) = ⊥
+IsUseOrEnd (Opens sa) = ⊥
+IsUseOrEnd (Starts sa) = ⊥
 IsUseOrEnd Ends = Unit {0}
 
 drawn-uses : (event : Event) (n : ℕ) → AllByRecursion IsUseOrEnd (drawn_by event n)
 drawn-uses (event.Draw member spir) n = (tt, tt)
 drawn-uses event n = tt
-
-received-uses : (place : Option Place) (n : ℕ) → AllByRecursion IsUseOrEnd (received_at place n)
-received-uses None n = tt
-received-uses (Some place) n = (tt, tt)
 
 end-is : (x : Option ℕ) → AllByRecursion IsUseOrEnd (end_moves x)
 end-is None = tt
@@ -31,5 +29,5 @@ end-is (Some member) = (tt, tt)
 
 pub are-uses : (event : Event) (verdict : Verdict) → AllByRecursion IsUseOrEnd (uses_of event verdict)
 are-uses event (out.Number n) = drawn-uses event n
-are-uses event (out.Accepted name n next_header payload) = received-uses (place_of name) n
+are-uses event (out.Accepted name n next_header payload) = (tt, tt)
 are-uses event verdict = end-is (ended_by event verdict)

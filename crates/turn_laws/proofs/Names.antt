@@ -7,6 +7,8 @@ use Rattle.keeper_book.specs.declared.counters.Counter.TheVariants as counter
 use Rattle.keeper_book.specs.declared.records.Record.{Record}
 use Rattle.turn_laws.proofs.Entries.{is_counter-same}
 use Rattle.turn_laws.proofs.Pools.{is_pool-same}
+use Rattle.turn_laws.proofs.Same.{is_name-same}
+use Rattle.turn_laws.specs.Acts.{begun_named, begun_theirs}
 use Rattle.turn_laws.specs.Places.{Ours, Place, Pooled, Theirs, is_place, place_of}
 use Rattle.turn_rules.specs.Draws.{child_of, counter_name, counter_kind}
 use Rattle.turn_rules.specs.Slots.{peer_counter}
@@ -18,12 +20,9 @@ counter-named counter.Iv = refl
 counter-named counter.Ask = refl
 counter-named counter.Answer = refl
 
--- the cluster's counter, and the peer's
-pub place-ours : (sa : Record) (c : Counter) → place_of (counter_name sa c) ≡ Some (Ours sa.spir c)
+-- the cluster's counter
+pub place-ours : (sa : Record) (c : Counter) → place_of (counter_name sa c) ≡ Ours sa.spir c
 place-ours sa c = let own : _ = sa.origin_is_own in let named : _ = counter-named c in rw (own, named)
-
-pub place-theirs : (sa : Record) (c : Counter) → place_of (peer_counter sa c) ≡ Some (Theirs sa.spir c)
-place-theirs sa c = let own : _ = sa.origin_is_own in let named : _ = counter-named c in rw (own, named)
 
 -- a number where a test passes, and one where it fails whatever the test
 pub number-passed : (b : Bool) (n : ℕ) → (if b then Some n else None) ≡ (if b && true then Some n else None)
@@ -37,4 +36,8 @@ number-failed false n = refl
 pub is_place-same : (p : Place) → is_place p p ≡ true
 is_place-same (Ours spir c) = let a : (spir == spir) ≡ true = eq-eqb spir spir refl in let b : _ = is_counter-same c in rw (a, b)
 is_place-same (Pooled q) = is_pool-same q
-is_place-same (Theirs spir c) = let a : (spir == spir) ≡ true = eq-eqb spir spir refl in let b : _ = is_counter-same c in rw (a, b)
+is_place-same (Theirs name) = is_name-same name
+
+-- the peer begins each counter of an association under its name
+pub begun-same : (sa : Record) (c : Counter) → begun_named (peer_counter sa c) sa ≡ Some (begun_theirs c sa)
+begun-same sa c = let named : _ = counter-named c in let here : _ = is_name-same (peer_counter sa c) in rw (named, here)

@@ -11,17 +11,19 @@ use Rattle.keeper_book.specs.declared.counters.Counter.{Counter}
 use Rattle.keeper_book.specs.declared.counters.Counter.TheVariants as counter
 use Rattle.keeper_book.specs.declared.records.Record.{Record}
 use Rattle.keeper_book.specs.declared.records.Taken.{Taken}
+use Rattle.turn_laws.proofs.Acting.{moves_onto}
 use Rattle.turn_laws.proofs.Deeds.{Spends, rest_of}
 use Rattle.turn_laws.proofs.Outcomes.{Idle, Ours_used, Outcome, Over, Theirs_used, idle-used, outcome-of, over-rest, over-used, rests-rest}
 use Rattle.turn_laws.proofs.Records.{deed-of}
 use Rattle.turn_laws.proofs.Runs.{onto-append}
 use Rattle.turn_laws.proofs.Uses.{number_at, uses-use}
-use Rattle.turn_laws.specs.Acts.{effect_of_call, Act, Calls, effect_ours, effect_theirs, entered_at, holding_at, numbers_at, acts_onto, uses_at}
+use Rattle.turn_laws.specs.Acts.{Act, Calls, act_by, begun_by, effect_begun, effect_of_call, effect_ours, entered_as, holding_at, numbers_at, uses_at}
 use Rattle.turn_laws.specs.Holdings.{Actor, Draws, Holding, Nothing, Use, uses_after}
 use Rattle.turn_laws.specs.Places.{Ours, Place, Pooled, Theirs, is_place}
 use Rattle.turn_laws.specs.Turns.{actor_of, acts_of, number_taken}
 use Rattle.turn_rules.specs.Held.{covered, granted, number_of, used}
 use Rattle.turn_rules.specs.Local.{Explained}
+use Rattle.turn_rules.specs.Slots.{peer_counter}
 
 -- a call uses no number
 module _ (w : Actor) (held : Actor → Option Holding) (us : List Use) where
@@ -30,45 +32,45 @@ module _ (w : Actor) (held : Actor → Option Holding) (us : List Use) where
   ours-uses c None (Some n) = refl
   ours-uses c None None = refl
 
-  theirs-uses : (c : Counter) (entered : Option Record) → uses_after (effect_theirs w c entered) held us ≡ us
-  theirs-uses c None = refl
-  theirs-uses c (Some sa) = refl
+  pub begun-uses : (x : Option Holding) → uses_after (effect_begun w x) held us ≡ us
+  begun-uses None = refl
+  begun-uses (Some h) = refl
 
   pub call-uses : (p : Place) (call : Call) → uses_after (effect_of_call p w call.asked (seen call)) held us ≡ us
   call-uses (Ours spir c) call = ours-uses c (granted spir call.asked (seen call)) (covered spir c call.asked (seen call))
   call-uses (Pooled q) call = refl
-  call-uses (Theirs spir c) call = theirs-uses c (entered_at spir call.asked (seen call))
+  call-uses (Theirs name) call = begun-uses (begun_by name (entered_as call.asked (seen call)))
 
-calls-use : (p : Place) (w : Actor) (calls : List Call) (acts : List Act) → uses_at p (acts_onto w (map Calls calls) acts) ≡ uses_at p acts
+calls-use : (p : Place) (w : Actor) (calls : List Call) (acts : List Act) → uses_at p (moves_onto w (map Calls calls) acts) ≡ uses_at p acts
 calls-use p w [] acts = refl
-calls-use p w (call ∷ calls) acts = calls-use p w calls (record { by = w; move = Calls call } ∷ acts) ∙ call-uses w (holding_at p acts) (uses_at p acts) p call
+calls-use p w (call ∷ calls) acts = calls-use p w calls (act_by w (Calls call) ∷ acts) ∙ call-uses w (holding_at p acts) (uses_at p acts) p call
 
 -- the number of a place that a turn used
 abbrev pub spent : {past : List Turn} {event : Event} {calls : List Call} {step : Step} → Place → Outcome past event calls step → Option ℕ
 spent p (Idle rests) = None
 spent p (Over member said ends quiet) = None
 spent p (Ours_used u it) = number_at p (Ours u.held.sa.spir u.c) u.number
-spent p (Theirs_used u) = number_at p (Theirs u.slot.sa.spir u.c) u.number
+spent p (Theirs_used u) = number_at p (Theirs (peer_counter u.slot.sa u.c)) u.number
 
 module _ (p : Place) (w : Actor) (acts : List Act) (event : Event) (step : Step) where
-  spends-numbers : (q : Place) (n : ℕ) → Spends q n event step → numbers_at p (acts_onto w (rest_of event step) acts) ≡ cons_option (number_at p q n) (numbers_at p acts)
+  spends-numbers : (q : Place) (n : ℕ) → Spends q n event step → numbers_at p (moves_onto w (rest_of event step) acts) ≡ cons_option (number_at p q n) (numbers_at p acts)
   spends-numbers q n spends = ap (λ us. map (λ u. u.number) us) (uses-use p q n w acts (rest_of event step) spends.uses_it) ∙ by_test (is_place q p)
     where
       by_test : (b : Bool) → map (λ u. u.number) (uses_after (if b then Draws w n else Nothing) (holding_at p acts) (uses_at p acts)) ≡ cons_option (if b then Some n else None) (numbers_at p acts)
       by_test true = refl
       by_test false = refl
 
-  rest-numbers : {past : List Turn} {calls : List Call} (o : Outcome past event calls step) → numbers_at p (acts_onto w (rest_of event step) acts) ≡ cons_option (spent p o) (numbers_at p acts)
-  rest-numbers (Idle rests) = ap (λ moves. numbers_at p (acts_onto w moves acts)) (rests-rest event step rests)
-  rest-numbers (Over member said ends quiet) = ap (λ moves. numbers_at p (acts_onto w moves acts)) (over-rest event step member said ends quiet)
+  rest-numbers : {past : List Turn} {calls : List Call} (o : Outcome past event calls step) → numbers_at p (moves_onto w (rest_of event step) acts) ≡ cons_option (spent p o) (numbers_at p acts)
+  rest-numbers (Idle rests) = ap (λ moves. numbers_at p (moves_onto w moves acts)) (rests-rest event step rests)
+  rest-numbers (Over member said ends quiet) = ap (λ moves. numbers_at p (moves_onto w moves acts)) (over-rest event step member said ends quiet)
   rest-numbers (Ours_used u it) = spends-numbers (Ours u.held.sa.spir u.c) u.number it.spends
-  rest-numbers (Theirs_used u) = spends-numbers (Theirs u.slot.sa.spir u.c) u.number u.spends
+  rest-numbers (Theirs_used u) = spends-numbers (Theirs (peer_counter u.slot.sa u.c)) u.number u.spends
 
 -- the numbers of a place after one more turn
 pub turn-numbers : (p : Place) (past : List Turn) (turn : Turn) (o : Outcome past turn.event turn.calls turn.step) → numbers_at p (acts_of (turn ∷ past)) ≡ cons_option (spent p o) (numbers_at p (acts_of past))
 turn-numbers p past turn o =
     ap (λ acts. numbers_at p acts) (onto-append (actor_of turn) (map Calls turn.calls) (rest_of turn.event turn.step) (acts_of past))
-    ∙ (rest-numbers p (actor_of turn) (acts_onto (actor_of turn) (map Calls turn.calls) (acts_of past)) turn.event turn.step o
+    ∙ (rest-numbers p (actor_of turn) (moves_onto (actor_of turn) (map Calls turn.calls) (acts_of past)) turn.event turn.step o
     ∙ ap (λ us. cons_option (spent p o) (map (λ u. u.number) us)) (calls-use p (actor_of turn) turn.calls (acts_of past)))
 
 -- a counter of which members receive no numbers

@@ -1,39 +1,52 @@
 -- The peer may use the numbers that are open to it: the next one that it sends, and those that its window takes.
-use Rattle.std.proofs.Common.{◌≡◌, ℕ, ◌+◌, ◌<◌, Bool, true, false, Option, Some, None, List, [], ◌∷◌, ◌++◌, map, option_to_list, append-nil, refl, ap, sym, ◌∙◌, subst, if◌then◌else◌}
-use Rattle.std.proofs.lemmas.Bool.{eq-eqb, ne_eqb}
+use Rattle.std.proofs.Common.{◌≡◌, ◌≢◌, ℕ, ◌<◌, ◌≤◌, ◌==◌, ◌&&◌, Bool, true, false, Option, Some, None, List, [], ◌∷◌, ◌++◌, map, option_to_list, append-nil, refl, ap, sym, ◌∙◌, subst, if◌then◌else◌}
+use Rattle.std.specs.Prelude.{is_some, reverse}
+use Rattle.std.proofs.lemmas.Bool.{eq-eqb, eqb-false, eqb-true, ne_eqb}
 use Rattle.std.proofs.lemmas.Option.{same_Some}
-use Rattle.std.specs.List.{AllByRecursion, filter_map}
+use Rattle.std.specs.List.{AllByRecursion, cons_option, filter_map, flat_map}
 use Rattle.std.specs.Option.{option_map}
 use Rattle.events.specs.declared.turn.Turn.{Turn}
+use Rattle.ha_base.specs.declared.counter_names.CounterName.{CounterName}
 use Rattle.keeper_book.specs.CounterEnds.{end_of}
+use Rattle.keeper_book.specs.Records.{spir_of_origin}
 use Rattle.keeper_book.specs.declared.counters.Counter.{Counter}
 use Rattle.keeper_book.specs.declared.counters.Counter.TheVariants as counter
 use Rattle.keeper_book.specs.declared.records.Record.{Record}
-use Rattle.replay_set.specs.Window.{judged, window_of}
+use Rattle.replay_set.specs.Window.{judged}
 use Rattle.replay_set.specs.declared.judgement.Judgement.TheVariants as judgement
-use Rattle.turn_laws.specs.PeerTurns.{came, came_in, number_theirs_of}
+use Rattle.turn_laws.proofs.Deeds.{Asked, Deed, Ended, PeerUses, Rested, Rests, Used, Used_theirs, number_theirs_of, rest_of}
+use Rattle.turn_laws.proofs.Listed.{moved}
 use Rattle.turn_laws.proofs.Lists.{all-append, all-both, all-each}
-use Rattle.turn_laws.proofs.Theirs.{told_theirs-held}
+use Rattle.turn_laws.proofs.Names.{begun-same}
+use Rattle.turn_laws.proofs.Outcomes.{idle-received, idle-theirs, rests-rest}
+use Rattle.turn_laws.proofs.Records.{deed-of}
+use Rattle.turn_laws.proofs.Safety.{begun-spir}
+use Rattle.turn_laws.proofs.Same.{is_name-true, is_origin-same}
+use Rattle.turn_laws.proofs.Theirs.{no-packet, not-both, rest-listed, told_theirs-held, use-moved}
+use Rattle.turn_laws.proofs.Told.{is_end-true}
 use Rattle.turn_laws.proofs.Unused.{fresh-unused, next-unused}
+use Rattle.turn_laws.proofs.Uses.{number_at}
 use Rattle.turn_laws.proofs.Well.{PeerMayUse}
-use Rattle.turn_laws.specs.Acts.{HoldsFor, holding_at}
-use Rattle.turn_laws.specs.Holdings.{End, Holding}
-use Rattle.turn_laws.specs.Places.{Theirs, start_of}
+use Rattle.turn_laws.specs.Acts.{HoldsFor, begun_by, begun_theirs, holding_at}
+use Rattle.turn_laws.specs.Holdings.{End, Holding, IsNotIn}
+use Rattle.turn_laws.specs.Listed.{listed_at}
+use Rattle.turn_laws.specs.Names.{is_kind, is_name, is_origin}
+use Rattle.turn_laws.specs.PeerTurns.{begun_in, having_used, since_begun}
+use Rattle.turn_laws.specs.Places.{Theirs, place_of, start_of}
 use Rattle.turn_laws.specs.Turns.{acts_of}
 use Rattle.turn_rules.proofs.SlotTies.{first-has, records-slots_by}
 use Rattle.turn_rules.proofs.StateLaws.{associations-apart}
-use Rattle.turn_rules.specs.Ends.{Peer, own}
-use Rattle.turn_rules.specs.Held.{first_some, found, greatest, window_by}
+use Rattle.turn_rules.specs.Draws.{child_of, counter_kind}
+use Rattle.turn_rules.specs.Ends.{Peer, is_by, own, performer}
+use Rattle.turn_rules.specs.Held.{first_some, found, is_counter, received_of, window_by}
 use Rattle.turn_rules.specs.Local.{Explained}
 use Rattle.turn_rules.specs.Peers.{AreDistinct, Differ, associations_by, entered_in}
-use Rattle.turn_rules.specs.Slots.{Slot, first_slot, since_entered, slot_by, slots_by}
+use Rattle.turn_rules.specs.Safe.{Packet, accepted_in}
+use Rattle.turn_rules.specs.Slots.{Slot, first_slot, is_entered, peer_counter, since_entered, slot_by, slots_by}
 
--- each association of the peer is found by its responder's SPI
-came-same : (sa : Record) → came sa.spir (Some sa) ≡ Some sa
-came-same sa = ap (λ b. if b then Some sa else None) (eq-eqb sa.spir sa.spir refl)
-
-came-other : (sa new : Record) → Differ sa new → came sa.spir (Some new) ≡ None
-came-other sa new differ = ap (λ b. if b then Some new else None) (ne_eqb new.spir sa.spir (λ same. differ.spir (sym same)))
+-- a packet that the peer received in an association is of its counter
+abbrev pub IsNamed : Record → Turn → Type 0
+IsNamed sa turn = (n : ℕ) (packet : Packet) → received_of sa.spir turn ≡ Some n → accepted_in turn ≡ Some packet → place_of packet.name ≡ Theirs (peer_counter sa counter.EspIn)
 
 apart-before : (xs : List Record) (sa : Record) → AreDistinct (xs ++ sa ∷ []) → AreDistinct xs × AllByRecursion (λ x. Differ x sa) xs
 apart-before [] sa apart = (tt, tt)
@@ -46,23 +59,177 @@ apart-before (x ∷ xs) sa apart =
     split [] all = (tt, all.0)
     split (y ∷ ys) all = let rest : AllByRecursion (Differ x) ys × Differ x sa = split ys all.1 in ((all.0, rest.0), rest.1)
 
-all-found : (past : List Turn) → AreDistinct (associations_by past) → AllByRecursion (λ sa. found (came_in sa.spir) past ≡ Some sa) (associations_by past)
-all-found [] apart = tt
-all-found (turn ∷ past) apart = by_entry (all-found past) (entered_in turn) refl apart
+-- two of them with one responder's SPI are the same
+abbrev SameBySpir : Record → Record → Type 0
+SameBySpir a b = a.spir ≡ b.spir → a ≡ b
+
+distinct-same : (xs : List Record) → AreDistinct xs → AllByRecursion (λ a. AllByRecursion (SameBySpir a) xs) xs
+distinct-same [] apart = tt
+distinct-same (x ∷ xs) apart = (
+  ((λ same. refl), all-each xs (λ y differ same. absurd (differ.spir same)) apart.0),
+  all-both xs (λ a differ rest. ((λ same. absurd (differ.spir (sym same))), rest)) apart.0 (distinct-same xs apart.1),
+)
+
+-- two counters of the peer are the same where their names are
+names-same : (sa other : Record) (c d : Counter) → SameBySpir other sa → is_name (peer_counter other d) (peer_counter sa c) ≡ ((other.spir == sa.spir) && is_counter d c)
+names-same sa other c d by_spir = by_test (other.spir == sa.spir) refl
   where
-    by_entry : (AreDistinct (associations_by past) → AllByRecursion (λ sa. found (came_in sa.spir) past ≡ Some sa) (associations_by past))
-        → (x : Option Record) → entered_in turn ≡ x → AreDistinct (associations_by past ++ option_to_list x)
-        → AllByRecursion (λ sa. first_some (came sa.spir (entered_in turn)) (found (came_in sa.spir) past) ≡ Some sa) (associations_by past ++ option_to_list x)
-    by_entry before None e apart = all-append (λ sa. first_some (came sa.spir (entered_in turn)) (found (came_in sa.spir) past) ≡ Some sa) (associations_by past) []
-        (all-each (associations_by past) (λ sa is. ap (λ (x : Option Record). first_some (came sa.spir x) (found (came_in sa.spir) past)) e ∙ is)
-        (before (subst (λ list. AreDistinct list) (append-nil (associations_by past)) apart)))
+    kinds : (d c : Counter) → (is_kind (counter_kind d) (counter_kind c) && ((child_of d == child_of c) && true)) ≡ is_counter d c
+    kinds counter.EspOut counter.EspOut = refl
+    kinds counter.EspIn counter.EspIn = refl
+    kinds counter.Iv counter.Iv = refl
+    kinds counter.Ask counter.Ask = refl
+    kinds counter.Answer counter.Answer = refl
+    kinds d c = refl
+
+    not_named : (other.spir ≢ sa.spir) → (b : Bool) → is_name (peer_counter other d) (peer_counter sa c) ≡ b → b ≡ false
+    not_named differs false t = refl
+    not_named differs true t =
+        let same : peer_counter other d ≡ peer_counter sa c = is_name-true (peer_counter other d) (peer_counter sa c) t in
+        let spirs : Some other.spir ≡ Some sa.spir = sym other.origin_is_own ∙ (ap (λ (n : CounterName). spir_of_origin n.origin) same ∙ sa.origin_is_own) in
+        absurd (differs (same_Some other.spir sa.spir spirs))
+
+    by_test : (b : Bool) → (other.spir == sa.spir) ≡ b → is_name (peer_counter other d) (peer_counter sa c) ≡ (b && is_counter d c)
+    by_test true t =
+        let origins : other.origin ≡ sa.origin = ap (λ (r : Record). r.origin) (by_spir (eqb-true other.spir sa.spir t)) in
+        let here : is_origin other.origin sa.origin ≡ true = subst (λ o. is_origin other.origin o ≡ true) origins (is_origin-same other.origin) in
+        rw here (kinds d c)
+    by_test false t = not_named (eqb-false other.spir sa.spir t) (is_name (peer_counter other d) (peer_counter sa c)) refl
+
+-- what the peer's own turns say of an association by its responder's SPI is what they say under its names
+pub record IsTold (mine : List Turn) (c : Counter) (sa : Record) : Type 0 where
+  pub began : found (begun_in (peer_counter sa c)) mine ≡ Some (begun_theirs c sa)
+  pub numbers : flat_map (listed_at (Theirs (peer_counter sa c))) (since_begun (peer_counter sa c) mine) ≡ filter_map (number_theirs_of sa.spir c) (since_entered sa.spir mine)
+  pub named : AllByRecursion (IsNamed sa) (since_entered sa.spir mine)
+
+-- so it is of one turn
+record TellsBoth (c : Counter) (turn : Turn) (sa : Record) : Type 0 where
+  pub numbers : listed_at (Theirs (peer_counter sa c)) turn ≡ option_to_list (number_theirs_of sa.spir c turn)
+  pub named : IsNamed sa turn
+
+reverse-option : (x : Option ℕ) → reverse (cons_option x []) ≡ option_to_list x
+reverse-option None = refl
+reverse-option (Some n) = refl
+
+module _ (past : List Turn) (turn : Turn) (c : Counter) (sa : Record) where
+  idle-both : Rests turn.step → TellsBoth c turn sa
+  idle-both rests = record {
+    numbers = sym (rest-listed (Theirs (peer_counter sa c)) turn)
+        ∙ (ap (λ moves. reverse (moved (Theirs (peer_counter sa c)) moves)) (rests-rest turn.event turn.step rests)
+        ∙ ap option_to_list (sym (idle-theirs sa.spir c turn.event turn.step.verdict rests.idle)));
+    named = λ n packet is accepted. absurd (no-packet n (sym (idle-received sa.spir turn.event turn.step.verdict rests.idle) ∙ is));
+  }
+
+  used-both : (u : PeerUses past turn.event turn.calls turn.step) → SameBySpir u.slot.sa sa → TellsBoth c turn sa
+  used-both u by_spir = record {
+    numbers = sym (rest-listed (Theirs (peer_counter sa c)) turn)
+        ∙ (ap reverse (use-moved (Theirs (peer_counter sa c)) (Theirs (peer_counter u.slot.sa u.c)) u.number (rest_of turn.event turn.step) u.spends.uses_it)
+        ∙ (reverse-option (number_at (Theirs (peer_counter sa c)) (Theirs (peer_counter u.slot.sa u.c)) u.number)
+        ∙ ap option_to_list (ap (λ b. if b then Some u.number else None) (names-same sa u.slot.sa c u.c by_spir) ∙ sym (u.told sa.spir c))));
+    named = λ n packet is accepted.
+        (u.spends.of_packet packet accepted).0
+        ∙ ap Theirs (same_name (u.slot.sa.spir == sa.spir) refl (u.c) (sym (u.told sa.spir counter.EspIn) ∙ is));
+  }
+    where
+      same_name : (b : Bool) → (u.slot.sa.spir == sa.spir) ≡ b → (d : Counter) {n : ℕ} → (if (u.slot.sa.spir == sa.spir) && is_counter d counter.EspIn then Some u.number else None) ≡ Some n → peer_counter u.slot.sa d ≡ peer_counter sa counter.EspIn
+      same_name true t counter.EspIn is = ap (λ (r : Record). peer_counter r counter.EspIn) (by_spir (eqb-true u.slot.sa.spir sa.spir t))
+      same_name true t counter.EspOut {n} is = absurd (no-packet n (rw t at is))
+      same_name true t counter.Iv {n} is = absurd (no-packet n (rw t at is))
+      same_name true t counter.Ask {n} is = absurd (no-packet n (rw t at is))
+      same_name true t counter.Answer {n} is = absurd (no-packet n (rw t at is))
+      same_name false t d {n} is = absurd (no-packet n (rw t at is))
+
+-- of each association that the peer had before
+peer-both : (boxes : ℕ) (past : List Turn) (turn : Turn) → Explained boxes past → Deed past turn.event turn.calls turn.step → performer turn ≡ Some Peer → (c : Counter) → AllByRecursion (TellsBoth c turn) (associations_by (own Peer past))
+peer-both boxes past turn local deed by c = go deed
+  where
+    each : ((sa : Record) → TellsBoth c turn sa) → (xs : List Record) → AllByRecursion (TellsBoth c turn) xs
+    each f [] = tt
+    each f (x ∷ xs) = (f x, each f xs)
+
+    go : Deed past turn.event turn.calls turn.step → AllByRecursion (TellsBoth c turn) (associations_by (own Peer past))
+    go (Rested none rests no_entry) = each (λ sa. idle-both past turn c sa rests) (associations_by (own Peer past))
+    go (Asked asks) = each (λ sa. idle-both past turn c sa asks.rests) (associations_by (own Peer past))
+    go (Ended member by_it none said ends quiet) = not-both member (performer turn) by_it by
+    go (Used u) = not-both u.member (performer turn) u.by_it by
+    go (Used_theirs u) = all-each (associations_by (own Peer past)) (λ sa. used-both past turn c sa u)
+        (first-has (λ a. AllByRecursion (SameBySpir a) (associations_by (own Peer past))) u.test (slots_by (window_by past) (own Peer past)) u.slot
+        (subst (λ list. AllByRecursion (λ a. AllByRecursion (SameBySpir a) (associations_by (own Peer past))) list) (sym (records-slots_by (window_by past) (own Peer past))) (distinct-same (associations_by (own Peer past)) (associations-apart boxes past local)))
+        u.is_first)
+
+module _ (mine : List Turn) (turn : Turn) (c : Counter) where
+  -- an association that came before, after one more turn in which another one came, or none
+  still-told : (sa : Record) (x : Option Record) → entered_in turn ≡ x → ((new : Record) → x ≡ Some new → Differ sa new) → IsTold mine c sa → TellsBoth c turn sa → IsTold (turn ∷ mine) c sa
+  still-told sa x entered differs told both = record {
+    began = ap (λ y. first_some y (found (begun_in (peer_counter sa c)) mine)) none ∙ told.began;
+    numbers = ap (λ y. flat_map (listed_at (Theirs (peer_counter sa c))) (if is_some y then [] else turn ∷ since_begun (peer_counter sa c) mine)) none
+        ∙ (ap (λ ns. ns ++ flat_map (listed_at (Theirs (peer_counter sa c))) (since_begun (peer_counter sa c) mine)) both.numbers
+        ∙ (ap (λ ns. option_to_list (number_theirs_of sa.spir c turn) ++ ns) told.numbers
+        ∙ (cons-option (number_theirs_of sa.spir c turn) (filter_map (number_theirs_of sa.spir c) (since_entered sa.spir mine))
+        ∙ ap (λ b. filter_map (number_theirs_of sa.spir c) (if b then [] else turn ∷ since_entered sa.spir mine)) (sym other))));
+    named = subst (λ b. AllByRecursion (IsNamed sa) (if b then [] else turn ∷ since_entered sa.spir mine)) (sym other) (both.named, told.named);
+  }
+    where
+      cons-option : (y : Option ℕ) (ns : List ℕ) → option_to_list y ++ ns ≡ cons_option y ns
+      cons-option None ns = refl
+      cons-option (Some n) ns = refl
+
+      other-spir : (y : Option Record) → x ≡ y → is_entered sa.spir y ≡ false
+      other-spir None e = refl
+      other-spir (Some new) e = ne_eqb new.spir sa.spir (λ same. (differs new e).spir (sym same))
+
+      other : is_entered sa.spir (entered_in turn) ≡ false
+      other = ap (is_entered sa.spir) entered ∙ other-spir x refl
+
+      not-begun : (y : Option Record) → x ≡ y → (h : Option Holding) → begun_by (peer_counter sa c) y ≡ h → h ≡ None
+      not-begun y e None is = refl
+      not-begun None e (Some h) is = absurd (cc)
+      not-begun (Some new) e (Some h) is = absurd ((differs new e).spir (same_Some sa.spir new.spir (sym sa.origin_is_own ∙ begun-spir (peer_counter sa c) new h is)))
+
+      none : begun_in (peer_counter sa c) turn ≡ None
+      none = ap (begun_by (peer_counter sa c)) entered ∙ not-begun x refl (begun_by (peer_counter sa c) x) refl
+
+  -- and one that came in the turn
+  new-told : (sa : Record) → entered_in turn ≡ Some sa → IsTold (turn ∷ mine) c sa
+  new-told sa entered = record {
+    began = ap (λ y. first_some y (found (begun_in (peer_counter sa c)) mine)) begins;
+    numbers = ap (λ y. flat_map (listed_at (Theirs (peer_counter sa c))) (if is_some y then [] else turn ∷ since_begun (peer_counter sa c) mine)) begins
+        ∙ ap (λ b. filter_map (number_theirs_of sa.spir c) (if b then [] else turn ∷ since_entered sa.spir mine)) (sym here);
+    named = subst (λ b. AllByRecursion (IsNamed sa) (if b then [] else turn ∷ since_entered sa.spir mine)) (sym here) tt;
+  }
+    where
+      here : is_entered sa.spir (entered_in turn) ≡ true
+      here = ap (is_entered sa.spir) entered ∙ eq-eqb sa.spir sa.spir refl
+
+      begins : begun_in (peer_counter sa c) turn ≡ Some (begun_theirs c sa)
+      begins = ap (begun_by (peer_counter sa c)) entered ∙ begun-same sa c
+
+-- each association of the peer is told so
+pub all-told : (boxes : ℕ) (past : List Turn) → Explained boxes past → (c : Counter) → AllByRecursion (IsTold (own Peer past) c) (associations_by (own Peer past))
+all-told boxes [] local c = tt
+all-told boxes (turn ∷ past) local c = by_test (all-told boxes past local.1 c) (is_by Peer turn) refl (associations-apart boxes (turn ∷ past) local)
+  where
+    mine : List Turn
+    mine = own Peer past
+
+    by_entry : AllByRecursion (IsTold mine c) (associations_by mine) → AllByRecursion (TellsBoth c turn) (associations_by mine) → (x : Option Record) → entered_in turn ≡ x → AreDistinct (associations_by mine ++ option_to_list x)
+        → AllByRecursion (IsTold (turn ∷ mine) c) (associations_by mine ++ option_to_list x)
+    by_entry before both None e apart = all-append (IsTold (turn ∷ mine) c) (associations_by mine) []
+        (all-both (associations_by mine) (λ sa told tells. still-told mine turn c sa None e (λ new is. absurd (cc)) told tells) before both)
         tt
-    by_entry before (Some new) e apart =
-        let parts : AreDistinct (associations_by past) × AllByRecursion (λ x. Differ x new) (associations_by past) = apart-before (associations_by past) new apart in
-        all-append (λ sa. first_some (came sa.spir (entered_in turn)) (found (came_in sa.spir) past) ≡ Some sa) (associations_by past) (new ∷ [])
-        (all-both (associations_by past) (λ sa is differ. ap (λ (x : Option Record). first_some (came sa.spir x) (found (came_in sa.spir) past)) e
-        ∙ (ap (λ (x : Option Record). first_some x (found (came_in sa.spir) past)) (came-other sa new differ) ∙ is)) (before parts.0) parts.1)
-        (ap (λ (x : Option Record). first_some (came new.spir x) (found (came_in new.spir) past)) e ∙ ap (λ (x : Option Record). first_some x (found (came_in new.spir) past)) (came-same new), tt)
+    by_entry before both (Some new) e apart =
+        let parts : AreDistinct (associations_by mine) × AllByRecursion (λ x. Differ x new) (associations_by mine) = apart-before (associations_by mine) new apart in
+        all-append (IsTold (turn ∷ mine) c) (associations_by mine) (new ∷ [])
+        (all-both {Q = λ sa. TellsBoth c turn sa × Differ sa new} (associations_by mine) (λ sa told more. still-told mine turn c sa (Some new) e (λ other is. subst (λ r. Differ sa r) (same_Some new other is) more.1) told more.0) before
+        (all-both (associations_by mine) (λ sa tells differ. (tells, differ)) both parts.1))
+        (new-told mine turn c new e, tt)
+
+    by_test : AllByRecursion (IsTold mine c) (associations_by mine) → (b : Bool) → is_by Peer turn ≡ b → AreDistinct (associations_by (if is_by Peer turn then turn ∷ mine else mine))
+        → AllByRecursion (IsTold (if is_by Peer turn then turn ∷ mine else mine) c) (associations_by (if is_by Peer turn then turn ∷ mine else mine))
+    by_test before true t apart = subst (λ b. AllByRecursion (IsTold (if b then turn ∷ mine else mine) c) (associations_by (if b then turn ∷ mine else mine))) (sym t)
+        (by_entry before (peer-both boxes past turn local.1 (deed-of boxes past turn local.0 local.1) (is_end-true Peer (performer turn) t) c) (entered_in turn) refl
+        (subst (λ b. AreDistinct (associations_by (if b then turn ∷ mine else mine))) t apart))
+    by_test before false t apart = subst (λ b. AllByRecursion (IsTold (if b then turn ∷ mine else mine) c) (associations_by (if b then turn ∷ mine else mine))) (sym t) before
 
 slot-among : (size : ℕ) (past : List Turn) (test : Slot → Bool) (slot : Slot) (associations : List Record) → first_slot test (map (slot_by size past) associations) ≡ Some slot → slot ≡ slot_by size past slot.sa
 slot-among size past test slot [] is = absurd (cc)
@@ -83,52 +250,47 @@ module _ (boxes : ℕ) (past : List Turn) (local : Explained boxes past) (test :
   numbers c = filter_map (number_theirs_of slot.sa.spir c) (since_entered slot.sa.spir (own Peer past))
 
   abbrev its_holding : Counter → Holding
-  its_holding c = record { epoch = 1; base = start_of slot.sa c; high = end_of slot.sa c; end = end_of slot.sa c; numbers = numbers c }
+  its_holding c = having_used (numbers c) (begun_theirs c slot.sa)
 
-  its_association : found (came_in slot.sa.spir) (own Peer past) ≡ Some slot.sa
-  its_association = first-has (λ sa. found (came_in sa.spir) (own Peer past) ≡ Some sa) test (slots_by (window_by past) (own Peer past)) slot
-      (subst (λ list. AllByRecursion (λ sa. found (came_in sa.spir) (own Peer past) ≡ Some sa) list) (sym (records-slots_by (window_by past) (own Peer past)))
-      (all-found (own Peer past) (associations-apart boxes past local)))
+  pub its-told : (c : Counter) → IsTold (own Peer past) c slot.sa
+  its-told c = first-has (IsTold (own Peer past) c) test (slots_by (window_by past) (own Peer past)) slot
+      (subst (λ list. AllByRecursion (IsTold (own Peer past) c) list) (sym (records-slots_by (window_by past) (own Peer past))) (all-told boxes past local c))
       is
 
-  holds_it : (c : Counter) → holding_at (Theirs slot.sa.spir c) (acts_of past) (End Peer) ≡ Some (its_holding c)
+  holds_it : (c : Counter) → holding_at (Theirs (peer_counter slot.sa c)) (acts_of past) (End Peer) ≡ Some (its_holding c)
   holds_it c =
-      sym (told_theirs-held boxes past local slot.sa.spir c)
-      ∙ ap (option_map (λ (sa : Record). record { epoch = 1; base = start_of sa c; high = end_of sa c; end = end_of sa c; numbers = numbers c })) its_association
+      sym (told_theirs-held boxes past local (peer_counter slot.sa c))
+      ∙ (ap (option_map (having_used (flat_map (listed_at (Theirs (peer_counter slot.sa c))) (since_begun (peer_counter slot.sa c) (own Peer past))))) (its-told c).began
+      ∙ ap (λ ns. Some (having_used ns (begun_theirs c slot.sa))) (its-told c).numbers)
+
+  may-use-it : (c : Counter) (n : ℕ) → n < end_of slot.sa c → (start_of slot.sa c ≤ n) × IsNotIn n (numbers c) → HoldsFor (holding_at (Theirs (peer_counter slot.sa c)) (acts_of past) (End Peer)) n
+  may-use-it c n below unused = record {
+    holding = its_holding c;
+    holds = holds_it c;
+    may = record {
+      from_base = unused.0;
+      below_high = below;
+      unused = subst (λ ns. IsNotIn n ns) (sym (append-nil (numbers c))) unused.1;
+    };
+  }
 
   -- the peer may use the number that it sends next
-  peer-may-send : slot.next < end_of slot.sa counter.EspOut → HoldsFor (holding_at (Theirs slot.sa.spir counter.EspOut) (acts_of past) (End Peer)) slot.next
-  peer-may-send below =
-      let next : slot.next ≡ greatest slot.sa.starts.esp_in (map (λ n. n + 1) (numbers counter.EspOut)) = ap (λ (s : Slot). s.next) (slot-told (window_by past) (own Peer past) test slot is) in
-      record {
-        holding = its_holding counter.EspOut;
-        holds = holds_it counter.EspOut;
-        may = record {
-          from_base = (next-unused slot.sa.starts.esp_in slot.next (numbers counter.EspOut) next).0;
-          below_high = below;
-          unused = (next-unused slot.sa.starts.esp_in slot.next (numbers counter.EspOut) next).1;
-        };
-      }
+  peer-may-send : slot.next < end_of slot.sa counter.EspOut → HoldsFor (holding_at (Theirs (peer_counter slot.sa counter.EspOut)) (acts_of past) (End Peer)) slot.next
+  peer-may-send below = may-use-it counter.EspOut slot.next below
+      (next-unused slot.sa.starts.esp_in slot.next (numbers counter.EspOut) (ap (λ (s : Slot). s.next) (slot-told (window_by past) (own Peer past) test slot is)))
 
   -- and each number that its window takes
-  peer-may-take : (n : ℕ) → n < end_of slot.sa counter.EspIn → judged slot.window n ≡ judgement.Fresh → HoldsFor (holding_at (Theirs slot.sa.spir counter.EspIn) (acts_of past) (End Peer)) n
-  peer-may-take n below fresh =
-      let window = ap (λ (s : Slot). s.window) (slot-told (window_by past) (own Peer past) test slot is) in
-      let told : judged (window_of (window_by past) slot.sa.starts.esp_out (numbers counter.EspIn)) n ≡ judgement.Fresh = subst (λ window. judged window n ≡ judgement.Fresh) window fresh in
-      record {
-        holding = its_holding counter.EspIn;
-        holds = holds_it counter.EspIn;
-        may = record {
-          from_base = (fresh-unused (window_by past) slot.sa.starts.esp_out n (numbers counter.EspIn) told).0;
-          below_high = below;
-          unused = (fresh-unused (window_by past) slot.sa.starts.esp_out n (numbers counter.EspIn) told).1;
-        };
-      }
+  peer-may-take : (n : ℕ) → n < end_of slot.sa counter.EspIn → judged slot.window n ≡ judgement.Fresh → HoldsFor (holding_at (Theirs (peer_counter slot.sa counter.EspIn)) (acts_of past) (End Peer)) n
+  peer-may-take n below fresh = may-use-it counter.EspIn n below
+      (fresh-unused (window_by past) slot.sa.starts.esp_out n (numbers counter.EspIn)
+      (subst (λ window. judged window n ≡ judgement.Fresh) (ap (λ (s : Slot). s.window) (slot-told (window_by past) (own Peer past) test slot is)) fresh))
 
 -- the peer may use the numbers that are open to it
 pub peer-may : (boxes : ℕ) (past : List Turn) → Explained boxes past → PeerMayUse past (acts_of past)
 peer-may boxes past local test slot is_first counter.EspOut n is_open =
-    subst (λ k. HoldsFor (holding_at (Theirs slot.sa.spir counter.EspOut) (acts_of past) (End Peer)) k) (sym is_open.0)
+    subst (λ k. HoldsFor (holding_at (Theirs (peer_counter slot.sa counter.EspOut)) (acts_of past) (End Peer)) k) (sym is_open.0)
     (peer-may-send boxes past local test slot is_first (subst (λ k. k < end_of slot.sa counter.EspOut) is_open.0 is_open.1))
 peer-may boxes past local test slot is_first counter.EspIn n is_open = peer-may-take boxes past local test slot is_first n is_open.0 is_open.1
-peer-may boxes past local test slot is_first c n is_open = absurd is_open
+peer-may boxes past local test slot is_first counter.Iv n is_open = absurd is_open
+peer-may boxes past local test slot is_first counter.Ask n is_open = absurd is_open
+peer-may boxes past local test slot is_first counter.Answer n is_open = absurd is_open

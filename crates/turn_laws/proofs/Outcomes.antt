@@ -11,7 +11,7 @@ use Rattle.keeper_book.specs.declared.calls.Call.{Call}
 use Rattle.keeper_book.specs.declared.counters.Counter.{Counter}
 use Rattle.keeper_book.specs.declared.counters.Counter.TheVariants as counter
 use Rattle.turn_laws.proofs.Covers.{ready-calls}
-use Rattle.turn_laws.proofs.Deeds.{Asked, Deed, Ended, IsIdle, MemberUses, PeerUses, Rested, Rests, Used, Used_theirs, UsesIt, rest_of}
+use Rattle.turn_laws.proofs.Deeds.{number_theirs, Asked, Deed, Ended, IsIdle, MemberUses, PeerUses, Rested, Rests, Used, Used_theirs, UsesIt, rest_of}
 use Rattle.turn_laws.specs.Acts.{Ends}
 use Rattle.turn_laws.specs.Turns.{end_moves, number_taken, uses_of}
 use Rattle.turn_rules.specs.Draws.{reach_of}
@@ -119,3 +119,9 @@ pub over-taken : (spir : ℕ) (c : Counter) (event : Event) → number_taken spi
 over-taken spir counter.EspIn event = over-received spir event
 over-taken spir counter.EspOut event = over-used spir counter.EspOut event
 over-taken spir c event = refl
+
+-- and nothing of the peer
+pub idle-theirs : (spir : ℕ) (c : Counter) (event : Event) (verdict : Verdict) → IsIdle verdict → number_theirs spir c event verdict ≡ None
+idle-theirs spir counter.EspOut event verdict idle = idle-sent spir event verdict idle
+idle-theirs spir counter.EspIn event verdict idle = idle-received spir event verdict idle
+idle-theirs spir c event verdict idle = refl

@@ -1,5 +1,5 @@
 -- A range that is leased keeps the numbers of its pool apart, whether or not its caller saw it.
-use Rattle.std.proofs.Common.{◌≡◌, ℕ, ◌+◌, ◌-◌, ◌<◌, ◌≤◌, Bool, true, false, Option, List, [], ◌∷◌, ◌++◌, length, refl, ap, sym, ◌∙◌, subst, arith, if◌then◌else◌}
+use Rattle.std.proofs.Common.{◌≡◌, ℕ, ◌+◌, ◌-◌, ◌<◌, ◌≤◌, Bool, true, false, Option, Some, None, List, [], ◌∷◌, ◌++◌, length, refl, ap, sym, ◌∙◌, subst, arith, if◌then◌else◌}
 use Rattle.keeper_book.specs.Book.{Book, Entry, book_entered, pool_next, with_pool_next}
 use Rattle.keeper_book.specs.Pools.{pool_end}
 use Rattle.keeper_book.specs.declared.calls.KeeperAsk.{KeeperAsk}
@@ -8,9 +8,9 @@ use Rattle.keeper_book.specs.declared.pools.Pool.{Pool}
 use Rattle.keeper_book.specs.declared.pools.Pool.TheVariants as pools
 use Rattle.turn_laws.proofs.Columns.{goes_on-epoch, goes_on-higher, goes_on-refl, length-append_one, mark-high, mark-with_epoch, with_epoch}
 use Rattle.turn_laws.proofs.Holdings.{Keeps}
-use Rattle.turn_laws.specs.Acts.{effect_of_lease, lot_begun, lots_leased}
+use Rattle.turn_laws.specs.Acts.{begun_leased, effect_begun, lot_begun, with_begun}
 use Rattle.turn_laws.specs.Columns.{Column, ColumnGoesOn, IsRising, column_mark}
-use Rattle.turn_laws.specs.Holdings.{Actor, Begins, Holding, IsNew, Nothing, Use, uses_after}
+use Rattle.turn_laws.specs.Holdings.{Actor, Begins, Holding, IsNew, column_begun}
 use Rattle.turn_laws.specs.Places.{Ours, Place, Pooled, Theirs, column, is_pool}
 
 pub is_pool-same : (p : Pool) → is_pool p p ≡ true
@@ -81,7 +81,7 @@ module _ (lots : List ℕ) (high end count : ℕ) (rising : IsRising (record { b
     same_end = λ some. refl;
   }
 
-  pub lot-new : IsNew was now (record { epoch = length lots + 1; base = high; high = high + count; end = end; numbers = [] })
+  pub lot-new : IsNew was now (record { epoch = length lots + 1; base = high; next = high; high = high + count; end = end; numbers = [] })
   lot-new = record {
     next_epoch = refl;
     of_column = record {
@@ -92,26 +92,28 @@ module _ (lots : List ℕ) (high end count : ℕ) (rising : IsRising (record { b
           let above : column_mark now (length lots + 1) ≡ high + count = mark-high now (length lots + 1) (let e : length (lots ++ high ∷ []) ≡ length lots + 1 = longer in omega arith) in
           omega arith;
       end = refl;
+      from_base = omega arith;
+      above_used = tt;
     };
     unused = refl;
   }
 
-module _ (held : Actor → Option Holding) (w : Actor) (lots : List ℕ) (old new : Book) (pool : Pool) (first count : ℕ) (is_next : first ≡ pool_next pool old) (is : new ≡ with_pool_next pool (first + count) old) where
+module _ (held : Actor → Option Holding) (w : Actor) (begun : Column) (old new : Book) (pool : Pool) (first count : ℕ) (is_next : first ≡ pool_next pool old) (is : new ≡ with_pool_next pool (first + count) old) where
   -- the pool's next number afterwards
   next-is : pool_next pool new ≡ first + count
   next-is = ap (pool_next pool) is ∙ next-leased pool (first + count) old
 
-  lot-begins : IsRising (column (Pooled pool) lots old) → Keeps (Begins w (lot_begun (length lots) pool first count)) held (column (Pooled pool) lots old) (column (Pooled pool) (lots ++ first ∷ []) new)
+  lot-begins : IsRising (column (Pooled pool) begun old) → Keeps (Begins w (lot_begun (length begun.bases) pool first count)) held (column (Pooled pool) begun old) (column (Pooled pool) (column_begun (lot_begun (length begun.bases) pool first count) begun) new)
   lot-begins rising =
-      subst (λ next. ColumnGoesOn (column (Pooled pool) lots old) (record { bases = lots ++ first ∷ []; high = next; end = pool_end pool })
-      × IsNew (column (Pooled pool) lots old) (record { bases = lots ++ first ∷ []; high = next; end = pool_end pool }) (lot_begun (length lots) pool first count)) (sym next-is)
-      (subst (λ n. ColumnGoesOn (column (Pooled pool) lots old) (record { bases = lots ++ n ∷ []; high = n + count; end = pool_end pool })
-      × IsNew (column (Pooled pool) lots old) (record { bases = lots ++ n ∷ []; high = n + count; end = pool_end pool }) (lot_begun (length lots) pool n count)) (sym is_next)
-      (lot-goes_on lots (pool_next pool old) (pool_end pool) count rising, lot-new lots (pool_next pool old) (pool_end pool) count rising))
+      subst (λ next. ColumnGoesOn (column (Pooled pool) begun old) (record { bases = begun.bases ++ first ∷ []; high = next; end = pool_end pool })
+      × IsNew (column (Pooled pool) begun old) (record { bases = begun.bases ++ first ∷ []; high = next; end = pool_end pool }) (lot_begun (length begun.bases) pool first count)) (sym next-is)
+      (subst (λ n. ColumnGoesOn (column (Pooled pool) begun old) (record { bases = begun.bases ++ n ∷ []; high = n + count; end = pool_end pool })
+      × IsNew (column (Pooled pool) begun old) (record { bases = begun.bases ++ n ∷ []; high = n + count; end = pool_end pool }) (lot_begun (length begun.bases) pool n count)) (sym is_next)
+      (lot-goes_on begun.bases (pool_next pool old) (pool_end pool) count rising, lot-new begun.bases (pool_next pool old) (pool_end pool) count rising))
 
   -- what its caller did not see leaves a gap, and other pools stay
-  goes-higher : (q : Pool) → IsRising (column (Pooled q) lots old) → pool_next q old ≤ pool_next q new → ColumnGoesOn (column (Pooled q) lots old) (column (Pooled q) lots new)
-  goes-higher q rising above = goes_on-higher (column (Pooled q) lots old) (pool_next q new) rising above
+  goes-higher : (q : Pool) → IsRising (column (Pooled q) begun old) → pool_next q old ≤ pool_next q new → ColumnGoesOn (column (Pooled q) begun old) (column (Pooled q) begun new)
+  goes-higher q rising above = goes_on-higher (column (Pooled q) begun old) (pool_next q new) rising above
 
   no-lower : (q : Pool) → pool_next q old ≤ pool_next q new
   no-lower q = by_test (is_pool pool q) refl
@@ -125,25 +127,22 @@ module _ (held : Actor → Option Holding) (w : Actor) (lots : List ℕ) (old ne
   same-entries : new.entries ≡ old.entries
   same-entries = ap (λ (b : Book). b.entries) is ∙ lease-entries pool (first + count) old
 
-  pub keeps-lease : (p : Place) (seen : Bool) → IsRising (column p lots old) → Keeps (effect_of_lease p lots w pool first count seen) held (column p lots old) (column p (lots_leased p pool first seen lots) new)
-  keeps-lease (Ours spir c) seen rising = subst (λ (es : List Entry). ColumnGoesOn (column (Ours spir c) lots old) (column (Ours spir c) lots (record old { entries = es }))) (sym same-entries) (goes_on-refl (column (Ours spir c) lots old) rising)
-  keeps-lease (Theirs spir c) seen rising = subst (λ (es : List Entry). ColumnGoesOn (column (Theirs spir c) lots old) (column (Theirs spir c) lots (record old { entries = es }))) (sym same-entries) (goes_on-refl (column (Theirs spir c) lots old) rising)
+  pub keeps-lease : (p : Place) (seen : Bool) → IsRising (column p begun old) → Keeps (effect_begun w (begun_leased p begun pool first count seen)) held (column p begun old) (column p (with_begun (begun_leased p begun pool first count seen) begun) new)
+  keeps-lease (Ours spir c) seen rising = subst (λ (es : List Entry). ColumnGoesOn (column (Ours spir c) begun old) (column (Ours spir c) begun (record old { entries = es }))) (sym same-entries) (goes_on-refl (column (Ours spir c) begun old) rising)
+  keeps-lease (Theirs name) seen rising = goes_on-refl begun rising
   keeps-lease (Pooled q) false rising = goes-higher q rising (no-lower q)
   keeps-lease (Pooled q) true rising = by_test (is_pool pool q) refl
     where
       by_test : (b : Bool) → is_pool pool q ≡ b
-          → Keeps (if b then Begins w (lot_begun (length lots) pool first count) else Nothing) held (column (Pooled q) lots old) (column (Pooled q) (if b then lots ++ first ∷ [] else lots) new)
+          → Keeps (effect_begun w (if b then Some (lot_begun (length begun.bases) pool first count) else None)) held (column (Pooled q) begun old) (column (Pooled q) (with_begun (if b then Some (lot_begun (length begun.bases) pool first count) else None) begun) new)
       by_test true t =
-          subst (λ r. IsRising (column (Pooled r) lots old) → Keeps (Begins w (lot_begun (length lots) pool first count)) held (column (Pooled r) lots old) (column (Pooled r) (lots ++ first ∷ []) new)) (is_pool-true pool q t) lot-begins rising
+          subst (λ r. IsRising (column (Pooled r) begun old) → Keeps (Begins w (lot_begun (length begun.bases) pool first count)) held (column (Pooled r) begun old) (column (Pooled r) (column_begun (lot_begun (length begun.bases) pool first count) begun) new)) (is_pool-true pool q t) lot-begins rising
       by_test false t = goes-higher q rising (no-lower q)
 
--- a lease uses no number
-pub lease-uses : (p : Place) (lots : List ℕ) (w : Actor) (pool : Pool) (first count : ℕ) (seen : Bool) (held : Actor → Option Holding) (us : List Use) → uses_after (effect_of_lease p lots w pool first count seen) held us ≡ us
-lease-uses (Ours spir c) lots w pool first count seen held us = refl
-lease-uses (Theirs spir c) lots w pool first count seen held us = refl
-lease-uses (Pooled q) lots w pool first count false held us = refl
-lease-uses (Pooled q) lots w pool first count true held us = by_test (is_pool pool q)
+-- a lease gets no pool beyond its end
+pub lease-within : (old new : Book) (pool : Pool) (first count : ℕ) → first + count ≤ pool_end pool → new ≡ with_pool_next pool (first + count) old → (q : Pool) → pool_next q old ≤ pool_end q → pool_next q new ≤ pool_end q
+lease-within old new pool first count within is q before = by_test (is_pool pool q) refl
   where
-    by_test : (b : Bool) → uses_after (if b then Begins w (lot_begun (length lots) pool first count) else Nothing) held us ≡ us
-    by_test true = refl
-    by_test false = refl
+    by_test : (b : Bool) → is_pool pool q ≡ b → pool_next q new ≤ pool_end q
+    by_test true t = subst (λ r. pool_next r new ≤ pool_end r) (is_pool-true pool q t) (let e : pool_next pool new ≡ first + count = ap (pool_next pool) is ∙ next-leased pool (first + count) old in omega arith)
+    by_test false t = let e : pool_next q new ≡ pool_next q old = ap (pool_next q) is ∙ next-other pool q (first + count) old t in omega arith

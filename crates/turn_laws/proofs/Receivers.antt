@@ -25,7 +25,7 @@ use Rattle.turn_laws.proofs.Called.{HoldOfCalls, IfCall, calls-hold}
 use Rattle.turn_laws.proofs.Lists.{all-each, all-filter}
 use Rattle.turn_laws.proofs.Records.{found-holds}
 use Rattle.turn_laws.proofs.Pools.{lease-entries}
-use Rattle.turn_laws.specs.Acts.{Leases, Act, Calls, Ends, Move, Seals, Uses}
+use Rattle.turn_laws.specs.Acts.{Act, Calls, Ends, Leaps, Leases, Move, Opens, Seals, Starts, Uses}
 use Rattle.turn_laws.specs.Owned.{Lawful, Writes}
 use Rattle.turn_laws.specs.Turns.{acts_of}
 use Rattle.turn_rules.specs.Ends.{Member, is_by, own}
@@ -149,6 +149,9 @@ lawful-recorded (act ∷ acts) book lawful = by_move act.move refl lawful.3 (law
         by_act (Uses q n) has = tt
         by_act (Seals key) has = tt
         by_act (Leases pool first count seen) has = tt
+        by_act (Leaps q n) has = tt
+        by_act (Opens sa) has = tt
+        by_act (Starts sa) has = tt
         by_act Ends has = tt
 
     still : (move : Move) → act.move ≡ move → IfCall (IsInBook book) move → ((spir : ℕ) → record_of book spir ≡ record_of lawful.0 spir) → Recorded acts lawful.0 → Recorded (act ∷ acts) book
@@ -172,6 +175,9 @@ lawful-recorded (act ∷ acts) book lawful = by_move act.move refl lawful.3 (law
     by_move (Leases pool first count seen) is writes before =
         let leases : Writes lawful.0 (Leases pool first count seen) book = subst (λ move. Writes lawful.0 move book) is writes in
         still (Leases pool first count seen) is tt (λ spir. ap (λ es. record_in (entry_of spir es)) (ap (λ (b : Book). b.entries) leases.1 ∙ lease-entries pool (first + count) lawful.0)) before
+    by_move (Leaps q n) is writes before = still (Leaps q n) is tt (λ spir. ap (λ (b : Book). record_of b spir) (subst (λ move. Writes lawful.0 move book) is writes)) before
+    by_move (Opens sa) is writes before = still (Opens sa) is tt (λ spir. ap (λ (b : Book). record_of b spir) (subst (λ move. Writes lawful.0 move book) is writes)) before
+    by_move (Starts sa) is writes before = still (Starts sa) is tt (λ spir. ap (λ (b : Book). record_of b spir) (subst (λ move. Writes lawful.0 move book) is writes)) before
     by_move Ends is writes before = still Ends is tt (λ spir. ap (λ (b : Book). record_of b spir) (subst (λ move. Writes lawful.0 move book) is writes)) before
 
 module _ (boxes : ℕ) (past : List Turn) (book : Book) (local : Explained boxes past) (stands : Stands past book) where

@@ -23,11 +23,10 @@ use Rattle.keeper_book.specs.declared.calls.Call.{Call}
 use Rattle.keeper_book.specs.declared.counters.Counter.{Counter}
 use Rattle.keeper_book.specs.declared.counters.Counter.TheVariants as counter
 use Rattle.keeper_book.specs.declared.records.Record.{Record}
-use Rattle.turn_laws.specs.PeerTurns.{number_theirs}
 use Rattle.turn_laws.proofs.Covers.{ready-as, ready-calls}
-use Rattle.turn_laws.proofs.Deeds.{Deed, IsIdle, Rested, Rests, Spends, Used, Used_theirs, UsesIt}
+use Rattle.turn_laws.proofs.Deeds.{number_theirs, Deed, IsIdle, Rested, Rests, Spends, Used, Used_theirs, UsesIt}
 use Rattle.turn_laws.proofs.Members.{member-performs, own-held, stop-of_member}
-use Rattle.turn_laws.proofs.Names.{number-failed, number-passed, place-ours, place-theirs}
+use Rattle.turn_laws.proofs.Names.{number-failed, number-passed, place-ours}
 use Rattle.turn_laws.proofs.Uses.{Counts, number_at}
 use Rattle.turn_laws.specs.Places.{Ours, Place, Theirs, place_of}
 use Rattle.turn_laws.specs.Turns.{number_taken}
@@ -73,14 +72,14 @@ accepts name packet answer after verdict is worded =
     let so : IsVerdictOf (esp.Accepted name packet) after verdict = subst (λ a. IsVerdictOf a after verdict) is worded in
     record { next_header = packet.next_header; payload = so.0; said = so.2 }
 
-accepts-spends : (event : Event) (name : CounterName) (place : Place) (n : ℕ) (step : Step) → place_of name ≡ Some place → IsQuiet step → Accepts name n step.verdict → Spends place n event step
+accepts-spends : (event : Event) (name : CounterName) (place : Place) (n : ℕ) (step : Step) → place_of name ≡ place → IsQuiet step → Accepts name n step.verdict → Spends place n event step
 accepts-spends event name place n step named quiet a = record {
   served = quiet.served;
   uses_it = Counts (let said : _ = a.said in let none : _ = quiet.seals in rw (said, none, named));
   of_packet = λ packet is. of_packet packet (same_Some (record { name = name; number = n }) packet (ap accepted_as (sym a.said) ∙ is));
 }
   where
-    of_packet : (packet : Packet) → record { name = name; number = n } ≡ packet → (place_of packet.name ≡ Some place) × (packet.number ≡ n)
+    of_packet : (packet : Packet) → record { name = name; number = n } ≡ packet → (place_of packet.name ≡ place) × (packet.number ≡ n)
     of_packet packet same = (sym (ap (λ (p : Packet). place_of p.name) same) ∙ named, sym (ap (λ (p : Packet). p.number) same))
 
 -- the number of the association that was accepted
@@ -99,7 +98,7 @@ module _ (event : Event) (to : Party) (brings : Brings event to) (sa : Record) (
   accepted-told a other counter.Answer = number-failed (sa.spir == other) n
   accepted-told a other counter.EspIn = brings.receives other verdict ∙ accepted-number sa (counter_name sa counter.EspIn) n verdict refl a other
 
-  accepted_theirs-told : Accepts (peer_counter sa counter.EspIn) n verdict → (other : ℕ) (d : Counter) → number_theirs other d event verdict ≡ number_at (Theirs other d) (Theirs sa.spir counter.EspIn) n
+  accepted_theirs-told : Accepts (peer_counter sa counter.EspIn) n verdict → (other : ℕ) (d : Counter) → number_theirs other d event verdict ≡ number_at (Ours other d) (Ours sa.spir counter.EspIn) n
   accepted_theirs-told a other counter.EspOut = brings.sends_none other verdict ∙ number-failed (sa.spir == other) n
   accepted_theirs-told a other counter.Iv = number-failed (sa.spir == other) n
   accepted_theirs-told a other counter.Ask = number-failed (sa.spir == other) n
@@ -158,13 +157,13 @@ module _ (boxes : ℕ) (past : List Turn) (own_spir : (member spir : ℕ) (held 
     drops-deed : (why : EspDrop) → DropsQuietly why octets calls answer after → Deed past event calls step
     drops-deed why drops = Rested drops.0 (dropped-rests step why answer after quiet drops.1.said worded) (brings.no_entry step.verdict)
 
-    received-deed : IsReceived ((told_state boxes past).held member) octets calls answer after → Deed past event calls step
+    received-deed : IsReceived ((told_state boxes past).members member).held octets calls answer after → Deed past event calls step
     received-deed r =
         let is_held : held_by (window_by past) (own (Member member) past) r.spir ≡ Some r.receiver = own-held boxes past member r.spir r.receiver r.is_receiver.is_held in
         let same : r.receiver.sa.spir ≡ r.spir = own_spir member r.spir r.receiver is_held in
         opened-deed r.receiver (subst (λ n. held_by (window_by past) (own (Member member) past) n ≡ Some r.receiver) (sym same) is_held) r.receives.opened r.receives.opens r.receives.takes
 
-    pub member_takes-deed : MemberReceives ((told_state boxes past).held member) octets calls answer after → Deed past event calls step
+    pub member_takes-deed : MemberReceives ((told_state boxes past).members member).held octets calls answer after → Deed past event calls step
     member_takes-deed receives = ⊎_elim
         (λ short. drops-deed drop.Short (receives.short short))
         (λ long. ⊎_elim (λ nowhere. drops-deed drop.WrongSpi nowhere.1) received-deed (receives.long long))
@@ -188,7 +187,7 @@ module _ (past : List Turn) (event : Event) (brings : Brings event parties.Peer)
         not_ours = delivered-not_ours event parties.Peer brings step.verdict;
         told = accepted_theirs-told event parties.Peer brings slot.sa packet.number step.verdict took;
         no_entry = brings.no_entry step.verdict;
-        spends = accepts-spends event (peer_counter slot.sa counter.EspIn) (Theirs slot.sa.spir counter.EspIn) packet.number step (place-theirs slot.sa counter.EspIn) takes.quiet took;
+        spends = accepts-spends event (peer_counter slot.sa counter.EspIn) (Theirs (peer_counter slot.sa counter.EspIn)) packet.number step refl takes.quiet took;
       })
 
   peer_drops-deed : (why : EspDrop) → Drops why octets takes.answer takes.after → Deed past event calls step

@@ -19,10 +19,10 @@ use Rattle.keeper_book.specs.declared.faults.KeeperFault.TheVariants as fault
 use Rattle.turn_laws.proofs.All.{lawful-run}
 use Rattle.turn_laws.proofs.Called.{HoldOfCalls, IfCall, calls-hold}
 use Rattle.turn_laws.proofs.Safety.{owned-lawful}
-use Rattle.turn_laws.specs.Acts.{Leases, Act, Calls, Ends, MayAsk, MayCover, MayDo, Move, Seals, Uses, holding_at}
+use Rattle.turn_laws.specs.Acts.{Act, Calls, Ends, Leaps, Leases, MayAsk, MayCover, MayDo, Move, Opens, Seals, Starts, Uses, begun_at, column_at, holding_at}
 use Rattle.turn_laws.specs.Holdings.{Actor, Holding}
 use Rattle.turn_laws.specs.Owned.{Lawful, Owned, Writes}
-use Rattle.turn_laws.specs.Places.{Ours, column, column_ours}
+use Rattle.turn_laws.specs.Places.{Ours, column_ours}
 use Rattle.turn_laws.specs.Replaced.{AreReplacedLater, IsReplacedLater}
 use Rattle.turn_laws.specs.Turns.{acts_of}
 use Rattle.turn_rules.specs.Local.{Explained, Stands}
@@ -56,8 +56,8 @@ module _ (acts : List Act) (w : Actor) (old new : Book) (owned : Owned acts old)
   cover-later spir kind child epoch upto later c may answers =
       let shows : ShowsLater (entry_of spir old.entries) epoch later =
       shows-later (entry_of spir old.entries) (counter_named kind child) epoch later (shows-refused (cover_refusal (entry_of spir old.entries) (counter_named kind child) epoch) (fault.Replaced later) answers.0) in
-      let begun : may.holding.epoch ≤ length (column (Ours spir c) [] old).bases = ((owned.numbers (Ours spir c)).holdings w may.holding may.holds).begun in
-      let count : length (column (Ours spir c) [] old).bases ≡ length shows.entry.bases = ap (λ x. length (column_ours c x).bases) shows.found ∙ length-map shows.entry.bases (λ (five : Five). five_at five c) in
+      let begun : may.holding.epoch ≤ length (column_at (Ours spir c) acts old).bases = ((owned.numbers (Ours spir c)).holdings w may.holding may.holds).begun in
+      let count : length (column_at (Ours spir c) acts old).bases ≡ length shows.entry.bases = ap (λ x. length (column_ours c (begun_at (Ours spir c) acts) x).bases) shows.found ∙ length-map shows.entry.bases (λ (five : Five). five_at five c) in
       go begun count may.in_epoch shows.later_is shows.other
     where
       go : {held bases entries : ℕ} → held ≤ bases → bases ≡ entries → held ≡ epoch → later ≡ entries → epoch ≢ entries → epoch < later
@@ -93,6 +93,9 @@ lawful-later (act ∷ acts) book lawful = (by_move act.move lawful.2 lawful.3, l
     by_move (Uses q n) may writes = tt
     by_move (Seals key) may writes = tt
     by_move (Leases pool first count seen) may writes = tt
+    by_move (Leaps q n) may writes = tt
+    by_move (Opens sa) may writes = tt
+    by_move (Starts sa) may writes = tt
     by_move Ends may writes = tt
 
 pub calls-later : (boxes : ℕ) (past : List Turn) (book : Book) → Explained boxes past → Stands past book → AreReplacedLater past

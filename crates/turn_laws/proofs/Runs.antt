@@ -1,5 +1,5 @@
 -- What the moves of one end do to what it holds, and that they leave what others hold.
-use Rattle.std.proofs.Common.{◌≡◌, ℕ, ◌≤◌, max, Bool, true, false, Option, Some, None, List, [], ◌∷◌, ◌++◌, length, map, ⊎_elim, refl, ap, sym, ◌∙◌, subst, arith, if◌then◌else◌}
+use Rattle.std.proofs.Common.{◌≡◌, ◌≢◌, ℕ, ◌≤◌, max, Bool, true, false, Option, Some, None, List, [], ◌∷◌, ◌++◌, length, map, ⊎_elim, refl, ap, sym, ◌∙◌, subst, arith, if◌then◌else◌}
 use Rattle.std.proofs.lemmas.Bool.Decides.{eqb_tells}
 use Rattle.std.specs.List.{AllByRecursion, cons_option}
 use Rattle.std.specs.Option.{option_map}
@@ -8,13 +8,16 @@ use Rattle.keeper_book.specs.Told.{seen}
 use Rattle.keeper_book.specs.declared.calls.Call.{Call}
 use Rattle.keeper_book.specs.declared.counters.Counter.{Counter}
 use Rattle.keeper_book.specs.declared.pools.Pool.{Pool}
+use Rattle.keeper_book.specs.declared.pools.Pool.TheVariants as pools
 use Rattle.keeper_book.specs.declared.records.Record.{Record}
 use Rattle.keeper_book.specs.declared.records.Taken.{Taken}
-use Rattle.turn_laws.proofs.Holdings.{is_actor-same}
-use Rattle.turn_laws.specs.Acts.{Act, Calls, Ends, MayDoAll, Move, Seals, Uses, holding_begun, Leases, effect_of, effect_of_lease, effect_of_use, lot_begun, lots_at, effect_ours, effect_theirs, entered_at, holding_at, acts_onto}
-use Rattle.turn_laws.specs.Holdings.{Passes, Actor, Begins, Draws, Effect, Holding, Nothing, Rises, holding_after, is_actor, raised_to}
+use Rattle.turn_laws.proofs.Acting.{MayDoMoves, moves_onto}
+use Rattle.turn_laws.proofs.Holdings.{differ, is_actor-same}
+use Rattle.turn_laws.specs.Acts.{Act, Calls, Ends, IsNotBy, Leaps, Leases, Move, Opens, Seals, Spares, Starts, Uses, act_by, acts_onto, begun_at, begun_by, begun_leased, begun_open, begun_started, effect_begun, effect_of, effect_of_call, effect_of_open, effect_of_use, effect_ours, entered_as, holding_at, holding_begun}
+use Rattle.turn_laws.specs.Columns.{Column}
+use Rattle.turn_laws.specs.Holdings.{Actor, Begins, Draws, Effect, End, Half, Holding, Jumps, Nothing, Passes, Rises, Run, holding_after, is_actor, raised_to}
 use Rattle.turn_laws.specs.Owned.{Lawful, Writes}
-use Rattle.turn_laws.specs.Places.{Ours, Place, Pooled, Theirs, is_place, is_pool, place_of}
+use Rattle.turn_laws.specs.Places.{Ours, Place, Pooled, Theirs, is_place, place_of}
 use Rattle.turn_rules.specs.Ends.{Member, Peer, Performer, is_performer}
 use Rattle.turn_rules.specs.Held.{covered, covers_in, first_some, grant_in, granted, greatest}
 
@@ -24,6 +27,7 @@ IsBy w Nothing = Unit {0}
 IsBy w (Begins v h) = v ≡ w
 IsBy w (Rises v n) = v ≡ w
 IsBy w (Draws v n) = v ≡ w
+IsBy w (Jumps v n) = v ≡ w
 IsBy w (Passes u v) = ⊥
 
 module _ (w : Actor) where
@@ -32,65 +36,95 @@ module _ (w : Actor) where
   by-ours c None (Some n) = refl
   by-ours c None None = tt
 
-  by-theirs : (c : Counter) (entered : Option Record) → IsBy w (effect_theirs w c entered)
-  by-theirs c (Some sa) = refl
-  by-theirs c None = tt
+  by-begun : (x : Option Holding) → IsBy w (effect_begun w x)
+  by-begun (Some h) = refl
+  by-begun None = tt
 
-  by-use : (p : Place) (q : Option Place) (n : ℕ) → IsBy w (effect_of_use p q w n)
-  by-use p None n = tt
-  by-use p (Some q) n = by_test (is_place q p)
+  by-use : (p q : Place) (n : ℕ) → IsBy w (effect_of_use p q w n)
+  by-use p q n = by_test (is_place q p)
     where
       by_test : (b : Bool) → IsBy w (if b then Draws w n else Nothing)
       by_test true = refl
       by_test false = tt
 
-  by-lease : (p : Place) (lots : List ℕ) (pool : Pool) (first count : ℕ) (seen : Bool) → IsBy w (effect_of_lease p lots w pool first count seen)
-  by-lease (Ours spir c) lots pool first count seen = tt
-  by-lease (Theirs spir c) lots pool first count seen = tt
-  by-lease (Pooled q) lots pool first count false = tt
-  by-lease (Pooled q) lots pool first count true = by_test (is_pool pool q)
+  by-leap : (p q : Place) (n : ℕ) → IsBy w (if is_place q p then Jumps w n else Nothing)
+  by-leap p q n = by_test (is_place q p)
     where
-      by_test : (b : Bool) → IsBy w (if b then Begins w (lot_begun (length lots) pool first count) else Nothing)
+      by_test : (b : Bool) → IsBy w (if b then Jumps w n else Nothing)
       by_test true = refl
       by_test false = tt
 
-  by-move : (p : Place) (lots : List ℕ) (move : Move) → IsBy w (effect_of p lots w move)
-  by-move (Ours spir c) lots (Calls call) = by-ours c (granted spir call.asked (seen call)) (covered spir c call.asked (seen call))
-  by-move (Pooled q) lots (Calls call) = tt
-  by-move (Theirs spir c) lots (Calls call) = by-theirs c (entered_at spir call.asked (seen call))
-  by-move p lots (Uses q n) = by-use p (Some q) n
-  by-move p lots (Leases pool first count seen) = by-lease p lots pool first count seen
-  by-move p lots (Seals key) = by-use p (place_of key.name) key.iv
-  by-move p lots Ends = tt
-
 -- an effect of one end leaves what another one holds
-other-effect : (w v : Actor) → is_actor w v ≡ false → (held : Actor → Option Holding) (e : Effect) → IsBy w e → holding_after e held v ≡ held v
+other-effect : (w v : Actor) → w ≢ v → (held : Actor → Option Holding) (e : Effect) → IsBy w e → holding_after e held v ≡ held v
 other-effect w v differs held Nothing by = refl
-other-effect w v differs held (Begins u h) by = let no : is_actor u v ≡ false = subst (λ x. is_actor x v ≡ false) (sym by) differs in rw no
-other-effect w v differs held (Rises u n) by = let no : is_actor u v ≡ false = subst (λ x. is_actor x v ≡ false) (sym by) differs in rw no
+other-effect w v differs held (Begins u h) by = let no : is_actor u v ≡ false = differ u v (λ same. differs (sym by ∙ same)) in rw no
+other-effect w v differs held (Rises u n) by = let no : is_actor u v ≡ false = differ u v (λ same. differs (sym by ∙ same)) in rw no
+other-effect w v differs held (Jumps u n) by = let no : is_actor u v ≡ false = differ u v (λ same. differs (sym by ∙ same)) in rw no
 other-effect w v differs held (Passes u x) by = absurd by
-other-effect w v differs held (Draws u n) by = let no : is_actor u v ≡ false = subst (λ x. is_actor x v ≡ false) (sym by) differs in rw no
+other-effect w v differs held (Draws u n) by = let no : is_actor u v ≡ false = differ u v (λ same. differs (sym by ∙ same)) in rw no
 
--- moves of one end leave what another one holds
-pub others-hold : (p : Place) (w v : Actor) → is_actor w v ≡ false → (moves : List Move) (acts : List Act) → holding_at p (acts_onto w moves acts) v ≡ holding_at p acts v
-others-hold p w v differs [] acts = refl
-others-hold p w v differs (move ∷ moves) acts =
-    others-hold p w v differs moves (record { by = w; move = move } ∷ acts)
-    ∙ other-effect w v differs (holding_at p acts) (effect_of p (lots_at p acts) w move) (by-move w p (lots_at p acts) move)
+-- an act that is not by one, and opens nothing for it, leaves what it holds
+module _ (p : Place) (begun : Column) (w v : Actor) (held : Actor → Option Holding) (other : w ≢ v) where
+  opened-other : (sa : Record) → Spares v (Opens sa) → Half sa.spir ≢ v
+  opened-other sa spares = by_actor v spares
+    where
+      by_actor : (v : Actor) → Spares v (Opens sa) → Half sa.spir ≢ v
+      by_actor Run spares same = absurd (cc)
+      by_actor (End end) spares same = absurd (cc)
+      by_actor (Half spir) spares same = spares (let e : Half sa.spir ≡ Half spir = same in cc)
+
+  other-move : (move : Move) → Spares v move → holding_after (effect_of p begun w move) held v ≡ held v
+  other-move (Calls call) spares = by_place p
+    where
+      by_place : (p : Place) → holding_after (effect_of_call p w call.asked (seen call)) held v ≡ held v
+      by_place (Ours spir c) = other-effect w v other held (effect_ours w c (granted spir call.asked (seen call)) (covered spir c call.asked (seen call))) (by-ours w c (granted spir call.asked (seen call)) (covered spir c call.asked (seen call)))
+      by_place (Theirs name) = other-effect w v other held (effect_begun w (begun_by name (entered_as call.asked (seen call)))) (by-begun w (begun_by name (entered_as call.asked (seen call))))
+      by_place (Pooled q) = refl
+  other-move (Uses q n) spares = other-effect w v other held (effect_of_use p q w n) (by-use w p q n)
+  other-move (Seals key) spares = other-effect w v other held (effect_of_use p (place_of key.name) w key.iv) (by-use w p (place_of key.name) key.iv)
+  other-move (Leases pool first count seen) spares = other-effect w v other held (effect_begun w (begun_leased p begun pool first count seen)) (by-begun w (begun_leased p begun pool first count seen))
+  other-move (Leaps q n) spares = other-effect w v other held (if is_place q p then Jumps w n else Nothing) (by-leap w p q n)
+  other-move (Opens sa) spares = by_place p
+    where
+      opens : (p : Place) → holding_after (effect_begun (Half sa.spir) (begun_open p sa)) held v ≡ held v
+      opens p = other-effect (Half sa.spir) v (opened-other sa spares) held (effect_begun (Half sa.spir) (begun_open p sa)) (by-begun (Half sa.spir) (begun_open p sa))
+
+      by_place : (p : Place) → holding_after (effect_of_open p w sa) held v ≡ held v
+      by_place (Ours spir c) = opens (Ours spir c)
+      by_place (Theirs name) = opens (Theirs name)
+      by_place (Pooled q) = other-effect w v other held (effect_of_use (Pooled q) (Pooled pools.Nonce) w sa.spir) (by-use w (Pooled q) (Pooled pools.Nonce) sa.spir)
+  other-move (Starts sa) spares = other-effect w v other held (effect_begun w (begun_started p sa)) (by-begun w (begun_started p sa))
+  other-move Ends spares = refl
+
+-- acts that are not by one leave what it holds
+pub others-leave : (p : Place) (v : Actor) (more acts : List Act) → AllByRecursion (IsNotBy v) more → holding_at p (acts_onto more acts) v ≡ holding_at p acts v
+others-leave p v [] acts all = refl
+others-leave p v (act ∷ more) acts all = others-leave p v more (act ∷ acts) all.1 ∙ other-move p (begun_at p acts) act.by v (holding_at p acts) all.0.other act.move all.0.spares
+
+-- moves of one end leave what another end holds
+pub others-hold : (p : Place) (w : Actor) (end : Performer) → w ≢ End end → (moves : List Move) (acts : List Act) → holding_at p (moves_onto w moves acts) (End end) ≡ holding_at p acts (End end)
+others-hold p w end differs moves acts = others-leave p (End end) (map (act_by w) moves) acts (go moves)
+  where
+    spared : (move : Move) → Spares (End end) move
+    spared move = tt
+
+    go : (moves : List Move) → AllByRecursion (IsNotBy (End end)) (map (act_by w) moves)
+    go [] = tt
+    go (move ∷ moves) = (record { other = differs; spares = spared move }, go moves)
 
 -- one list of moves, and then another one
-pub onto-append : (w : Actor) (xs ys : List Move) (acts : List Act) → acts_onto w (xs ++ ys) acts ≡ acts_onto w ys (acts_onto w xs acts)
+pub onto-append : (w : Actor) (xs ys : List Move) (acts : List Act) → moves_onto w (xs ++ ys) acts ≡ moves_onto w ys (moves_onto w xs acts)
 onto-append w [] ys acts = refl
 onto-append w (x ∷ xs) ys acts = onto-append w xs ys (record { by = w; move = x } ∷ acts)
 
-pub may_do-append : (w : Actor) (xs ys : List Move) (acts : List Act) → MayDoAll acts w (xs ++ ys) → MayDoAll acts w xs × MayDoAll (acts_onto w xs acts) w ys
+pub may_do-append : (w : Actor) (xs ys : List Move) (acts : List Act) → MayDoMoves acts w (xs ++ ys) → MayDoMoves acts w xs × MayDoMoves (moves_onto w xs acts) w ys
 may_do-append w [] ys acts may = (tt, may)
 may_do-append w (x ∷ xs) ys acts may =
-    let rest : MayDoAll (record { by = w; move = x } ∷ acts) w xs × MayDoAll (acts_onto w xs (record { by = w; move = x } ∷ acts)) w ys = may_do-append w xs ys (record { by = w; move = x } ∷ acts) may.1 in
+    let rest : MayDoMoves (record { by = w; move = x } ∷ acts) w xs × MayDoMoves (moves_onto w xs (record { by = w; move = x } ∷ acts)) w ys = may_do-append w xs ys (record { by = w; move = x } ∷ acts) may.1 in
     ((may.0, rest.0), rest.1)
 
 -- the book of the calls
-pub lawful-calls : (w : Actor) (calls : List Call) (acts : List Act) (old new : Book) → Lawful acts old → EntersAll old calls new → MayDoAll acts w (map Calls calls) → Lawful (acts_onto w (map Calls calls) acts) new
+pub lawful-calls : (w : Actor) (calls : List Call) (acts : List Act) (old new : Book) → Lawful acts old → EntersAll old calls new → MayDoMoves acts w (map Calls calls) → Lawful (moves_onto w (map Calls calls) acts) new
 lawful-calls w [] acts old new lawful enters may = subst (λ b. Lawful acts b) (sym enters) lawful
 lawful-calls w (call ∷ calls) acts old new lawful enters may =
     lawful-calls w calls (record { by = w; move = Calls call } ∷ acts) enters.0 new (old, lawful, may.0, enters.1) enters.2 may.1
@@ -99,7 +133,7 @@ lawful-calls w (call ∷ calls) acts old new lawful enters may =
 abbrev pub LeavesBook : Move → Type 0
 LeavesBook move = (book : Book) → Writes book move book
 
-pub lawful-quiet : (w : Actor) (moves : List Move) (acts : List Act) (book : Book) → AllByRecursion LeavesBook moves → Lawful acts book → MayDoAll acts w moves → Lawful (acts_onto w moves acts) book
+pub lawful-quiet : (w : Actor) (moves : List Move) (acts : List Act) (book : Book) → AllByRecursion LeavesBook moves → Lawful acts book → MayDoMoves acts w moves → Lawful (moves_onto w moves acts) book
 lawful-quiet w [] acts book leaves lawful may = lawful
 lawful-quiet w (move ∷ moves) acts book leaves lawful may =
     lawful-quiet w moves (record { by = w; move = move } ∷ acts) book leaves.1 (book, lawful, may.0, leaves.0 book) may.1
@@ -177,7 +211,7 @@ module _ (spir : ℕ) (c : Counter) (w : Actor) where
       go (Some n) = ap (λ high. Some (record h { high = high })) (greatest-max n h.high (covers_in spir c calls))
 
   -- calls that grant nothing leave a holding that their covers raise
-  pub held-covers : (calls : List Call) (acts : List Act) → AllByRecursion (λ call. granted spir call.asked (seen call) ≡ None) calls → holding_at (Ours spir c) (acts_onto w (map Calls calls) acts) w ≡ option_map (covered_by calls) (holding_at (Ours spir c) acts w)
+  pub held-covers : (calls : List Call) (acts : List Act) → AllByRecursion (λ call. granted spir call.asked (seen call) ≡ None) calls → holding_at (Ours spir c) (moves_onto w (map Calls calls) acts) w ≡ option_map (covered_by calls) (holding_at (Ours spir c) acts w)
   held-covers [] acts none = go (holding_at (Ours spir c) acts w)
     where
       go : (x : Option Holding) → x ≡ option_map (covered_by []) x

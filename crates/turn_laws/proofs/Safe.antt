@@ -1,20 +1,15 @@
 -- What follows of whole runs.
-use Rattle.std.proofs.Common.{◌≡◌, ◌≢◌, ℕ, Bool, true, false, None, List, [], ◌∷◌, refl, subst}
+use Rattle.std.proofs.Common.{◌≡◌, ℕ, true, None, List, [], ◌∷◌, refl, subst}
 use Rattle.std.specs.Prelude.{is_some}
 use Rattle.std.specs.List.{AllByRecursion, filter_map}
 use Rattle.events.specs.declared.turn.Served.{Served}
 use Rattle.events.specs.declared.turn.Turn.{Turn}
 use Rattle.keeper_book.specs.Book.{Book}
 use Rattle.turn_laws.proofs.Accepted.{packets-once}
-use Rattle.turn_laws.proofs.Holdings.{is_actor-true}
 use Rattle.turn_laws.proofs.Lists.{all-each}
 use Rattle.turn_laws.proofs.Outcomes.{outcome-of, outcome-served}
 use Rattle.turn_laws.proofs.Records.{deed-of}
-use Rattle.turn_laws.proofs.Runs.{others-hold}
 use Rattle.turn_laws.proofs.Sealed.{no-nonce-reuse}
-use Rattle.turn_laws.specs.Acts.{Act, Move, holding_at, acts_onto}
-use Rattle.turn_laws.specs.Holdings.{Actor, is_actor}
-use Rattle.turn_laws.specs.Places.{Place}
 use Rattle.turn_rules.specs.Local.{Explained, Stands}
 use Rattle.turn_rules.specs.Genuine.{AreAccepted}
 use Rattle.turn_rules.specs.Safe.{Safe, TakesWhereServed, taken_in}
@@ -41,11 +36,3 @@ safe-run boxes past book local stands accepted = record {
   requests_once = rw (none_taken past) tt;
   served_once = all-each past takes-where_served (none-served boxes past local);
 }
-
--- moves of one end leave what every other one holds
-pub others-differ : (p : Place) (w v : Actor) → w ≢ v → (moves : List Move) (acts : List Act) → holding_at p (acts_onto w moves acts) v ≡ holding_at p acts v
-others-differ p w v differs moves acts = by_test (is_actor w v) refl
-  where
-    by_test : (b : Bool) → is_actor w v ≡ b → holding_at p (acts_onto w moves acts) v ≡ holding_at p acts v
-    by_test true t = absurd (differs (is_actor-true w v t))
-    by_test false t = others-hold p w v t moves acts

@@ -5,13 +5,14 @@ use Rattle.events.specs.declared.seals.Seal.{Seal}
 use Rattle.events.specs.declared.turn.Turn.{Turn}
 use Rattle.keeper_book.specs.Book.{Book}
 use Rattle.keeper_book.specs.declared.calls.Call.{Call}
+use Rattle.turn_laws.proofs.Acting.{moves_onto}
 use Rattle.turn_laws.proofs.All.{lawful-run}
 use Rattle.turn_laws.proofs.Lists.{all-each}
 use Rattle.turn_laws.proofs.Moves.{IsUseOrEnd, are-uses}
 use Rattle.turn_laws.proofs.Names.{is_place-same}
-use Rattle.turn_laws.proofs.Safety.{owned-lawful}
-use Rattle.turn_laws.specs.Acts.{Leases, lots_at, Act, Calls, Ends, HoldsFor, MayDo, Move, Seals, Uses, effect_of, effect_of_use, holding_at, numbers_at, acts_onto, uses_at}
-use Rattle.turn_laws.specs.Holdings.{Passes, Actor, Begins, Draws, Effect, Holding, IsNotIn, Nothing, Rises, Use, uses_after}
+use Rattle.turn_laws.proofs.Safety.{fewer-used, owned-lawful}
+use Rattle.turn_laws.specs.Acts.{Act, Calls, Ends, Leaps, Leases, Move, Opens, Seals, Starts, Uses, act_by, begun_at, effect_of, effect_of_use, holding_at, numbers_at, uses_at}
+use Rattle.turn_laws.specs.Holdings.{Actor, Draws, Holding, IsNotIn, Nothing, Use, uses_after}
 use Rattle.turn_laws.specs.Owned.{Lawful, Owned}
 use Rattle.turn_laws.specs.Places.{Place, is_place, place_of}
 use Rattle.turn_laws.specs.Turns.{actor_of, acts_of, key_iv, uses_of}
@@ -30,15 +31,7 @@ sealed_in (act ∷ acts) = sealed_by act.move (sealed_in acts)
 -- a number that is in no use of a place is the IV of no seal there
 module _ (p : Place) (n : ℕ) where
   abbrev IsOther : KeyIv → Type 0
-  IsOther key = place_of key.name ≡ Some p → key.iv ≢ n
-
-  -- what was used before a move was used after it
-  fewer : (e : Effect) (held : Actor → Option Holding) (us : List Use) → IsNotIn n (map (λ u. u.number) (uses_after e held us)) → IsNotIn n (map (λ u. u.number) us)
-  fewer Nothing held us none = none
-  fewer (Begins w h) held us none = none
-  fewer (Rises w k) held us none = none
-  fewer (Passes w v) held us none = none
-  fewer (Draws w k) held us none = none.1
+  IsOther key = place_of key.name ≡ p → key.iv ≢ n
 
   seal-used : (w : Actor) (key : KeyIv) (held : Actor → Option Holding) (us : List Use) → IsNotIn n (map (λ u. u.number) (uses_after (effect_of_use p (place_of key.name) w key.iv) held us)) → IsOther key
   seal-used w key held us none is =
@@ -48,9 +41,9 @@ module _ (p : Place) (n : ℕ) where
 
   pub not-sealed : (acts : List Act) → IsNotIn n (numbers_at p acts) → AllByRecursion IsOther (sealed_in acts)
   not-sealed [] none = tt
-  not-sealed (act ∷ acts) none = by_move act.move none (not-sealed acts (fewer (effect_of p (lots_at p acts) act.by act.move) (holding_at p acts) (uses_at p acts) none))
+  not-sealed (act ∷ acts) none = by_move act.move none (not-sealed acts (fewer-used (effect_of p (begun_at p acts) act.by act.move) (holding_at p acts) (uses_at p acts) n none))
     where
-      by_move : (move : Move) → IsNotIn n (map (λ u. u.number) (uses_after (effect_of p (lots_at p acts) act.by move) (holding_at p acts) (uses_at p acts))) → AllByRecursion IsOther (sealed_in acts) → AllByRecursion IsOther (sealed_by move (sealed_in acts))
+      by_move : (move : Move) → IsNotIn n (map (λ u. u.number) (uses_after (effect_of p (begun_at p acts) act.by move) (holding_at p acts) (uses_at p acts))) → AllByRecursion IsOther (sealed_in acts) → AllByRecursion IsOther (sealed_by move (sealed_in acts))
       by_move (Seals key) none rest = (seal-used act.by key (holding_at p acts) (uses_at p acts) none, rest)
       by_move move none rest = rest
 
@@ -66,20 +59,21 @@ sealed-once (act ∷ acts) book lawful = by_move act.move refl (sealed-once acts
     by_move (Calls call) is rest = rest
     by_move (Uses q n) is rest = rest
     by_move (Leases pool first count seen) is rest = rest
+    by_move (Leaps q n) is rest = rest
+    by_move (Opens sa) is rest = rest
+    by_move (Starts sa) is rest = rest
     by_move Ends is rest = rest
-    by_move (Seals key) is rest = (new-key key (place_of key.name) refl (subst (λ move. MayDo acts act.by move) is lawful.2) is, rest)
-      where
-        new-key : (key : KeyIv) (q : Option Place) → place_of key.name ≡ q → MatchOption (place_of key.name) ⊥ (λ p. HoldsFor (holding_at p acts act.by) key.iv) → act.move ≡ Seals key → AllByRecursion (λ y. y ≢ key) (sealed_in acts)
-        new-key key None e may is = absurd (rw e at may)
-        new-key key (Some p) e may is =
-            let here : is_place p p ≡ true = is_place-same p in
-            let effect : effect_of p (lots_at p acts) act.by act.move ≡ Draws act.by key.iv =
-            ap (effect_of p (lots_at p acts) act.by) is ∙ (ap (λ q. effect_of_use p q act.by key.iv) e ∙ ap (λ b. if b then Draws act.by key.iv else Nothing) here) in
-            let once : IsEachOnce (map (λ u. u.number) (uses_after (Draws act.by key.iv) (holding_at p acts) (uses_at p acts))) =
-            subst (λ x. IsEachOnce (map (λ u. u.number) (uses_after x (holding_at p acts) (uses_at p acts)))) effect (owned.numbers p).once in
-            all-each (sealed_in acts)
-            (λ y other same. other (ap (λ (k : KeyIv). place_of k.name) same ∙ e) (ap (λ (k : KeyIv). k.iv) same))
-            (not-sealed p key.iv acts once.0)
+    by_move (Seals key) is rest = (
+      (let p : Place = place_of key.name in
+          let here : is_place p p ≡ true = is_place-same p in
+          let effect : effect_of p (begun_at p acts) act.by act.move ≡ Draws act.by key.iv = ap (effect_of p (begun_at p acts) act.by) is ∙ ap (λ b. if b then Draws act.by key.iv else Nothing) here in
+          let once : IsEachOnce (map (λ u. u.number) (uses_after (Draws act.by key.iv) (holding_at p acts) (uses_at p acts))) =
+          subst (λ x. IsEachOnce (map (λ u. u.number) (uses_after x (holding_at p acts) (uses_at p acts)))) effect (owned.numbers p).once in
+          all-each (sealed_in acts)
+          (λ y other same. other (ap (λ (k : KeyIv). place_of k.name) same) (ap (λ (k : KeyIv). k.iv) same))
+          (not-sealed p key.iv acts once.0)),
+      rest,
+    )
 
 -- a list in which nothing stands twice, with one thing moved to the front, or from there
 each_once-out : {X : Type 0} (xs : List X) (y : X) (ys : List X) → IsEachOnce (xs ++ y ∷ ys) → IsEachOnce (y ∷ (xs ++ ys))
@@ -103,23 +97,26 @@ each_once-in {X} (x ∷ xs) y ys once = (all-in (λ z. z ≢ x) xs once.1.0 (λ 
 
 -- what was sealed before some moves
 module _ (w : Actor) where
-  sealed-calls : (calls : List Call) (rest : List Move) (acts : List Act) → (now : List Act) × (acts_onto w (map Calls calls ++ rest) acts ≡ acts_onto w rest now) × (sealed_in now ≡ sealed_in acts)
+  sealed-calls : (calls : List Call) (rest : List Move) (acts : List Act) → (now : List Act) × (moves_onto w (map Calls calls ++ rest) acts ≡ moves_onto w rest now) × (sealed_in now ≡ sealed_in acts)
   sealed-calls [] rest acts = (acts, refl, refl)
-  sealed-calls (call ∷ calls) rest acts = sealed-calls calls rest (record { by = w; move = Calls call } ∷ acts)
+  sealed-calls (call ∷ calls) rest acts = sealed-calls calls rest (act_by w (Calls call) ∷ acts)
 
-  sealed-uses : (moves : List Move) → AllByRecursion IsUseOrEnd moves → (rest : List Move) (acts : List Act) → (now : List Act) × (acts_onto w (moves ++ rest) acts ≡ acts_onto w rest now) × (sealed_in now ≡ sealed_in acts)
+  sealed-uses : (moves : List Move) → AllByRecursion IsUseOrEnd moves → (rest : List Move) (acts : List Act) → (now : List Act) × (moves_onto w (moves ++ rest) acts ≡ moves_onto w rest now) × (sealed_in now ≡ sealed_in acts)
   sealed-uses [] uses rest acts = (acts, refl, refl)
   sealed-uses (Calls call ∷ moves) uses rest acts = absurd uses.0
-  sealed-uses (Uses place n ∷ moves) uses rest acts = sealed-uses moves uses.1 rest (record { by = w; move = Uses place n } ∷ acts)
+  sealed-uses (Uses place n ∷ moves) uses rest acts = sealed-uses moves uses.1 rest (act_by w (Uses place n) ∷ acts)
   sealed-uses (Seals key ∷ moves) uses rest acts = absurd uses.0
   sealed-uses (Leases pool first count seen ∷ moves) uses rest acts = absurd uses.0
-  sealed-uses (Ends ∷ moves) uses rest acts = sealed-uses moves uses.1 rest (record { by = w; move = Ends } ∷ acts)
+  sealed-uses (Leaps place n ∷ moves) uses rest acts = absurd uses.0
+  sealed-uses (Opens sa ∷ moves) uses rest acts = absurd uses.0
+  sealed-uses (Starts sa ∷ moves) uses rest acts = absurd uses.0
+  sealed-uses (Ends ∷ moves) uses rest acts = sealed-uses moves uses.1 rest (act_by w (Ends) ∷ acts)
 
   -- seals of a turn stand before those of earlier turns
-  sealed-seals : (seals : List Seal) (before : List KeyIv) (acts : List Act) → IsEachOnce (before ++ sealed_in (acts_onto w (map (λ seal. Seals (key_iv seal)) seals) acts)) → IsEachOnce ((before ++ map key_iv seals) ++ sealed_in acts)
+  sealed-seals : (seals : List Seal) (before : List KeyIv) (acts : List Act) → IsEachOnce (before ++ sealed_in (moves_onto w (map (λ seal. Seals (key_iv seal)) seals) acts)) → IsEachOnce ((before ++ map key_iv seals) ++ sealed_in acts)
   sealed-seals [] before acts once = subst (λ ks. IsEachOnce (ks ++ sealed_in acts)) (sym (append-nil before)) once
   sealed-seals (seal ∷ seals) before acts once =
-      let rest : IsEachOnce ((before ++ map key_iv seals) ++ (key_iv seal ∷ sealed_in acts)) = sealed-seals seals before (record { by = w; move = Seals (key_iv seal) } ∷ acts) once in
+      let rest : IsEachOnce ((before ++ map key_iv seals) ++ (key_iv seal ∷ sealed_in acts)) = sealed-seals seals before (act_by w (Seals (key_iv seal)) ∷ acts) once in
       let front : IsEachOnce (key_iv seal ∷ ((before ++ map key_iv seals) ++ sealed_in acts)) = each_once-out (before ++ map key_iv seals) (key_iv seal) (sealed_in acts) rest in
       let inside : IsEachOnce (before ++ (key_iv seal ∷ (map key_iv seals ++ sealed_in acts))) =
       each_once-in before (key_iv seal) (map key_iv seals ++ sealed_in acts) (subst (λ ks. IsEachOnce (key_iv seal ∷ ks)) (append_assoc before (map key_iv seals) (sealed_in acts)) front) in
@@ -133,7 +130,7 @@ key_ivs-once (turn ∷ past) before once =
     let seals : List Move = map (λ seal. Seals (key_iv seal)) turn.step.seals in
     let one = sealed-calls w turn.calls (uses_of turn.event turn.step.verdict ++ seals) (acts_of past) in
     let two = sealed-uses w (uses_of turn.event turn.step.verdict) (are-uses turn.event turn.step.verdict) seals one.0 in
-    let moved : IsEachOnce (before ++ sealed_in (acts_onto w seals two.0)) = subst (λ acts. IsEachOnce (before ++ sealed_in acts)) (one.1 ∙ two.1) once in
+    let moved : IsEachOnce (before ++ sealed_in (moves_onto w seals two.0)) = subst (λ acts. IsEachOnce (before ++ sealed_in acts)) (one.1 ∙ two.1) once in
     let apart : IsEachOnce ((before ++ map key_iv turn.step.seals) ++ sealed_in (acts_of past)) =
     subst (λ ks. IsEachOnce ((before ++ map key_iv turn.step.seals) ++ ks)) (two.2 ∙ one.2) (sealed-seals w turn.step.seals before two.0 moved) in
     subst (λ ks. IsEachOnce ks) (append_assoc before (map key_iv turn.step.seals) (key_ivs past))

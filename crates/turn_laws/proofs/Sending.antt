@@ -16,11 +16,10 @@ use Rattle.keeper_book.specs.Counters.{five_at}
 use Rattle.keeper_book.specs.declared.calls.Call.{Call}
 use Rattle.keeper_book.specs.declared.counters.Counter.{Counter}
 use Rattle.keeper_book.specs.declared.counters.Counter.TheVariants as counter
-use Rattle.turn_laws.specs.PeerTurns.{number_theirs}
 use Rattle.turn_laws.proofs.Covers.{ready-as, ready-calls}
-use Rattle.turn_laws.proofs.Deeds.{Deed, Rested, Rests, Spends, Used, Used_theirs, UsesIt, says-rests}
+use Rattle.turn_laws.proofs.Deeds.{number_theirs, Deed, Rested, Rests, Spends, Used, Used_theirs, UsesIt, says-rests}
 use Rattle.turn_laws.proofs.Members.{member-performs, stop-of_member}
-use Rattle.turn_laws.proofs.Names.{number-failed, number-passed, place-ours, place-theirs}
+use Rattle.turn_laws.proofs.Names.{number-failed, number-passed, place-ours}
 use Rattle.turn_laws.proofs.Uses.{Seals_it, number_at}
 use Rattle.turn_laws.specs.Places.{Ours, Place, Theirs, place_of}
 use Rattle.turn_laws.specs.Turns.{key_iv, number_taken}
@@ -31,7 +30,7 @@ use Rattle.turn_rules.specs.Held.{Held, held_by, used, window_by}
 use Rattle.turn_rules.specs.MemberPackets.{SendsData, outbound_of}
 use Rattle.turn_rules.specs.Packets.{Outbound, SendsEsp}
 use Rattle.turn_rules.specs.Safe.{Packet, accepted_as}
-use Rattle.turn_rules.specs.Slots.{PeerSends, Slot, SlotSends, first_slot, has_spir, slot_outbound, slots_by}
+use Rattle.turn_rules.specs.Slots.{peer_counter, PeerSends, Slot, SlotSends, first_slot, has_spir, slot_outbound, slots_by}
 use Rattle.turn_rules.specs.States.{ended_by}
 use Rattle.turn_rules.specs.Steps.{Says}
 
@@ -41,7 +40,7 @@ sent-ends (event.Crash member) n = refl
 sent-ends event n = refl
 
 -- the seal of a packet uses its number
-sends-spends : (event : Event) (outbound : Outbound) (place : Place) (n : ℕ) (payload : List ℕ) (step : Step) → place_of outbound.key.name ≡ Some place → SendsEsp outbound n payload step → Spends place n event step
+sends-spends : (event : Event) (outbound : Outbound) (place : Place) (n : ℕ) (payload : List ℕ) (step : Step) → place_of outbound.key.name ≡ place → SendsEsp outbound n payload step → Spends place n event step
 sends-spends event outbound place n payload step named sends = record {
   served = sends.served;
   uses_it = Seals_it (key_iv sends.seal) (ap place_of sends.named ∙ named) sends.iv (let said : _ = sends.said in let seals : _ = sends.seals in let none : _ = sent-ends event n in rw (said, seals, none));
@@ -60,7 +59,7 @@ sent-told member spir n other counter.Ask payload = number-failed (spir == other
 sent-told member spir n other counter.Answer payload = number-failed (spir == other) n
 
 -- a number that the peer sent under
-sent_theirs-told : (spir n other : ℕ) (d : Counter) (payload : WithRoom) → number_theirs other d (event.Send parties.Peer spir payload) (out.Sent n) ≡ number_at (Theirs other d) (Theirs spir counter.EspOut) n
+sent_theirs-told : (spir n other : ℕ) (d : Counter) (payload : WithRoom) → number_theirs other d (event.Send parties.Peer spir payload) (out.Sent n) ≡ number_at (Ours other d) (Ours spir counter.EspOut) n
 sent_theirs-told spir n other counter.EspOut payload = number-passed (spir == other) n
 sent_theirs-told spir n other counter.EspIn payload = number-failed (spir == other) n
 sent_theirs-told spir n other counter.Iv payload = number-failed (spir == other) n
@@ -133,12 +132,12 @@ module _ (past : List Turn) (step : Step) (spir : ℕ) (payload : WithRoom) (cal
         is_first = is_first;
         is_open = (refl, within);
         no_calls = no_calls;
-        spends = sends-spends (event.Send parties.Peer spir payload) (slot_outbound slot) (Theirs slot.sa.spir counter.EspOut) slot.next payload.octets step (place-theirs slot.sa counter.EspOut) s;
+        spends = sends-spends (event.Send parties.Peer spir payload) (slot_outbound slot) (Theirs (peer_counter slot.sa counter.EspOut)) slot.next payload.octets step refl s;
         not_ours = λ other d. sent-not_ours spir other d payload step.verdict;
         told = λ other d.
             ap (number_theirs other d (event.Send parties.Peer spir payload)) s.said
             ∙ (sent_theirs-told spir slot.next other d payload
-            ∙ ap (λ n. number_at (Theirs other d) (Theirs n counter.EspOut) slot.next) (sym (eqb-true slot.sa.spir spir (first-passes (has_spir spir) (slots_by (window_by past) (own Peer past)) slot is_first))));
+            ∙ ap (λ n. number_at (Ours other d) (Ours n counter.EspOut) slot.next) (sym (eqb-true slot.sa.spir spir (first-passes (has_spir spir) (slots_by (window_by past) (own Peer past)) slot is_first))));
         no_entry = refl;
       })
 

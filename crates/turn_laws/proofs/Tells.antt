@@ -1,5 +1,5 @@
 -- What own turns say that a member holds of a counter, and that what is open to it was not used.
-use Rattle.std.proofs.Common.{◌≡◌, ℕ, ◌≤◌, Option, Some, None, List, refl, ap, sym, ◌∙◌, subst}
+use Rattle.std.proofs.Common.{◌≡◌, ℕ, ◌+◌, ◌≤◌, Option, Some, None, List, map, refl, ap, sym, ◌∙◌, subst}
 use Rattle.std.proofs.lemmas.Option.{same_Some}
 use Rattle.std.specs.List.{filter_map}
 use Rattle.std.specs.Option.{option_map}
@@ -14,7 +14,7 @@ use Rattle.turn_laws.proofs.Unused.{fresh-unused, next-unused}
 use Rattle.turn_laws.specs.Holdings.{Holding, IsNotIn}
 use Rattle.turn_laws.specs.Turns.{turn_taken, told}
 use Rattle.turn_rules.proofs.Ties.{five_at-five_of}
-use Rattle.turn_rules.specs.Held.{Held, found, grant_of, held_by, high_of, holding, next_number_of, number_of, received_of, since}
+use Rattle.turn_rules.specs.Held.{Held, found, grant_of, greatest, held_by, high_of, holding, next_number_of, number_of, received_of, since}
 
 -- what own turns say that a member holds, at one counter
 pub record Tells (mine : List Turn) (spir : ℕ) (c : Counter) (held : Held) (h : Holding) : Type 0 where
@@ -37,7 +37,7 @@ module _ (size spir : ℕ) (mine : List Turn) (taken : Taken) where
   open-unused counter.Answer n is = next-open counter.Answer n is
 
   abbrev as_told : Counter → Taken → Holding
-  as_told c t = record { epoch = t.epoch; base = five_at t.bases c; high = high_of spir c t.bases mine; end = end_of t.sa c; numbers = filter_map (turn_taken spir c) (since spir mine) }
+  as_told c t = record { epoch = t.epoch; base = five_at t.bases c; next = greatest (five_at t.bases c) (map (λ n. n + 1) (filter_map (turn_taken spir c) (since spir mine))); high = high_of spir c t.bases mine; end = end_of t.sa c; numbers = filter_map (turn_taken spir c) (since spir mine) }
 
 pub tells : (size : ℕ) (mine : List Turn) (spir : ℕ) (c : Counter) (held : Held) → held_by size mine spir ≡ Some held → (h : Holding) × Tells mine spir c held h
 tells size mine spir c held is = go (found (grant_of spir) mine) refl is

@@ -1,152 +1,188 @@
 -- What the peer's own turns say that it holds of a counter is what the acts of all turns make of it.
-use Rattle.std.proofs.Common.{◌≡◌, ℕ, ◌==◌, Bool, true, false, Option, Some, None, List, [], ◌∷◌, ◌++◌, map, refl, ap, sym, ◌∙◌, subst, if◌then◌else◌}
-use Rattle.std.specs.List.{cons_option, filter_map}
+use Rattle.std.proofs.Common.{◌≡◌, ◌⊎◌, inl, inr, ℕ, ◌+◌, max, Bool, true, false, Option, Some, None, List, [], ◌∷◌, ◌++◌, map, append_assoc, append-nil, ⊎_elim, refl, ap, sym, ◌∙◌, subst, if◌then◌else◌}
+use Rattle.std.specs.Prelude.{is_some, reverse}
+use Rattle.std.proofs.lemmas.List.{reverse-append}
+use Rattle.std.specs.List.{AllByRecursion, cons_option, flat_map}
 use Rattle.std.specs.Option.{option_map}
 use Rattle.events.specs.declared.event.Event.{Event}
+use Rattle.events.specs.declared.seals.Seal.{Seal}
 use Rattle.events.specs.declared.turn.Step.{Step}
 use Rattle.events.specs.declared.turn.Turn.{Turn}
-use Rattle.events.specs.declared.verdict.Verdict.{Verdict}
-use Rattle.keeper_book.specs.CounterEnds.{end_of}
+use Rattle.ha_base.specs.declared.counter_names.CounterName.{CounterName}
 use Rattle.keeper_book.specs.Told.{seen}
 use Rattle.keeper_book.specs.declared.calls.Call.{Call}
-use Rattle.keeper_book.specs.declared.counters.Counter.{Counter}
-use Rattle.keeper_book.specs.declared.counters.Counter.TheVariants as counter
-use Rattle.keeper_book.specs.declared.records.Record.{Record}
-use Rattle.turn_laws.specs.PeerTurns.{came, came_in, number_theirs, number_theirs_of, told_theirs}
-use Rattle.turn_laws.proofs.Deeds.{Asked, Asks, Deed, Ended, IsIdle, PeerUses, Rested, Rests, Used, Used_theirs, rest_of}
+use Rattle.turn_laws.proofs.Acting.{moves_onto}
+use Rattle.turn_laws.proofs.Deeds.{Asked, Deed, Ended, Rested, Used, Used_theirs, rest_of}
 use Rattle.turn_laws.proofs.Holdings.{is_actor-same}
-use Rattle.turn_laws.proofs.Outcomes.{idle-received, idle-sent, rests-rest}
+use Rattle.turn_laws.proofs.Listed.{moved, moved-calls, number_moved, turn-listed}
+use Rattle.turn_laws.proofs.Lists.{all-append, all-each}
+use Rattle.turn_laws.proofs.Moves.{IsUseOrEnd, are-uses}
+use Rattle.turn_laws.proofs.Outcomes.{rests-rest}
 use Rattle.turn_laws.proofs.Records.{deed-of}
-use Rattle.turn_laws.proofs.Runs.{others-hold}
-use Rattle.turn_laws.proofs.Uses.{held-use, number_at}
-use Rattle.turn_laws.specs.Acts.{Act, Calls, Move, begun_theirs, effect_theirs, entered_at, holding_at, acts_onto}
-use Rattle.turn_laws.specs.Holdings.{Actor, Draws, End, Holding, Nothing, holding_after, is_actor}
-use Rattle.turn_laws.specs.Places.{Theirs, is_place, start_of}
-use Rattle.turn_laws.specs.Turns.{actor_as, actor_of, acts_of, moves_of}
-use Rattle.turn_rules.specs.Ends.{Member, Peer, Performer, is_by, is_end, own, performer, performer_at}
-use Rattle.turn_rules.specs.Held.{first_some, found}
+use Rattle.turn_laws.proofs.Runs.{onto-append, others-hold}
+use Rattle.turn_laws.proofs.Told.{is_end-false, is_end-true}
+use Rattle.turn_laws.proofs.Uses.{Counts, IsUse, Seals_it, number_at}
+use Rattle.turn_laws.specs.Acts.{Act, Calls, Ends, Leaps, Leases, Move, Opens, Seals, Starts, Uses, act_by, begun_by, effect_begun, effect_of_use, entered_as, holding_at}
+use Rattle.turn_laws.specs.Holdings.{Actor, Draws, End, Holding, Nothing, drawn, holding_after, is_actor}
+use Rattle.turn_laws.specs.Listed.{listed_at}
+use Rattle.turn_laws.specs.PeerTurns.{begun_in, having_used, since_begun, told_theirs}
+use Rattle.turn_laws.specs.Places.{Place, Theirs, is_place, place_of}
+use Rattle.turn_laws.specs.Turns.{actor_as, actor_of, acts_of, key_iv, moves_of, uses_of}
+use Rattle.turn_rules.specs.Ends.{Member, Peer, Performer, is_by, own, performer}
+use Rattle.turn_rules.specs.Held.{first_some, found, greatest}
 use Rattle.turn_rules.specs.Local.{Explained}
-use Rattle.turn_rules.specs.Peers.{record_entered, entered_in}
-use Rattle.turn_rules.specs.Slots.{is_entered, since_entered}
-
--- a holding with one number more, or none
-abbrev with_number : Option ℕ → Holding → Holding
-with_number number h = record h { numbers = cons_option number h.numbers }
-
--- what is held after one more turn of the peer's own
-abbrev theirs_after : ℕ → Counter → Event → Verdict → Option Holding → Option Holding
-theirs_after spir c event verdict held = first_some (option_map (begun_theirs c) (came spir (record_entered event verdict))) (option_map (with_number (number_theirs spir c event verdict)) held)
-
-with_none : (x : Option Holding) → option_map (with_number None) x ≡ x
-with_none None = refl
-with_none (Some h) = refl
-
-module _ (spir : ℕ) (c : Counter) (turn : Turn) (past : List Turn) where
-  abbrev theirs_as : List Turn → Record → Holding
-  theirs_as turns sa = record { epoch = 1; base = start_of sa c; high = end_of sa c; end = end_of sa c; numbers = filter_map (number_theirs_of spir c) turns }
-
-  no_entry : (x : Option Record) → option_map (theirs_as (turn ∷ since_entered spir past)) x ≡ option_map (with_number (number_theirs_of spir c turn)) (option_map (theirs_as (since_entered spir past)) x)
-  no_entry None = refl
-  no_entry (Some sa) = refl
-
-  an_entry : (new : Record) (b : Bool) →
-      option_map (theirs_as (if b then [] else turn ∷ since_entered spir past)) (first_some (if b then Some new else None) (found (came_in spir) past))
-      ≡ first_some (option_map (begun_theirs c) (if b then Some new else None)) (option_map (with_number (number_theirs_of spir c turn)) (told_theirs spir c past))
-  an_entry new true = refl
-  an_entry new false = no_entry (found (came_in spir) past)
-
-  by_entry : (x : Option Record) →
-      option_map (theirs_as (if is_entered spir x then [] else turn ∷ since_entered spir past)) (first_some (came spir x) (found (came_in spir) past))
-      ≡ first_some (option_map (begun_theirs c) (came spir x)) (option_map (with_number (number_theirs_of spir c turn)) (told_theirs spir c past))
-  by_entry None = no_entry (found (came_in spir) past)
-  by_entry (Some new) = an_entry new (new.spir == spir)
-
-  told_theirs-cons : told_theirs spir c (turn ∷ past) ≡ theirs_after spir c turn.event turn.step.verdict (told_theirs spir c past)
-  told_theirs-cons = by_entry (entered_in turn)
-
-idle-theirs : (spir : ℕ) (c : Counter) (event : Event) (verdict : Verdict) → IsIdle verdict → number_theirs spir c event verdict ≡ None
-idle-theirs spir counter.EspOut event verdict idle = idle-sent spir event verdict idle
-idle-theirs spir counter.EspIn event verdict idle = idle-received spir event verdict idle
-idle-theirs spir c event verdict idle = refl
+use Rattle.turn_rules.specs.Peers.{record_entered}
 
 -- a turn of the peer is no turn of a member
 pub not-both : {X : Type 0} (member : ℕ) (x : Option Performer) → x ≡ Some (Member member) → x ≡ Some Peer → X
 not-both member x by_member by_peer = absurd (cc)
 
-module _ (spir : ℕ) (c : Counter) (w : Actor) where
-  begins : (held : Actor → Option Holding) (x : Option Record) → holding_after (effect_theirs w c x) held w ≡ first_some (option_map (begun_theirs c) x) (held w)
-  begins held None = refl
-  begins held (Some sa) = let here : is_actor w w ≡ true = is_actor-same w in rw here
+-- the next number after more numbers
+next-more : (least : ℕ) (xs ys : List ℕ) → greatest least (map (λ n. n + 1) (xs ++ ys)) ≡ greatest (greatest least (map (λ n. n + 1) ys)) (map (λ n. n + 1) xs)
+next-more least [] ys = refl
+next-more least (x ∷ xs) ys = ap (max (x + 1)) (next-more least xs ys)
 
-  -- what an association that came, and a number that was used, leave of what was held
-  after-entry : (event : Event) (verdict : Verdict) (entry : Option Record) (number : Option ℕ) (x : Option Holding) → came spir (record_entered event verdict) ≡ entry → number_theirs spir c event verdict ≡ number
-      → first_some (option_map (begun_theirs c) entry) (option_map (with_number number) x) ≡ theirs_after spir c event verdict x
-  after-entry event verdict entry number x came_so used_so =
-      ap (λ number. first_some (option_map (begun_theirs c) entry) (option_map (with_number number) x)) (sym used_so)
-      ∙ ap (λ (entry : Option Record). first_some (option_map (begun_theirs c) entry) (option_map (with_number (number_theirs spir c event verdict)) x)) (sym came_so)
+having-none : (x : Option Holding) → option_map (having_used []) x ≡ x
+having-none None = refl
+having-none (Some h) = refl
 
-  module _ (past : List Turn) (event : Event) (step : Step) (acts : List Act) where
-    -- what the peer holds after these moves is what the turn says
-    abbrev TellsTheirs : List Move → Type 0
-    TellsTheirs moves = holding_at (Theirs spir c) (acts_onto w moves acts) w ≡ theirs_after spir c event step.verdict (holding_at (Theirs spir c) acts w)
+having-more : (xs ys : List ℕ) (x : Option Holding) → option_map (having_used xs) (option_map (having_used ys) x) ≡ option_map (having_used (xs ++ ys)) x
+having-more xs ys None = refl
+having-more xs ys (Some h) = ap Some (sym same)
+  where
+    same : having_used (xs ++ ys) h ≡ having_used xs (having_used ys h)
+    same i = record h { next = next-more h.next xs ys i; numbers = append_assoc xs ys h.numbers i }
 
-    rested-theirs : Rests step → record_entered event step.verdict ≡ None → TellsTheirs (rest_of event step)
-    rested-theirs rests no_entry =
-        ap (λ moves. holding_at (Theirs spir c) (acts_onto w moves acts) w) (rests-rest event step rests)
-        ∙ (sym (with_none (holding_at (Theirs spir c) acts w))
-        ∙ after-entry event step.verdict None None (holding_at (Theirs spir c) acts w) (ap (came spir) no_entry) (idle-theirs spir c event step.verdict rests.idle))
+-- moves that use numbers, or end a member
+abbrev IsUsing : Move → Type 0
+IsUsing (Uses place n) = Unit {0}
+IsUsing (Seals key) = Unit {0}
+IsUsing Ends = Unit {0}
+IsUsing move = ⊥
 
-    asked-theirs : {calls : List Call} (asks : Asks event calls step) → TellsTheirs (Calls asks.call ∷ rest_of event step)
-    asked-theirs asks =
-        ap (λ moves. holding_at (Theirs spir c) (acts_onto w (Calls asks.call ∷ moves) acts) w) (rests-rest event step asks.rests)
-        ∙ (begins (holding_at (Theirs spir c) acts) (entered_at spir asks.call.asked (seen asks.call))
-        ∙ (ap (first_some (option_map (begun_theirs c) (entered_at spir asks.call.asked (seen asks.call)))) (sym (with_none (holding_at (Theirs spir c) acts w)))
-        ∙ after-entry event step.verdict (entered_at spir asks.call.asked (seen asks.call)) None (holding_at (Theirs spir c) acts w) (sym (asks.entry spir)) (idle-theirs spir c event step.verdict asks.rests.idle)))
+module _ (p : Place) (w : Actor) where
+  used-one : (q : Place) (n : ℕ) (acts : List Act) → holding_after (effect_of_use p q w n) (holding_at p acts) w ≡ option_map (having_used (cons_option (if is_place q p then Some n else None) [])) (holding_at p acts w)
+  used-one q n acts = by_test (is_place q p)
+    where
+      by_test : (b : Bool) → holding_after (if b then Draws w n else Nothing) (holding_at p acts) w ≡ option_map (having_used (cons_option (if b then Some n else None) [])) (holding_at p acts w)
+      by_test true = let here : is_actor w w ≡ true = is_actor-same w in rw here refl
+      by_test false = sym (having-none (holding_at p acts w))
 
-    used-theirs : {calls : List Call} (u : PeerUses past event calls step) → TellsTheirs (rest_of event step)
-    used-theirs u =
-        held-use (Theirs spir c) (Theirs u.slot.sa.spir u.c) u.number w acts (rest_of event step) u.spends.uses_it
-        ∙ (by_test (is_place (Theirs u.slot.sa.spir u.c) (Theirs spir c))
-        ∙ after-entry event step.verdict None (number_at (Theirs spir c) (Theirs u.slot.sa.spir u.c) u.number) (holding_at (Theirs spir c) acts w) (ap (came spir) u.no_entry) (u.told spir c))
+  moved-one : (move : Move) → IsUsing move → (acts : List Act) → holding_at p (act_by w move ∷ acts) w ≡ option_map (having_used (cons_option (number_moved p move) [])) (holding_at p acts w)
+  moved-one (Uses q n) using acts = used-one q n acts
+  moved-one (Seals key) using acts = used-one (place_of key.name) key.iv acts
+  moved-one Ends using acts = sym (having-none (holding_at p acts w))
+  moved-one (Calls call) using acts = absurd using
+  moved-one (Leases pool first count seen) using acts = absurd using
+  moved-one (Leaps q n) using acts = absurd using
+  moved-one (Opens sa) using acts = absurd using
+  moved-one (Starts sa) using acts = absurd using
+
+  -- what is held after moves that use numbers
+  pub moved-holds : (moves : List Move) → AllByRecursion IsUsing moves → (acts : List Act) → holding_at p (moves_onto w moves acts) w ≡ option_map (having_used (reverse (moved p moves))) (holding_at p acts w)
+  moved-holds [] using acts = sym (having-none (holding_at p acts w))
+  moved-holds (move ∷ moves) using acts =
+      moved-holds moves using.1 (act_by w move ∷ acts)
+      ∙ (ap (option_map (having_used (reverse (moved p moves)))) (moved-one move using.0 acts)
+      ∙ (having-more (reverse (moved p moves)) (cons_option (number_moved p move) []) (holding_at p acts w)
+      ∙ ap (λ ns. option_map (having_used ns) (holding_at p acts w)) (by_number (number_moved p move))))
+    where
+      by_number : (x : Option ℕ) → reverse (moved p moves) ++ cons_option x [] ≡ reverse (cons_option x (moved p moves))
+      by_number None = append-nil (reverse (moved p moves))
+      by_number (Some n) = sym (reverse-append (n ∷ []) (moved p moves))
+
+use-using : (move : Move) → IsUseOrEnd move → IsUsing move
+use-using (Uses place n) is = tt
+use-using Ends is = tt
+use-using (Calls call) is = absurd is
+use-using (Seals key) is = absurd is
+use-using (Leases pool first count seen) is = absurd is
+use-using (Leaps place n) is = absurd is
+use-using (Opens sa) is = absurd is
+use-using (Starts sa) is = absurd is
+
+seals-using : (seals : List Seal) → AllByRecursion IsUsing (map (λ seal. Seals (key_iv seal)) seals)
+seals-using [] = tt
+seals-using (seal ∷ seals) = (tt, seals-using seals)
+
+pub rest-using : (event : Event) (step : Step) → AllByRecursion IsUsing (rest_of event step)
+rest-using event step = all-append IsUsing (uses_of event step.verdict) (map (λ seal. Seals (key_iv seal)) step.seals) (all-each (uses_of event step.verdict) use-using (are-uses event step.verdict)) (seals-using step.seals)
+
+-- the numbers of a turn are those of its moves beside its calls
+pub rest-listed : (p : Place) (turn : Turn) → reverse (moved p (rest_of turn.event turn.step)) ≡ listed_at p turn
+rest-listed p turn = ap reverse (sym (moved-calls p turn.calls (rest_of turn.event turn.step))) ∙ turn-listed p turn
+
+-- the number that a use moves
+pub use-moved : (p q : Place) (n : ℕ) (moves : List Move) → IsUse q n moves → moved p moves ≡ cons_option (number_at p q n) []
+use-moved p q n moves (Counts is) = ap (moved p) is
+use-moved p q n moves (Seals_it key place iv is) = ap (moved p) is ∙ (ap (λ q. cons_option (number_at p q key.iv) []) place ∙ ap (λ n. cons_option (number_at p q n) []) iv)
+
+pub no-packet : {X : Type 0} (x : X) → None ≡ Some x → ⊥
+no-packet x is = absurd (cc)
+
+module _ (name : CounterName) (turn : Turn) (past : List Turn) where
+  abbrev its_numbers : List ℕ
+  its_numbers = listed_at (Theirs name) turn
+
+  -- what the peer's own turns say after one more of them, which begins nothing or uses nothing
+  pub told_theirs-cons : (begun_in name turn ≡ None) ⊎ (its_numbers ≡ []) → told_theirs name (turn ∷ past) ≡ option_map (having_used its_numbers) (first_some (begun_in name turn) (told_theirs name past))
+  told_theirs-cons either = by_case (begun_in name turn) either
+    where
+      by_case : (x : Option Holding) → (x ≡ None) ⊎ (its_numbers ≡ []) →
+          option_map (having_used (flat_map (listed_at (Theirs name)) (if is_some x then [] else turn ∷ since_begun name past))) (first_some x (found (begun_in name) past))
+          ≡ option_map (having_used its_numbers) (first_some x (told_theirs name past))
+      by_case None either = sym (having-more its_numbers (flat_map (listed_at (Theirs name)) (since_begun name past)) (found (begun_in name) past))
+      by_case (Some h) either = ⊎_elim (λ none. absurd (cc)) (λ none. ap (λ ns. option_map (having_used ns) (Some h)) (sym none)) either
+
+  module _ (w : Actor) (acts : List Act) where
+    called-holds : (call : Call) → entered_as call.asked (seen call) ≡ record_entered turn.event turn.step.verdict → holding_at (Theirs name) (act_by w (Calls call) ∷ acts) w ≡ first_some (begun_in name turn) (holding_at (Theirs name) acts w)
+    called-holds call same = go (begun_by name (entered_as call.asked (seen call))) ∙ ap (λ x. first_some (begun_by name x) (holding_at (Theirs name) acts w)) same
       where
-        by_test : (b : Bool) → holding_after (if b then Draws w u.number else Nothing) (holding_at (Theirs spir c) acts) w ≡ option_map (with_number (if b then Some u.number else None)) (holding_at (Theirs spir c) acts w)
-        by_test true = let here : is_actor w w ≡ true = is_actor-same w in rw here
-        by_test false = sym (with_none (holding_at (Theirs spir c) acts w))
+        go : (x : Option Holding) → holding_after (effect_begun w x) (holding_at (Theirs name) acts) w ≡ first_some x (holding_at (Theirs name) acts w)
+        go None = refl
+        go (Some h) = let here : is_actor w w ≡ true = is_actor-same w in rw here refl
 
-    -- so it is in each turn of the peer
-    theirs-turn : (calls : List Call) → Deed past event calls step → performer_at event step.verdict ≡ Some Peer → TellsTheirs (map Calls calls ++ rest_of event step)
-    theirs-turn calls (Rested none rests no_entry) by = rw none (rested-theirs rests no_entry)
-    theirs-turn calls (Asked asks) by = let one : _ = asks.one in rw one (asked-theirs asks)
-    theirs-turn calls (Ended member by_it none said ends quiet) by = not-both member (performer_at event step.verdict) by_it by
-    theirs-turn calls (Used u) by = not-both u.member (performer_at event step.verdict) u.by_it by
-    theirs-turn calls (Used_theirs u) by = let none : _ = u.no_calls in rw none (used-theirs u)
+    no_calls : turn.calls ≡ [] → record_entered turn.event turn.step.verdict ≡ None → holding_at (Theirs name) (moves_onto w (map Calls turn.calls) acts) w ≡ first_some (begun_in name turn) (holding_at (Theirs name) acts w)
+    no_calls none no_entry = ap (λ calls. holding_at (Theirs name) (moves_onto w (map Calls calls) acts) w) none ∙ ap (λ x. first_some (begun_by name x) (holding_at (Theirs name) acts w)) (sym no_entry)
 
--- whose turn it is
-is_end-peer : (x : Option Performer) → is_end Peer x ≡ true → x ≡ Some Peer
-is_end-peer None e = absurd (cc)
-is_end-peer (Some Peer) e = refl
-is_end-peer (Some (Member member)) e = absurd (cc)
+    -- what the peer holds after a turn of its own
+    abbrev AfterCalls : Type 0
+    AfterCalls = (holding_at (Theirs name) (moves_onto w (map Calls turn.calls) acts) w ≡ first_some (begun_in name turn) (holding_at (Theirs name) acts w)) × ((begun_in name turn ≡ None) ⊎ (its_numbers ≡ []))
 
-other-actor : (x : Option Performer) → is_end Peer x ≡ false → is_actor (actor_as x) (End Peer) ≡ false
-other-actor None e = refl
-other-actor (Some Peer) e = absurd (cc)
-other-actor (Some (Member member)) e = refl
+    peer-calls : {past : List Turn} → Deed past turn.event turn.calls turn.step → performer turn ≡ Some Peer → AfterCalls
+    peer-calls (Rested none rests no_entry) by = (no_calls none no_entry, inl (ap (begun_by name) no_entry))
+    peer-calls (Asked asks) by = (
+      subst (λ calls. holding_at (Theirs name) (moves_onto w (map Calls calls) acts) w ≡ first_some (begun_in name turn) (holding_at (Theirs name) acts w)) (sym asks.one) (called-holds asks.call asks.entry),
+      inr (sym (rest-listed (Theirs name) turn) ∙ ap (λ moves. reverse (moved (Theirs name) moves)) (rests-rest turn.event turn.step asks.rests)),
+    )
+    peer-calls (Ended member by_it none said ends quiet) by = not-both member (performer turn) by_it by
+    peer-calls (Used u) by = not-both u.member (performer turn) u.by_it by
+    peer-calls (Used_theirs u) by = (no_calls u.no_calls u.no_entry, inl (ap (begun_by name) u.no_entry))
+
+    peer-holds : {past : List Turn} → Deed past turn.event turn.calls turn.step → performer turn ≡ Some Peer
+        → holding_at (Theirs name) (moves_onto w (moves_of turn) acts) w ≡ option_map (having_used its_numbers) (first_some (begun_in name turn) (holding_at (Theirs name) acts w))
+    peer-holds deed by =
+        ap (λ acts. holding_at (Theirs name) acts w) (onto-append w (map Calls turn.calls) (rest_of turn.event turn.step) acts)
+        ∙ (moved-holds (Theirs name) w (rest_of turn.event turn.step) (rest-using turn.event turn.step) (moves_onto w (map Calls turn.calls) acts)
+        ∙ (ap (λ ns. option_map (having_used ns) (holding_at (Theirs name) (moves_onto w (map Calls turn.calls) acts) w)) (rest-listed (Theirs name) turn)
+        ∙ ap (option_map (having_used its_numbers)) (peer-calls deed by).0))
 
 -- what the peer's own turns say that it holds is what the acts of all turns make of it
-pub told_theirs-held : (boxes : ℕ) (past : List Turn) → Explained boxes past → (spir : ℕ) (c : Counter) → told_theirs spir c (own Peer past) ≡ holding_at (Theirs spir c) (acts_of past) (End Peer)
-told_theirs-held boxes [] local spir c = refl
-told_theirs-held boxes (turn ∷ past) local spir c = by_test (told_theirs-held boxes past local.1 spir c) (is_by Peer turn) refl
+pub told_theirs-held : (boxes : ℕ) (past : List Turn) → Explained boxes past → (name : CounterName) → told_theirs name (own Peer past) ≡ holding_at (Theirs name) (acts_of past) (End Peer)
+told_theirs-held boxes [] local name = refl
+told_theirs-held boxes (turn ∷ past) local name = by_test (told_theirs-held boxes past local.1 name) (is_by Peer turn) refl
   where
-    by_test : told_theirs spir c (own Peer past) ≡ holding_at (Theirs spir c) (acts_of past) (End Peer) → (b : Bool) → is_by Peer turn ≡ b
-        → told_theirs spir c (own Peer (turn ∷ past)) ≡ holding_at (Theirs spir c) (acts_of (turn ∷ past)) (End Peer)
+    by_test : told_theirs name (own Peer past) ≡ holding_at (Theirs name) (acts_of past) (End Peer) → (b : Bool) → is_by Peer turn ≡ b
+        → told_theirs name (own Peer (turn ∷ past)) ≡ holding_at (Theirs name) (acts_of (turn ∷ past)) (End Peer)
     by_test before true t =
-        let by : performer turn ≡ Some Peer = is_end-peer (performer turn) t in
-        ap (λ b. told_theirs spir c (if b then turn ∷ own Peer past else own Peer past)) t
-        ∙ (told_theirs-cons spir c turn (own Peer past)
-        ∙ (ap (theirs_after spir c turn.event turn.step.verdict) before
-        ∙ sym (subst (λ w. holding_at (Theirs spir c) (acts_onto (actor_of turn) (moves_of turn) (acts_of past)) w ≡ theirs_after spir c turn.event turn.step.verdict (holding_at (Theirs spir c) (acts_of past) w)) (ap actor_as by)
-        (theirs-turn spir c (actor_of turn) past turn.event turn.step (acts_of past) turn.calls (deed-of boxes past turn local.0 local.1) by))))
+        let by : performer turn ≡ Some Peer = is_end-true Peer (performer turn) t in
+        let deed : Deed past turn.event turn.calls turn.step = deed-of boxes past turn local.0 local.1 in
+        ap (λ b. told_theirs name (if b then turn ∷ own Peer past else own Peer past)) t
+        ∙ (told_theirs-cons name turn (own Peer past) (peer-calls name turn (own Peer past) (End Peer) (acts_of past) deed by).1
+        ∙ (ap (λ x. option_map (having_used (listed_at (Theirs name) turn)) (first_some (begun_in name turn) x)) before
+        ∙ sym (subst (λ w. holding_at (Theirs name) (moves_onto w (moves_of turn) (acts_of past)) (End Peer) ≡ option_map (having_used (listed_at (Theirs name) turn)) (first_some (begun_in name turn) (holding_at (Theirs name) (acts_of past) (End Peer)))) (sym (ap actor_as by))
+        (peer-holds name turn (own Peer past) (End Peer) (acts_of past) deed by))))
     by_test before false t =
-        ap (λ b. told_theirs spir c (if b then turn ∷ own Peer past else own Peer past)) t
+        ap (λ b. told_theirs name (if b then turn ∷ own Peer past else own Peer past)) t
         ∙ (before
-        ∙ sym (others-hold (Theirs spir c) (actor_of turn) (End Peer) (other-actor (performer turn) t) (moves_of turn) (acts_of past)))
+        ∙ sym (others-hold (Theirs name) (actor_of turn) Peer (is_end-false Peer (performer turn) t) (moves_of turn) (acts_of past)))

@@ -1,5 +1,5 @@
 -- What an end's own turns say that it holds of a counter is what the acts of all turns make of it.
-use Rattle.std.proofs.Common.{◌≡◌, ℕ, ◌⊎◌, inl, inr, Bool, true, false, Option, Some, None, List, [], ◌∷◌, ◌++◌, map, ⊎_elim, refl, ap, sym, ◌∙◌, subst, if◌then◌else◌}
+use Rattle.std.proofs.Common.{◌≡◌, ◌≢◌, ℕ, ◌+◌, ◌⊎◌, inl, inr, Bool, true, false, Option, Some, None, List, [], ◌∷◌, ◌++◌, map, ⊎_elim, refl, ap, sym, ◌∙◌, subst, if◌then◌else◌}
 use Rattle.std.specs.Prelude.{is_some}
 use Rattle.std.specs.List.{AllByRecursion, cons_option, filter_map, flat_map}
 use Rattle.std.specs.Option.{option_map}
@@ -14,32 +14,38 @@ use Rattle.keeper_book.specs.Told.{seen}
 use Rattle.keeper_book.specs.declared.calls.Call.{Call}
 use Rattle.keeper_book.specs.declared.counters.Counter.{Counter}
 use Rattle.keeper_book.specs.declared.records.Taken.{Taken}
+use Rattle.turn_laws.proofs.Acting.{moves_onto}
 use Rattle.turn_laws.proofs.Covers.{ready-calls}
 use Rattle.turn_laws.proofs.Deeds.{Asked, Deed, Ended, Rested, Rests, Used, Used_theirs, UsesIt, rest_of}
-use Rattle.turn_laws.proofs.Holdings.{is_actor-same, is_performer-true}
+use Rattle.turn_laws.proofs.Holdings.{is_actor-same, is_performer-same, is_performer-true}
 use Rattle.turn_laws.proofs.Outcomes.{Idle, Ours_used, Outcome, Over, Theirs_used, idle-taken, outcome-of, over-rest, over-taken, rests-rest}
 use Rattle.turn_laws.proofs.Records.{deed-of}
-use Rattle.turn_laws.proofs.Runs.{covered_by, held-call, held-covers, is_performer-sym, onto-append, others-hold}
+use Rattle.turn_laws.proofs.Runs.{covered_by, held-call, held-covers, onto-append, others-hold}
 use Rattle.turn_laws.proofs.Uses.{held-use}
-use Rattle.turn_laws.specs.Acts.{Act, Calls, holding_begun, holding_at, acts_onto}
+use Rattle.turn_laws.specs.Acts.{Act, Calls, holding_begun, holding_at}
 use Rattle.turn_laws.specs.Holdings.{Actor, Draws, End, Holding, Nothing, holding_after, is_actor}
 use Rattle.turn_laws.specs.Places.{Ours, is_place}
 use Rattle.turn_laws.specs.Turns.{actor_as, actor_of, acts_of, moves_of, number_taken, turn_taken, told}
 use Rattle.turn_rules.proofs.Ties.{greatest-append}
 use Rattle.turn_rules.specs.Draws.{reach_of}
-use Rattle.turn_rules.specs.Ends.{Member, Peer, Performer, is_by, is_end, own, performer, performer_at}
-use Rattle.turn_rules.specs.Held.{covers_in, covers_of, first_some, found, grant_in, grant_of, granted, greatest, since}
+use Rattle.turn_rules.specs.Ends.{Member, Peer, Performer, is_by, is_end, is_performer, own, performer, performer_at}
+use Rattle.turn_rules.specs.Held.{after_number, covers_in, covers_of, first_some, found, grant_in, grant_of, granted, greatest, since}
 use Rattle.turn_rules.specs.Local.{Explained}
 use Rattle.turn_rules.specs.States.{ended_by}
 use Rattle.turn_rules.specs.Steps.{IsQuiet}
 
 -- what a turn makes of what is held, where it grants nothing
 abbrev pub told_more : ℕ → Counter → Event → List Call → Verdict → Holding → Holding
-told_more spir c event calls verdict h = record h { high = greatest h.high (covers_in spir c calls); numbers = cons_option (number_taken spir c event verdict) h.numbers }
+told_more spir c event calls verdict h = record h { next = after_number (number_taken spir c event verdict) h.next; high = greatest h.high (covers_in spir c calls); numbers = cons_option (number_taken spir c event verdict) h.numbers }
 
 -- what is held after one more turn of its own
 abbrev pub told_after : ℕ → Counter → Event → List Call → Verdict → Option Holding → Option Holding
 told_after spir c event calls verdict held = first_some (option_map (holding_begun c) (grant_in spir calls)) (option_map (told_more spir c event calls verdict) held)
+
+-- the greatest number with one more, or none
+greatest-cons : (least : ℕ) (x : Option ℕ) (ns : List ℕ) → greatest least (map (λ n. n + 1) (cons_option x ns)) ≡ after_number x (greatest least (map (λ n. n + 1) ns))
+greatest-cons least None ns = refl
+greatest-cons least (Some n) ns = refl
 
 module _ (spir : ℕ) (c : Counter) (turn : Turn) (past : List Turn) where
   abbrev turns_since : Option Taken → List Turn
@@ -49,6 +55,7 @@ module _ (spir : ℕ) (c : Counter) (turn : Turn) (past : List Turn) where
   told_as turns taken = record {
     epoch = taken.epoch;
     base = five_at taken.bases c;
+    next = greatest (five_at taken.bases c) (map (λ n. n + 1) (filter_map (turn_taken spir c) turns));
     high = greatest (five_at taken.bases c) (flat_map (covers_of spir c) turns);
     end = end_of taken.sa c;
     numbers = filter_map (turn_taken spir c) turns;
@@ -58,6 +65,7 @@ module _ (spir : ℕ) (c : Counter) (turn : Turn) (past : List Turn) where
   told_later taken i = record {
     epoch = taken.epoch;
     base = five_at taken.bases c;
+    next = greatest-cons (five_at taken.bases c) (turn_taken spir c turn) (filter_map (turn_taken spir c) (since spir past)) i;
     high = greatest-append (five_at taken.bases c) (covers_of spir c turn) (flat_map (covers_of spir c) (since spir past)) i;
     end = end_of taken.sa c;
     numbers = filter_map (turn_taken spir c) (turn ∷ since spir past);
@@ -76,7 +84,7 @@ module _ (spir : ℕ) (c : Counter) (turn : Turn) (past : List Turn) where
 
 -- a holding with one number more, or none
 abbrev noted : Option ℕ → Holding → Holding
-noted number h = record h { numbers = cons_option number h.numbers }
+noted number h = record h { next = after_number number h.next; numbers = cons_option number h.numbers }
 
 noted_none : (x : Option Holding) → x ≡ option_map (noted None) x
 noted_none None = refl
@@ -84,18 +92,18 @@ noted_none (Some h) = refl
 
 -- what the moves of a turn beside its calls make of what its end holds
 abbrev Notes : ℕ → Counter → Actor → Event → Step → Type 0
-Notes spir c w event step = (acts : List Act) → holding_at (Ours spir c) (acts_onto w (rest_of event step) acts) w ≡ option_map (noted (number_taken spir c event step.verdict)) (holding_at (Ours spir c) acts w)
+Notes spir c w event step = (acts : List Act) → holding_at (Ours spir c) (moves_onto w (rest_of event step) acts) w ≡ option_map (noted (number_taken spir c event step.verdict)) (holding_at (Ours spir c) acts w)
 
 module _ (spir : ℕ) (c : Counter) (w : Actor) (event : Event) (step : Step) where
   idle-notes : Rests step → Notes spir c w event step
   idle-notes rests acts =
-      ap (λ moves. holding_at (Ours spir c) (acts_onto w moves acts) w) (rests-rest event step rests)
+      ap (λ moves. holding_at (Ours spir c) (moves_onto w moves acts) w) (rests-rest event step rests)
       ∙ (noted_none (holding_at (Ours spir c) acts w)
       ∙ ap (λ number. option_map (noted number) (holding_at (Ours spir c) acts w)) (sym (idle-taken spir c event step.verdict rests.idle)))
 
   over-notes : (member : ℕ) → step.verdict ≡ out.Down → ended_by event out.Down ≡ Some member → IsQuiet step → Notes spir c w event step
   over-notes member said ends quiet acts =
-      ap (λ moves. holding_at (Ours spir c) (acts_onto w moves acts) w) (over-rest event step member said ends quiet)
+      ap (λ moves. holding_at (Ours spir c) (moves_onto w moves acts) w) (over-rest event step member said ends quiet)
       ∙ (noted_none (holding_at (Ours spir c) acts w)
       ∙ ap (λ number. option_map (noted number) (holding_at (Ours spir c) acts w)) (sym (ap (number_taken spir c event) said ∙ over-taken spir c event)))
 
@@ -164,28 +172,29 @@ module _ (spir : ℕ) (c : Counter) (w : Actor) (event : Event) (calls : List Ca
       go None (Some h) = refl
 
   -- what an end holds after a turn of its own
-  held-turn : (acts : List Act) → Notes spir c w event step → IsPlain spir c event calls step.verdict → holding_at (Ours spir c) (acts_onto w (map Calls calls ++ rest_of event step) acts) w ≡ told_after spir c event calls step.verdict (holding_at (Ours spir c) acts w)
+  held-turn : (acts : List Act) → Notes spir c w event step → IsPlain spir c event calls step.verdict → holding_at (Ours spir c) (moves_onto w (map Calls calls ++ rest_of event step) acts) w ≡ told_after spir c event calls step.verdict (holding_at (Ours spir c) acts w)
   held-turn acts notes plain =
       ap (λ more. holding_at (Ours spir c) more w) (onto-append w (map Calls calls) (rest_of event step) acts)
-      ∙ (notes (acts_onto w (map Calls calls) acts)
+      ∙ (notes (moves_onto w (map Calls calls) acts)
       ∙ ⊎_elim several one plain)
     where
-      several : GrantNone spir calls → option_map (noted (number_taken spir c event step.verdict)) (holding_at (Ours spir c) (acts_onto w (map Calls calls) acts) w) ≡ told_after spir c event calls step.verdict (holding_at (Ours spir c) acts w)
+      several : GrantNone spir calls → option_map (noted (number_taken spir c event step.verdict)) (holding_at (Ours spir c) (moves_onto w (map Calls calls) acts) w) ≡ told_after spir c event calls step.verdict (holding_at (Ours spir c) acts w)
       several none = ap (option_map (noted (number_taken spir c event step.verdict))) (held-covers spir c w calls acts none) ∙ told_none (holding_at (Ours spir c) acts w) none
 
-      one : (call : Call) × (calls ≡ call ∷ []) × (number_taken spir c event step.verdict ≡ None) → option_map (noted (number_taken spir c event step.verdict)) (holding_at (Ours spir c) (acts_onto w (map Calls calls) acts) w) ≡ told_after spir c event calls step.verdict (holding_at (Ours spir c) acts w)
+      one : (call : Call) × (calls ≡ call ∷ []) × (number_taken spir c event step.verdict ≡ None) → option_map (noted (number_taken spir c event step.verdict)) (holding_at (Ours spir c) (moves_onto w (map Calls calls) acts) w) ≡ told_after spir c event calls step.verdict (holding_at (Ours spir c) acts w)
       one is =
           ap (option_map (noted (number_taken spir c event step.verdict)))
-          (subst (λ cs. holding_at (Ours spir c) (acts_onto w (map Calls cs) acts) w ≡ first_some (option_map (holding_begun c) (grant_in spir cs)) (option_map (covered_by spir c w cs) (holding_at (Ours spir c) acts w))) (sym is.1) (held-call spir c w is.0 acts))
+          (subst (λ cs. holding_at (Ours spir c) (moves_onto w (map Calls cs) acts) w ≡ first_some (option_map (holding_begun c) (grant_in spir cs)) (option_map (covered_by spir c w cs) (holding_at (Ours spir c) acts w))) (sym is.1) (held-call spir c w is.0 acts))
           ∙ told_once (holding_at (Ours spir c) acts w) is.2
 
+-- whose turn it is
 pub is_end-true : (end : Performer) (x : Option Performer) → is_end end x ≡ true → x ≡ Some end
 is_end-true end None e = absurd (cc)
 is_end-true end (Some other) e = ap Some (sym (is_performer-true end other e))
 
-is_end-false : (end : Performer) (x : Option Performer) → is_end end x ≡ false → is_actor (actor_as x) (End end) ≡ false
-is_end-false end None e = refl
-is_end-false end (Some other) e = is_performer-sym other end ∙ e
+pub is_end-false : (end : Performer) (x : Option Performer) → is_end end x ≡ false → actor_as x ≢ End end
+is_end-false end None e same = absurd (cc)
+is_end-false end (Some other) e same = let here : is_performer end other ≡ true = subst (λ x. is_performer end x ≡ true) (let s : End other ≡ End end = same in let t : end ≡ other = cc in t) (is_performer-same end) in absurd (cc)
 
 -- what a member's own turns say that it holds is what the acts of all turns make of it
 pub told-held : (boxes : ℕ) (past : List Turn) → Explained boxes past → (member spir : ℕ) (c : Counter) → told spir c (own (Member member) past) ≡ holding_at (Ours spir c) (acts_of past) (End (Member member))
@@ -195,7 +204,7 @@ told-held boxes (turn ∷ past) local member spir c = by_test (told-held boxes p
     deed : Deed past turn.event turn.calls turn.step
     deed = deed-of boxes past turn local.0 local.1
 
-    mine : performer turn ≡ Some (Member member) → holding_at (Ours spir c) (acts_onto (actor_of turn) (moves_of turn) (acts_of past)) (actor_of turn) ≡ told_after spir c turn.event turn.calls turn.step.verdict (holding_at (Ours spir c) (acts_of past) (actor_of turn))
+    mine : performer turn ≡ Some (Member member) → holding_at (Ours spir c) (moves_onto (actor_of turn) (moves_of turn) (acts_of past)) (actor_of turn) ≡ told_after spir c turn.event turn.calls turn.step.verdict (holding_at (Ours spir c) (acts_of past) (actor_of turn))
     mine by = held-turn spir c (actor_of turn) turn.event turn.calls turn.step (acts_of past)
         (member-notes spir c (actor_of turn) member past turn.event turn.calls turn.step by (outcome-of past turn.event turn.calls turn.step deed))
         (deed-plain spir c past turn.event turn.calls turn.step deed)
@@ -208,9 +217,9 @@ told-held boxes (turn ∷ past) local member spir c = by_test (told-held boxes p
         ap (told spir c) more
         ∙ (told-cons spir c turn (own (Member member) past)
         ∙ (ap (told_after spir c turn.event turn.calls turn.step.verdict) before
-        ∙ sym (subst (λ w. holding_at (Ours spir c) (acts_onto (actor_of turn) (moves_of turn) (acts_of past)) w ≡ told_after spir c turn.event turn.calls turn.step.verdict (holding_at (Ours spir c) (acts_of past) w)) is (mine by))))
+        ∙ sym (subst (λ w. holding_at (Ours spir c) (moves_onto (actor_of turn) (moves_of turn) (acts_of past)) w ≡ told_after spir c turn.event turn.calls turn.step.verdict (holding_at (Ours spir c) (acts_of past) w)) is (mine by))))
     by_test before false t =
         let same : own (Member member) (turn ∷ past) ≡ own (Member member) past = ap (λ b. if b then turn ∷ own (Member member) past else own (Member member) past) t in
         ap (told spir c) same
         ∙ (before
-        ∙ sym (others-hold (Ours spir c) (actor_of turn) (End (Member member)) (is_end-false (Member member) (performer turn) t) (moves_of turn) (acts_of past)))
+        ∙ sym (others-hold (Ours spir c) (actor_of turn) (Member member) (is_end-false (Member member) (performer turn) t) (moves_of turn) (acts_of past)))

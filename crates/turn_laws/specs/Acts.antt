@@ -1,6 +1,9 @@
 -- What ends do, as data, and what it does to the numbers of each counter. A list of acts has the
 -- newest first.
-use Rattle.std.specs.Prelude.{ℕ, ◌+◌, ◌≡◌, ◌≤◌, ◌==◌, Bool, true, Option, Some, None, MatchOption, List, [], ◌∷◌, ◌++◌, length, map, if◌then◌else◌}
+use Rattle.std.specs.Prelude.{ℕ, ◌+◌, ◌≡◌, ◌≢◌, ◌≤◌, Bool, true, false, Option, Some, None, MatchOption, List, [], ◌∷◌, length, map, is_some, if◌then◌else◌}
+use Rattle.std.specs.List.{AllByRecursion}
+use Rattle.ha_base.specs.declared.counter_names.CounterName.{CounterName}
+use Rattle.keeper_book.specs.Book.{Book}
 use Rattle.ha_base.specs.declared.limits.TheConstants.{LEAST_ESP_SPI, LEAST_SPI}
 use Rattle.keeper_book.specs.CounterEnds.{end_of}
 use Rattle.keeper_book.specs.Counters.{counter_named, five_at}
@@ -12,13 +15,18 @@ use Rattle.keeper_book.specs.declared.calls.KeeperAnswer.TheVariants as answer
 use Rattle.keeper_book.specs.declared.calls.KeeperAsk.{KeeperAsk}
 use Rattle.keeper_book.specs.declared.calls.KeeperAsk.TheVariants as ask
 use Rattle.keeper_book.specs.declared.counters.Counter.{Counter}
+use Rattle.keeper_book.specs.declared.counters.Counter.TheVariants as counter
 use Rattle.keeper_book.specs.declared.pools.Pool.{Pool}
+use Rattle.keeper_book.specs.declared.pools.Pool.TheVariants as pools
 use Rattle.keeper_book.specs.declared.records.Record.{Record}
 use Rattle.keeper_book.specs.declared.records.Taken.{Taken}
-use Rattle.turn_laws.specs.Holdings.{Actor, Begins, Draws, Effect, Holding, MayUse, Nothing, Rises, Use, holding_after, uses_after}
-use Rattle.turn_laws.specs.Places.{Place, Ours, Pooled, Theirs, is_place, is_pool, place_of, start_of}
+use Rattle.turn_laws.specs.Columns.{Column, nothing}
+use Rattle.turn_laws.specs.Holdings.{Actor, Begins, Draws, Effect, Half, Holding, Jumps, MayUse, Nothing, Rises, Use, column_begun, holding_after, uses_after}
+use Rattle.turn_laws.specs.Names.{is_name}
+use Rattle.turn_laws.specs.Places.{Place, Ours, Pooled, Theirs, column, is_place, is_pool, place_of, start_of}
 use Rattle.turn_rules.specs.Held.{covered, granted}
 use Rattle.turn_rules.specs.Safe.{KeyIv}
+use Rattle.turn_rules.specs.Slots.{peer_counter}
 
 pub data Move : Type 0 where
   -- a call of the keeper
@@ -30,6 +38,13 @@ pub data Move : Type 0 where
   -- The book leases a range of a pool, from a number on and so many. Where the caller saw it, the
   -- range is its lot, in place of an earlier one.
   Leases : (pool : Pool) → (first count : ℕ) → (seen : Bool) → Move
+  -- an end goes on with a number of a place, or with a later one
+  Leaps : (place : Place) → (number : ℕ) → Move
+  -- A resumption gets half open, which will be this association: its responder's SPI is a number
+  -- that is drawn of the nonces' pool.
+  Opens : (sa : Record) → Move
+  -- the peer begins an association that was resumed
+  Starts : (sa : Record) → Move
   -- a member ends
   Ends : Move
 
@@ -37,11 +52,15 @@ pub record Act : Type 0 where
   pub by : Actor
   pub move : Move
 
+abbrev pub act_by : Actor → Move → Act
+act_by w move = record { by = w; move = move }
+
 -- a holding of an epoch that was granted: of each counter it begins and ends at the base
 abbrev pub holding_begun : Counter → Taken → Holding
 holding_begun c taken = record {
   epoch = taken.epoch;
   base = five_at taken.bases c;
+  next = five_at taken.bases c;
   high = five_at taken.bases c;
   end = end_of taken.sa c;
   numbers = [];
@@ -52,8 +71,34 @@ abbrev pub begun_theirs : Counter → Record → Holding
 begun_theirs c sa = record {
   epoch = 1;
   base = start_of sa c;
+  next = start_of sa c;
   high = end_of sa c;
   end = end_of sa c;
+  numbers = [];
+}
+
+-- of its counter of this name, where it has one
+abbrev pub begun_as : CounterName → Record → Option Counter → Option Holding
+begun_as name sa None = None
+begun_as name sa (Some c) = if is_name (peer_counter sa c) name then Some (begun_theirs c sa)
+    else None
+
+abbrev pub begun_named : CounterName → Record → Option Holding
+begun_named name sa = begun_as name sa (counter_named name.kind name.child)
+
+abbrev pub begun_by : CounterName → Option Record → Option Holding
+begun_by name None = None
+begun_by name (Some sa) = begun_named name sa
+
+-- What is half open holds the first IVs of what it will be. A member that settles it begins above
+-- them.
+abbrev pub half_begun : Record → Holding
+half_begun sa = record {
+  epoch = 1;
+  base = 1;
+  next = 1;
+  high = 64;
+  end = end_of sa counter.Iv;
   numbers = [];
 }
 
@@ -63,74 +108,116 @@ effect_ours w c (Some taken) upto = Begins w (holding_begun c taken)
 effect_ours w c None (Some upto) = Rises w upto
 effect_ours w c None None = Nothing
 
-abbrev pub effect_theirs : Actor → Counter → Option Record → Effect
-effect_theirs w c (Some sa) = Begins w (begun_theirs c sa)
-effect_theirs w c None = Nothing
+-- by what begins, if something does
+abbrev pub effect_begun : Actor → Option Holding → Effect
+effect_begun w (Some h) = Begins w h
+effect_begun w None = Nothing
 
 -- the association that the caller saw entered
-abbrev pub entered_at : ℕ → KeeperAsk → KeeperAnswer → Option Record
-entered_at spir (ask.Enter sa) answer.Done = if sa.spir == spir then Some sa else None
-entered_at spir asked answered = None
+abbrev pub entered_as : KeeperAsk → KeeperAnswer → Option Record
+entered_as (ask.Enter sa) answer.Done = Some sa
+entered_as asked answered = None
 
 -- what a call does at a place, by what its caller saw
 abbrev pub effect_of_call : Place → Actor → KeeperAsk → KeeperAnswer → Effect
 effect_of_call (Ours spir c) w asked answered = effect_ours w c (granted spir asked answered)
     (covered spir c asked answered)
-effect_of_call (Theirs spir c) w asked answered = effect_theirs w c (entered_at spir asked answered)
+effect_of_call (Theirs name) w asked answered =
+    effect_begun w (begun_by name (entered_as asked answered))
 effect_of_call (Pooled pool) w asked answered = Nothing
 
-abbrev pub effect_of_use : Place → Option Place → Actor → ℕ → Effect
-effect_of_use p None w n = Nothing
-effect_of_use p (Some q) w n = if is_place q p then Draws w n else Nothing
+abbrev pub effect_of_use : Place → Place → Actor → ℕ → Effect
+effect_of_use p q w n = if is_place q p then Draws w n else Nothing
 
 -- a lot that was leased after so many: all its numbers may be used
 abbrev pub lot_begun : ℕ → Pool → ℕ → ℕ → Holding
 lot_begun before pool first count = record {
   epoch = before + 1;
   base = first;
+  next = first;
   high = first + count;
   end = pool_end pool;
   numbers = [];
 }
 
--- what a lease does at a place, after these lots
-abbrev pub effect_of_lease : Place → List ℕ → Actor → Pool → ℕ → ℕ → Bool → Effect
-effect_of_lease (Pooled q) lots w pool first count true =
-    if is_pool pool q then Begins w (lot_begun (length lots) pool first count) else Nothing
-effect_of_lease p lots w pool first count seen = Nothing
+-- the lot of a lease that its caller saw, after what began at a place
+abbrev pub begun_leased : Place → Column → Pool → ℕ → ℕ → Bool → Option Holding
+begun_leased (Pooled q) begun pool first count true =
+    if is_pool pool q then Some (lot_begun (length begun.bases) pool first count) else None
+begun_leased p begun pool first count seen = None
 
--- what a move does at a place, after these lots
-abbrev pub effect_of : Place → List ℕ → Actor → Move → Effect
-effect_of p lots w (Calls call) = effect_of_call p w call.asked (seen call)
-effect_of p lots w (Uses q n) = effect_of_use p (Some q) w n
-effect_of p lots w (Seals key) = effect_of_use p (place_of key.name) w key.iv
-effect_of p lots w (Leases pool first count seen) = effect_of_lease p lots w pool first count seen
-effect_of p lots w Ends = Nothing
+-- what gets half open at a place
+abbrev pub begun_open : Place → Record → Option Holding
+begun_open (Ours spir c) sa =
+    if is_place (Ours sa.spir counter.Iv) (Ours spir c) then Some (half_begun sa) else None
+begun_open p sa = None
 
--- where the lots of a pool begin that were seen, once one more is leased
-abbrev pub lots_leased : Place → Pool → ℕ → Bool → List ℕ → List ℕ
-lots_leased (Pooled q) pool first true lots = if is_pool pool q then lots ++ first ∷ [] else lots
-lots_leased p pool first seen lots = lots
+-- what the peer begins at a place
+abbrev pub begun_started : Place → Record → Option Holding
+begun_started (Theirs name) sa = begun_named name sa
+begun_started p sa = None
 
-abbrev pub lots_after : Move → Place → List ℕ → List ℕ
-lots_after (Leases pool first count seen) p lots = lots_leased p pool first seen lots
-lots_after move p lots = lots
+-- what a resumption does at a place as it gets half open: a number of the pool is used, and the
+-- holding is that of no end yet
+abbrev pub effect_of_open : Place → Actor → Record → Effect
+effect_of_open (Pooled q) w sa = effect_of_use (Pooled q) (Pooled pools.Nonce) w sa.spir
+effect_of_open p w sa = effect_begun (Half sa.spir) (begun_open p sa)
 
--- and after these acts
-abbrev pub lots_at : Place → List Act → List ℕ
-lots_at p [] = []
-lots_at p (act ∷ acts) = lots_after act.move p (lots_at p acts)
+-- what a move does at a place, after what began there without the book
+abbrev pub effect_of : Place → Column → Actor → Move → Effect
+effect_of p begun w (Calls call) = effect_of_call p w call.asked (seen call)
+effect_of p begun w (Uses q n) = effect_of_use p q w n
+effect_of p begun w (Seals key) = effect_of_use p (place_of key.name) w key.iv
+effect_of p begun w (Leases pool first count seen) =
+    effect_begun w (begun_leased p begun pool first count seen)
+effect_of p begun w (Leaps q n) = if is_place q p then Jumps w n else Nothing
+effect_of p begun w (Opens sa) = effect_of_open p w sa
+effect_of p begun w (Starts sa) = effect_begun w (begun_started p sa)
+effect_of p begun w Ends = Nothing
+
+-- what a call begins at a place of the peer
+abbrev pub begun_called : Place → KeeperAsk → KeeperAnswer → Option Holding
+begun_called (Theirs name) asked answered = begun_by name (entered_as asked answered)
+begun_called p asked answered = None
+
+-- what a move begins at a place, but for what the book begins
+abbrev pub begun_moved : Move → Place → Column → Option Holding
+begun_moved (Calls call) p begun = begun_called p call.asked (seen call)
+begun_moved (Leases pool first count seen) p begun = begun_leased p begun pool first count seen
+begun_moved (Opens sa) p begun = begun_open p sa
+begun_moved (Starts sa) p begun = begun_started p sa
+begun_moved move p begun = None
+
+abbrev pub with_begun : Option Holding → Column → Column
+with_begun None begun = begun
+with_begun (Some h) begun = column_begun h begun
+
+abbrev pub begun_after : Move → Place → Column → Column
+begun_after move p begun = with_begun (begun_moved move p begun) begun
+
+-- and what these acts began there
+abbrev pub begun_at : Place → List Act → Column
+begun_at p [] = nothing
+begun_at p (act ∷ acts) = begun_after act.move p (begun_at p acts)
+
+-- the numbers of a place, after these acts and by the book
+abbrev pub column_at : Place → List Act → Book → Column
+column_at p acts book = column p (begun_at p acts) book
+
+-- no number of a place reaches this end, which the record of the association gives
+abbrev pub end_at : Place → List Act → Book → ℕ
+end_at p acts book = (column_at p acts book).end
 
 -- what each end holds at a place
 abbrev pub holding_at : Place → List Act → Actor → Option Holding
 holding_at p [] = λ w. None
-holding_at p (act ∷ acts) = holding_after (effect_of p (lots_at p acts) act.by act.move)
+holding_at p (act ∷ acts) = holding_after (effect_of p (begun_at p acts) act.by act.move)
     (holding_at p acts)
 
 -- the numbers of a place that were used
 abbrev pub uses_at : Place → List Act → List Use
 uses_at p [] = []
-uses_at p (act ∷ acts) = uses_after (effect_of p (lots_at p acts) act.by act.move)
+uses_at p (act ∷ acts) = uses_after (effect_of p (begun_at p acts) act.by act.move)
     (holding_at p acts) (uses_at p acts)
 
 abbrev pub numbers_at : Place → List Act → List ℕ
@@ -155,12 +242,21 @@ pub record IsImport (sa : Record) : Type 0 where
   pub spir : LEAST_SPI ≤ sa.spir
   pub spi_in : LEAST_ESP_SPI ≤ sa.spi_in
 
+-- the peer did not begin an association of this name by a resumption
+abbrev pub starts_name : CounterName → Move → Bool
+starts_name name (Starts sa) = is_some (begun_named name sa)
+starts_name name move = false
+
+abbrev pub IsUnstarted : CounterName → List Act → Type 0
+IsUnstarted name acts = AllByRecursion (λ act. starts_name name act.move ≡ false) acts
+
 -- what a call needs beside the book
 abbrev pub MayAsk : List Act → Actor → KeeperAsk → Type 0
 MayAsk acts w (ask.Cover spir kind child epoch upto) =
     MatchOption (counter_named kind child) ⊥ (λ c. MayCover
     (holding_at (Ours spir c) acts w) epoch upto)
 MayAsk acts w (ask.Enter sa) = IsImport sa
+    × ((c : Counter) → IsUnstarted (peer_counter sa c) acts)
 -- no event has an end spend a ticket
 MayAsk acts w (ask.Settle ticket old_spir sa member) = ⊥
 MayAsk acts w asked = Unit {0}
@@ -169,18 +265,33 @@ MayAsk acts w asked = Unit {0}
 abbrev pub MayDo : List Act → Actor → Move → Type 0
 MayDo acts w (Calls call) = MayAsk acts w call.asked
 MayDo acts w (Uses p n) = HoldsFor (holding_at p acts w) n
-MayDo acts w (Seals key) = MatchOption (place_of key.name) ⊥
-    (λ p. HoldsFor (holding_at p acts w) key.iv)
+MayDo acts w (Seals key) = HoldsFor (holding_at (place_of key.name) acts w) key.iv
 MayDo acts w (Leases pool first count seen) = first + count ≤ pool_end pool
+MayDo acts w (Leaps p n) = Unit {0}
+MayDo acts w (Opens sa) = HoldsFor (holding_at (Pooled pools.Nonce) acts w) sa.spir
+MayDo acts w (Starts sa) = (c : Counter) → begun_at (Theirs (peer_counter sa c)) acts ≡ nothing
 MayDo acts w Ends = Unit {0}
 
--- each of these moves of one end may come after those before it
-abbrev pub MayDoAll : List Act → Actor → List Move → Type 0
-MayDoAll acts w [] = Unit {0}
-MayDoAll acts w (move ∷ moves) = MayDo acts w move
-    × MayDoAll (record { by = w; move = move } ∷ acts) w moves
+-- each of these acts, the first one first, may come after those before it
+abbrev pub MayDoAll : List Act → List Act → Type 0
+MayDoAll acts [] = Unit {0}
+MayDoAll acts (act ∷ more) = MayDo acts act.by act.move × MayDoAll (act ∷ acts) more
 
--- the acts with these moves after them
-abbrev pub acts_onto : Actor → List Move → List Act → List Act
-acts_onto w [] acts = acts
-acts_onto w (move ∷ moves) acts = acts_onto w moves (record { by = w; move = move } ∷ acts)
+-- the acts with these after them, the first one first
+abbrev pub acts_onto : List Act → List Act → List Act
+acts_onto [] acts = acts
+acts_onto (act ∷ more) acts = acts_onto more (act ∷ acts)
+
+-- an act that leaves what another one holds: it is not by it, and does not open it
+abbrev pub Spares : Actor → Move → Type 0
+Spares (Half spir) (Opens sa) = sa.spir ≢ spir
+Spares w move = Unit {0}
+
+pub record IsNotBy (w : Actor) (act : Act) : Type 0 where
+  pub other : act.by ≢ w
+  pub spares : Spares w act.move
+
+-- a resumption that is half open and used no IV
+abbrev pub IsHalfOpen : List Act → Record → Type 0
+IsHalfOpen acts sa = holding_at (Ours sa.spir counter.Iv) acts (Half sa.spir)
+    ≡ Some (half_begun sa)

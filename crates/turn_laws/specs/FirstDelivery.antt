@@ -16,7 +16,7 @@ use Rattle.turn_rules.specs.Slots.{Slot, first_slot, peer_counter, receives_at, 
 
 -- a packet of another counter, or of another number
 abbrev pub IsOtherPacket : Place → ℕ → Packet → Type 0
-IsOtherPacket p n packet = place_of packet.name ≡ Some p → packet.number ≢ n
+IsOtherPacket p n packet = place_of packet.name ≡ p → packet.number ≢ n
 
 -- none of the packets that were accepted is this one
 abbrev pub IsFirst : Place → ℕ → List Turn → Type 0
@@ -43,5 +43,5 @@ PeerAcceptsFirst past turn =
     ≡ Some slot
     → IsEspDatagram slot.sa.child.to_peer slot.sa.spi_out number payload 4 octets
     → WindowCovers slot.window number
-    → IsFirst (Theirs slot.sa.spir counter.EspIn) number past
+    → IsFirst (Theirs (peer_counter slot.sa counter.EspIn)) number past
     → IsAcceptedAs (peer_counter slot.sa counter.EspIn) number payload turn.step.verdict

@@ -1,5 +1,5 @@
 -- Who holds which numbers of one counter, and what one move makes of it.
-use Rattle.std.specs.Prelude.{ℕ, ◌+◌, ◌-◌, ◌<◌, ◌≤◌, ◌≡◌, ◌≢◌, ◌==◌, max, Bool, true, false, Option, Some, None, List, [], ◌∷◌, length, map, if◌then◌else◌}
+use Rattle.std.specs.Prelude.{ℕ, ◌+◌, ◌-◌, ◌<◌, ◌≤◌, ◌≡◌, ◌≢◌, ◌==◌, max, Bool, true, false, Option, Some, None, List, [], ◌∷◌, ◌++◌, length, map, if◌then◌else◌}
 use Rattle.std.specs.List.{AllByRecursion}
 use Rattle.std.specs.Option.{option_map}
 use Rattle.turn_laws.specs.Columns.{Column, IsRising, column_mark}
@@ -21,10 +21,13 @@ is_actor (Half a) (Half b) = a == b
 is_actor w v = false
 
 -- The numbers that an end may use: those of an epoch from its base on, below the high that was
--- acknowledged, but for those that it used. No number reaches the end.
+-- acknowledged, but for those that it used. No number reaches the end. Where they are used in order
+-- it goes on with the next one: that is above each that was used, and none to which the end jumped
+-- is above it.
 pub record Holding : Type 0 where
   pub epoch : ℕ
   pub base : ℕ
+  pub next : ℕ
   pub high : ℕ
   pub end : ℕ
   pub numbers : List ℕ
@@ -53,6 +56,8 @@ pub data Effect : Type 0 where
   Rises : Actor → ℕ → Effect
   -- a number is used
   Draws : Actor → ℕ → Effect
+  -- the next number of a holding rises, and nothing is used
+  Jumps : Actor → ℕ → Effect
   -- what one holds passes to another one, in place of what that one held
   Passes : Actor → Actor → Effect
 
@@ -60,7 +65,10 @@ abbrev pub raised_to : ℕ → Holding → Holding
 raised_to upto h = record h { high = max upto h.high }
 
 abbrev pub drawn : ℕ → Holding → Holding
-drawn n h = record h { numbers = n ∷ h.numbers }
+drawn n h = record h { next = max (n + 1) h.next; numbers = n ∷ h.numbers }
+
+abbrev pub jumped_to : ℕ → Holding → Holding
+jumped_to n h = record h { next = max n h.next }
 
 abbrev pub holding_after : Effect → (Actor → Option Holding) → Actor → Option Holding
 holding_after Nothing held v = held v
@@ -68,6 +76,8 @@ holding_after (Begins w h) held v = if is_actor w v then Some h else held v
 holding_after (Rises w upto) held v = if is_actor w v then option_map (raised_to upto) (held v)
     else held v
 holding_after (Draws w n) held v = if is_actor w v then option_map (drawn n) (held v) else held v
+holding_after (Jumps w n) held v = if is_actor w v then option_map (jumped_to n) (held v)
+    else held v
 holding_after (Passes w u) held v = if is_actor u v then held w
     else (if is_actor w v then None else held v)
 
@@ -90,13 +100,24 @@ uses_after (Draws w n) held uses = record {
 } ∷ uses
 uses_after effect held uses = uses
 
--- an epoch that began, its base, no number of the next one, and the end of the counter
+-- an epoch that began, its base, no number of the next one, and the end of the counter; the next
+-- number is not below the base, and above each that was used
 pub record IsHoldingOf (column : Column) (h : Holding) : Type 0 where
   pub some : 1 ≤ h.epoch
   pub begun : h.epoch ≤ length column.bases
   pub base : column_mark column (h.epoch - 1) ≡ h.base
   pub high : h.high ≤ column_mark column h.epoch
   pub end : h.end ≡ column.end
+  pub from_base : h.base ≤ h.next
+  pub above_used : AllByRecursion (λ n. n < h.next) h.numbers
+
+-- one epoch more, that of a holding which begins at the end of the column
+abbrev pub column_begun : Holding → Column → Column
+column_begun h column = record {
+  bases = column.bases ++ h.base ∷ [];
+  high = h.high;
+  end = h.end;
+}
 
 -- a number of an epoch that began
 pub record IsUseOf (column : Column) (u : Use) : Type 0 where

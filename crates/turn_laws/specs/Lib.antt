@@ -3,6 +3,7 @@ pub mod Columns
 pub mod FirstDelivery
 pub mod Holdings
 pub mod Listed
+pub mod Names
 pub mod OwnTurns
 pub mod Owned
 pub mod PeerTurns

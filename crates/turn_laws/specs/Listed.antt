@@ -13,13 +13,12 @@ use Rattle.turn_laws.specs.Turns.{key_iv}
 use Rattle.turn_rules.specs.Safe.{KeyIv, Packet, accepted_in}
 
 -- the number of a place, where it is this place
-abbrev pub number_where : Place → Option Place → ℕ → Option ℕ
-number_where p None n = None
-number_where p (Some q) n = if is_place q p then Some n else None
+abbrev pub number_where : Place → Place → ℕ → Option ℕ
+number_where p q n = if is_place q p then Some n else None
 
 -- the number that an event drew without a seal
 abbrev pub drew : Place → Event → ℕ → Option ℕ
-drew p (event.Draw member spir) n = number_where p (Some (Ours spir counter.EspOut)) n
+drew p (event.Draw member spir) n = number_where p (Ours spir counter.EspOut) n
 drew p event n = None
 
 abbrev pub drawn_at : Place → Event → Verdict → Option ℕ

@@ -1,44 +1,36 @@
 -- What the peer's own turns say of one of its counters.
-use Rattle.std.specs.Prelude.{ℕ, ◌==◌, Option, Some, None, List, if◌then◌else◌}
-use Rattle.std.specs.List.{filter_map}
+use Rattle.std.specs.Prelude.{ℕ, ◌+◌, Option, List, [], ◌∷◌, ◌++◌, is_some, map, if◌then◌else◌}
+use Rattle.std.specs.List.{flat_map}
 use Rattle.std.specs.Option.{option_map}
-use Rattle.events.specs.declared.event.Event.{Event}
 use Rattle.events.specs.declared.turn.Turn.{Turn}
-use Rattle.events.specs.declared.verdict.Verdict.{Verdict}
-use Rattle.keeper_book.specs.CounterEnds.{end_of}
-use Rattle.keeper_book.specs.declared.counters.Counter.{Counter}
-use Rattle.keeper_book.specs.declared.counters.Counter.TheVariants as counter
-use Rattle.keeper_book.specs.declared.records.Record.{Record}
+use Rattle.ha_base.specs.declared.counter_names.CounterName.{CounterName}
+use Rattle.turn_laws.specs.Acts.{begun_by}
 use Rattle.turn_laws.specs.Holdings.{Holding}
-use Rattle.turn_laws.specs.Places.{start_of}
-use Rattle.turn_rules.specs.Held.{found, received}
+use Rattle.turn_laws.specs.Listed.{listed_at}
+use Rattle.turn_laws.specs.Places.{Theirs}
+use Rattle.turn_rules.specs.Held.{found, greatest}
 use Rattle.turn_rules.specs.Peers.{entered_in}
-use Rattle.turn_rules.specs.Slots.{sent, since_entered}
 
--- the association that came to the peer, where it is of this responder's SPI
-abbrev pub came : ℕ → Option Record → Option Record
-came spir None = None
-came spir (Some sa) = if sa.spir == spir then Some sa else None
+-- what the peer holds of the counter of this name, where the association came to it
+abbrev pub begun_in : CounterName → Turn → Option Holding
+begun_in name turn = begun_by name (entered_in turn)
 
-abbrev pub came_in : ℕ → Turn → Option Record
-came_in spir turn = came spir (entered_in turn)
+-- the turns since then
+abbrev pub since_begun : CounterName → List Turn → List Turn
+since_begun name [] = []
+since_begun name (turn ∷ past) = if is_some (begun_in name turn) then []
+    else turn ∷ since_begun name past
 
--- the number of the peer's counter of the association that an event used
-abbrev pub number_theirs : ℕ → Counter → Event → Verdict → Option ℕ
-number_theirs spir counter.EspOut event verdict = sent spir event verdict
-number_theirs spir counter.EspIn event verdict = received spir event verdict
-number_theirs spir c event verdict = None
+-- a holding of which these numbers were used besides
+abbrev pub having_used : List ℕ → Holding → Holding
+having_used ns h = record h {
+  next = greatest h.next (map (λ n. n + 1) ns);
+  numbers = ns ++ h.numbers;
+}
 
-abbrev pub number_theirs_of : ℕ → Counter → Turn → Option ℕ
-number_theirs_of spir c turn = number_theirs spir c turn.event turn.step.verdict
-
--- what the peer, with these turns of its own, holds of a counter of the association, and what it
--- used of it
-abbrev pub told_theirs : ℕ → Counter → List Turn → Option Holding
-told_theirs spir c past = option_map (λ sa. record {
-  epoch = 1;
-  base = start_of sa c;
-  high = end_of sa c;
-  end = end_of sa c;
-  numbers = filter_map (number_theirs_of spir c) (since_entered spir past);
-}) (found (came_in spir) past)
+-- what the peer, with these turns of its own, holds of its counter of this name, and what it used
+-- of it
+abbrev pub told_theirs : CounterName → List Turn → Option Holding
+told_theirs name past =
+    option_map (having_used (flat_map (listed_at (Theirs name)) (since_begun name past)))
+    (found (begun_in name) past)

@@ -1,5 +1,5 @@
 -- The moves of a turn, and what an end's own turns say of one counter.
-use Rattle.std.specs.Prelude.{ℕ, Option, Some, None, List, [], ◌∷◌, ◌++◌, map}
+use Rattle.std.specs.Prelude.{ℕ, ◌+◌, Option, Some, None, List, [], ◌∷◌, ◌++◌, map}
 use Rattle.std.specs.List.{filter_map}
 use Rattle.std.specs.Option.{option_map}
 use Rattle.events.specs.declared.event.Event.{Event}
@@ -13,12 +13,12 @@ use Rattle.keeper_book.specs.CounterEnds.{end_of}
 use Rattle.keeper_book.specs.Counters.{five_at}
 use Rattle.keeper_book.specs.declared.counters.Counter.{Counter}
 use Rattle.keeper_book.specs.declared.counters.Counter.TheVariants as counter
-use Rattle.turn_laws.specs.Acts.{Act, Calls, Ends, Move, Seals, Uses, acts_onto}
+use Rattle.turn_laws.specs.Acts.{Act, Calls, Ends, Move, Seals, Uses, act_by, acts_onto}
 use Rattle.turn_laws.specs.Holdings.{Actor, End, Holding, Run}
 use Rattle.turn_laws.specs.Owned.{Owned}
-use Rattle.turn_laws.specs.Places.{Ours, Place, place_of}
+use Rattle.turn_laws.specs.Places.{Ours, place_of}
 use Rattle.turn_rules.specs.Ends.{Performer, performer}
-use Rattle.turn_rules.specs.Held.{found, grant_of, high_of, received, since, used}
+use Rattle.turn_rules.specs.Held.{found, grant_of, greatest, high_of, received, since, used}
 use Rattle.turn_rules.specs.Safe.{KeyIv}
 use Rattle.turn_rules.specs.States.{ended_by}
 
@@ -26,11 +26,6 @@ use Rattle.turn_rules.specs.States.{ended_by}
 abbrev pub drawn_by : Event → ℕ → List Move
 drawn_by (event.Draw member spir) n = Uses (Ours spir counter.EspOut) n ∷ []
 drawn_by event n = []
-
--- a number that was received
-abbrev pub received_at : Option Place → ℕ → List Move
-received_at None n = []
-received_at (Some p) n = Uses p n ∷ []
 
 -- the end of a member
 abbrev pub end_moves : Option ℕ → List Move
@@ -40,7 +35,7 @@ end_moves (Some member) = Ends ∷ []
 -- the numbers that an event used without a seal, or the end of a member
 abbrev pub uses_of : Event → Verdict → List Move
 uses_of event (out.Number n) = drawn_by event n
-uses_of event (out.Accepted name n next_header payload) = received_at (place_of name) n
+uses_of event (out.Accepted name n next_header payload) = Uses (place_of name) n ∷ []
 uses_of event verdict = end_moves (ended_by event verdict)
 
 abbrev pub key_iv : Seal → KeyIv
@@ -58,10 +53,14 @@ actor_as (Some end) = End end
 abbrev pub actor_of : Turn → Actor
 actor_of turn = actor_as (performer turn)
 
+-- what was done in a turn, the first act first, and by whom: all by the end whose turn it is
+abbrev pub acts_in : Turn → List Act
+acts_in turn = map (act_by (actor_of turn)) (moves_of turn)
+
 -- what the ends did in a trace
 abbrev pub acts_of : List Turn → List Act
 acts_of [] = []
-acts_of (turn ∷ past) = acts_onto (actor_of turn) (moves_of turn) (acts_of past)
+acts_of (turn ∷ past) = acts_onto (acts_in turn) (acts_of past)
 
 -- the numbers of the book's epochs belong to one end each, after these turns
 abbrev pub AreOwned : List Turn → Book → Type 0
@@ -81,6 +80,8 @@ abbrev pub told : ℕ → Counter → List Turn → Option Holding
 told spir c past = option_map (λ taken. record {
   epoch = taken.epoch;
   base = five_at taken.bases c;
+  next = greatest (five_at taken.bases c)
+      (map (λ n. n + 1) (filter_map (turn_taken spir c) (since spir past)));
   high = high_of spir c taken.bases past;
   end = end_of taken.sa c;
   numbers = filter_map (turn_taken spir c) (since spir past);

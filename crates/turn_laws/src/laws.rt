@@ -1,35 +1,39 @@
 //! The laws. Each is the contract of a function that does nothing.
 
 ghost use Rattle.std.specs.Prelude.{◌+◌, ◌≡◌, ◌≢◌, ◌<◌, ◌≤◌, ◌⊎◌, ℕ, Bool, Option, Some, None, List, [], ◌∷◌};
-ghost use Rattle.std.specs.List.{AllByRecursion, filter_map, flat_map};
+ghost use Rattle.std.specs.List.{AllByRecursion, Contains, filter_map, flat_map};
 ghost use Rattle.events.specs.declared.turn.Turn.{Turn};
-ghost use Rattle.keeper_book.specs.Book.{Answers, Book, Enters, book_after, pool_next, with_pool_next};
+ghost use Rattle.keeper_book.specs.Book.{Answers, Book, Enters, book_after, entry_of, pool_next, with_pool_next};
 ghost use Rattle.keeper_book.specs.Counters.{counter_named, five_at};
 ghost use Rattle.keeper_book.specs.declared.calls.Call.{Call};
+ghost use Rattle.ha_base.specs.declared.counter_names.CounterName.{CounterName};
 ghost use Rattle.ha_base.specs.declared.counter_names.Kind.{Kind};
 ghost use Rattle.keeper_book.specs.Pools.{pool_end};
+ghost use Rattle.keeper_book.specs.declared.records.Record.{Record};
+ghost use Rattle.turn_rules.specs.Slots.{peer_counter};
 ghost use Rattle.keeper_book.specs.declared.calls.KeeperAnswer.TheVariants as answer;
 ghost use Rattle.keeper_book.specs.declared.calls.KeeperAsk.TheVariants as ask;
 ghost use Rattle.keeper_book.specs.declared.counters.Counter.{Counter};
 ghost use Rattle.keeper_book.specs.declared.counters.Counter.TheVariants as counter;
 ghost use Rattle.keeper_book.specs.declared.faults.KeeperFault.TheVariants as fault;
 ghost use Rattle.keeper_book.specs.declared.pools.Pool.{Pool};
-ghost use Rattle.turn_laws.specs.Acts.{Act, Calls, Ends, Leases, MayAsk, MayDo, MayDoAll, Move, holding_at, numbers_at, acts_onto, uses_at};
-ghost use Rattle.turn_laws.specs.Columns.{Column, ColumnGoesOn, column_mark};
+ghost use Rattle.keeper_book.specs.declared.pools.Pool.TheVariants as pools;
+ghost use Rattle.turn_laws.specs.Acts.{Act, Calls, Ends, HoldsFor, IsHalfOpen, IsNotBy, Leases, MayAsk, MayDo, MayDoAll, Move, Opens, Seals, Starts, act_by, acts_onto, begun_at, column_at, end_at, half_begun, holding_at, numbers_at, uses_at};
+ghost use Rattle.turn_laws.specs.Columns.{Column, ColumnGoesOn, column_mark, nothing};
 ghost use Rattle.turn_laws.specs.FirstDelivery.{MemberAcceptsFirst, PeerAcceptsFirst};
-ghost use Rattle.turn_laws.specs.Holdings.{Actor, Begins, Draws, End, Holding, IsNew, IsOwned, MayUse, Passes, Rises, Use, holding_after, uses_after};
+ghost use Rattle.turn_laws.specs.Holdings.{Actor, Begins, Draws, End, Half, Holding, IsNew, IsOwned, Jumps, MayUse, Passes, Rises, Use, holding_after, uses_after};
 ghost use Rattle.turn_laws.specs.Listed.{listed_at};
 ghost use Rattle.turn_laws.specs.OwnTurns.{OwnTurnsTell};
 ghost use Rattle.turn_laws.specs.Owned.{Owned, Writes};
 ghost use Rattle.turn_laws.specs.PeerTurns.{told_theirs};
-ghost use Rattle.turn_laws.specs.Places.{Ours, Place, Pooled, Theirs, end_at};
+ghost use Rattle.turn_laws.specs.Places.{Ours, Place, Pooled, Theirs, place_of};
 ghost use Rattle.turn_laws.specs.Replaced.{AreReplacedLater};
-ghost use Rattle.turn_laws.specs.Turns.{AreOwned, actor_of, acts_of, moves_of, told};
+ghost use Rattle.turn_laws.specs.Turns.{AreOwned, acts_in, acts_of, told};
 ghost use Rattle.turn_rules.specs.Ends.{Member, Peer, own};
 ghost use Rattle.turn_rules.specs.Genuine.{AreAccepted};
 ghost use Rattle.turn_rules.specs.Held.{Held, held_by, number_of, window_by};
 ghost use Rattle.turn_rules.specs.Local.{Explained, Stands};
-ghost use Rattle.turn_rules.specs.Safe.{IsEachOnce, Safe, accepted_in, key_ivs};
+ghost use Rattle.turn_rules.specs.Safe.{IsEachOnce, KeyIv, Safe, accepted_in, key_ivs};
 
 use esp_packets::sealed_packets_open;
 
@@ -39,12 +43,12 @@ pub fn calls_keep_owned()
     ensures answered { (acts : List Act) (w : Actor) (call : Call) (old new : Book) → Owned acts old
         → MayAsk acts w call.asked
         → call.answer ≢ answer.Refused fault.Failed → Enters old call new
-        → Owned (acts_onto w (Calls call ∷ []) acts) new }
+        → Owned (act_by w (Calls call) ∷ acts) new }
     ensures failed { (acts : List Act) (w : Actor) (call : Call) (old new : Book) → Owned acts old
         → MayAsk acts w call.asked
         → call.answer ≡ answer.Refused fault.Failed
         → (new ≡ old) ⊎ (new ≡ book_after old call.asked)
-        → Owned (acts_onto w (Calls call ∷ []) acts) new }
+        → Owned (act_by w (Calls call) ∷ acts) new }
 {}
 
 /// The beginning of a holding of a new epoch keeps the numbers of a counter apart, also in place of
@@ -74,6 +78,21 @@ pub fn uses_keep_owned()
         → IsOwned (holding_after (Draws w n) held) (uses_after (Draws w n) held uses) column }
 {}
 
+/// A jump to a number, or to none where an end is above it already, keeps the numbers of a counter
+/// apart.
+pub fn jumps_keep_owned()
+    ensures { (held : Actor → Option Holding) (uses : List Use) (column : Column) (w : Actor)
+        (n : ℕ)
+        → IsOwned held uses column → IsOwned (holding_after (Jumps w n) held) uses column }
+{}
+
+/// Who holds numbers may use the next one, where it lies below the high.
+pub fn next_may_be_used()
+    ensures { (held : Actor → Option Holding) (uses : List Use) (column : Column) (w : Actor)
+        (h : Holding)
+        → IsOwned held uses column → held w ≡ Some h → h.next < h.high → MayUse h h.next }
+{}
+
 /// The passing of a holding to another one, in place of what that one held, keeps the numbers of a
 /// counter apart.
 pub fn passes_keep_owned()
@@ -85,20 +104,20 @@ pub fn passes_keep_owned()
 /// The end of a member keeps what is owned: what it holds is used by nobody any more.
 pub fn ends_keep_owned()
     ensures { (acts : List Act) (w : Actor) (book : Book) → Owned acts book
-        → Owned (acts_onto w (Ends ∷ []) acts) book }
+        → Owned (act_by w Ends ∷ acts) book }
 {}
 
 /// A move that may be made, whatever it is, keeps what is owned.
 pub fn moves_keep_owned()
     ensures { (acts : List Act) (w : Actor) (move : Move) (old new : Book) → Owned acts old
         → MayDo acts w move → Writes old move new
-        → Owned (acts_onto w (move ∷ []) acts) new }
+        → Owned (act_by w move ∷ acts) new }
 {}
 
-/// Moves leave what every other end holds.
+/// Acts leave what everybody else holds, but that a resumption that gets half open begins to hold.
 pub fn others_change_nothing()
-    ensures { (p : Place) (w v : Actor) → w ≢ v → (moves : List Move) (acts : List Act)
-        → holding_at p (acts_onto w moves acts) v ≡ holding_at p acts v }
+    ensures { (p : Place) (v : Actor) (more acts : List Act) → AllByRecursion (IsNotBy v) more
+        → holding_at p (acts_onto more acts) v ≡ holding_at p acts v }
 {}
 
 /// A range that is leased of a pool keeps what is owned, whether its caller saw it, and has it as
@@ -109,7 +128,46 @@ pub fn leases_keep_owned()
         → Owned acts old
         → first + count ≤ pool_end pool → first ≡ pool_next pool old
         → new ≡ with_pool_next pool (first + count) old
-        → Owned (acts_onto w (Leases pool first count seen ∷ []) acts) new }
+        → Owned (act_by w (Leases pool first count seen) ∷ acts) new }
+{}
+
+/// A resumption that gets half open under a number that is drawn of the nonces keeps what is owned,
+/// and so does what it seals, by itself, under its first IV when it fails.
+pub fn half_opens_keep_owned()
+    ensures opens { (acts : List Act) (w : Actor) (sa : Record) (book : Book) → Owned acts book
+        → HoldsFor (holding_at (Pooled pools.Nonce) acts w) sa.spir
+        → Owned (act_by w (Opens sa) ∷ acts) book }
+    ensures fails { (acts : List Act) (key : KeyIv) (sa : Record) (book : Book) → Owned acts book
+        → place_of key.name ≡ Ours sa.spir counter.Iv → key.iv ≡ 1
+        → holding_at (Ours sa.spir counter.Iv) acts (Half sa.spir) ≡ Some (half_begun sa)
+        → Owned (act_by (Half sa.spir) (Seals key) ∷ acts) book }
+{}
+
+/// The beginning of an association of the peer that was resumed keeps what is owned, where the peer
+/// has no number of its counters' names.
+pub fn starts_keep_owned()
+    ensures { (acts : List Act) (w : Actor) (sa : Record) (book : Book) → Owned acts book
+        → ((c : Counter) → begun_at (Theirs (peer_counter sa c)) acts ≡ nothing)
+        → Owned (act_by w (Starts sa) ∷ acts) book }
+{}
+
+/// What is half open holds its first epoch's IVs below 64 alone, and none of them was used. Its SPI
+/// was drawn of the nonces, and the book has no association of it.
+pub fn half_opens_are_apart()
+    ensures alone { (acts : List Act) (book : Book) → Owned acts book
+        → (sa : Record) → IsHalfOpen acts sa → (v : Actor) (h : Holding)
+        → holding_at (Ours sa.spir counter.Iv) acts v ≡ Some h → h.epoch ≡ 1 → v ≡ Half sa.spir }
+    ensures unused { (acts : List Act) (book : Book) → Owned acts book
+        → (sa : Record) → IsHalfOpen acts sa
+        → AllByRecursion (λ u. u.epoch ≢ 1) (uses_at (Ours sa.spir counter.Iv) acts) }
+    ensures goes_on { (acts : List Act) (book : Book) → Owned acts book → (spir : ℕ)
+        → ColumnGoesOn (begun_at (Ours spir counter.Iv) acts)
+        (column_at (Ours spir counter.Iv) acts book) }
+    ensures drawn { (acts : List Act) (book : Book) → Owned acts book → (spir : ℕ)
+        → begun_at (Ours spir counter.Iv) acts ≢ nothing
+        → Contains (numbers_at (Pooled pools.Nonce) acts) spir }
+    ensures unrecorded { (acts : List Act) (book : Book) → Owned acts book → (spir : ℕ)
+        → begun_at (Ours spir counter.Iv) acts ≢ nothing → entry_of spir book.entries ≡ None }
 {}
 
 /// Lots of a pool lie below its next number and do not meet, a lot belongs to one end, and each
@@ -139,9 +197,9 @@ pub fn own_turns_tell_holdings()
         → (member spir : ℕ) (c : Counter)
         → told spir c (own (Member member) past)
         ≡ holding_at (Ours spir c) (acts_of past) (End (Member member)) }
-    ensures peer { (boxes : ℕ) (past : List Turn) → Explained boxes past → (spir : ℕ) (c : Counter)
-        → told_theirs spir c (own Peer past)
-        ≡ holding_at (Theirs spir c) (acts_of past) (End Peer) }
+    ensures peer { (boxes : ℕ) (past : List Turn) → Explained boxes past → (name : CounterName)
+        → told_theirs name (own Peer past)
+        ≡ holding_at (Theirs name) (acts_of past) (End Peer) }
 {}
 
 /// What the turns of a run make of what its ends hold, each end's own turns tell.
@@ -149,10 +207,10 @@ pub fn own_turns_tell_states()
     ensures { (boxes : ℕ) (past : List Turn) → Explained boxes past → OwnTurnsTell boxes past }
 {}
 
-/// What each event does is a list of moves that may be made one after another.
+/// What each event does is a list of acts that may be done one after another.
 pub fn turns_are_moves()
     ensures { (boxes : ℕ) (past : List Turn) (turn : Turn) → Explained boxes (turn ∷ past)
-        → MayDoAll (acts_of past) (actor_of turn) (moves_of turn) }
+        → MayDoAll (acts_of past) (acts_in turn) }
 {}
 
 /// Where each turn is explained by its end's own turns, and the book is the one that the calls lead
@@ -191,11 +249,12 @@ pub fn no_number_past_its_end()
         → AllByRecursion (λ u. u.number < u.end) (uses_at p (acts_of past)) }
     ensures places { (boxes : ℕ) (past : List Turn) (book : Book) → Explained boxes past
         → Stands past book
-        → (p : Place) → AllByRecursion (λ n. n < end_at p book) (numbers_at p (acts_of past)) }
+        → (p : Place) → AllByRecursion (λ n. n < end_at p (acts_of past) book) (numbers_at p (acts_of past)) }
     ensures counters { (boxes : ℕ) (past : List Turn) (book : Book) → Explained boxes past
         → Stands past book
         → (spir : ℕ) (c : Counter)
-        → AllByRecursion (λ n. n < end_at (Ours spir c) book) (filter_map (number_of spir c) past) }
+        → AllByRecursion (λ n. n < end_at (Ours spir c) (acts_of past) book)
+        (filter_map (number_of spir c) past) }
 {}
 
 /// Two members that hold an association, the replaced ones too, hold different epochs, and where an
