@@ -5,3 +5,6 @@ pub mod Usable
 pub mod Judgements
 pub mod Parts
 pub mod Auth
+pub mod Lots
+pub mod Responses
+pub mod Members

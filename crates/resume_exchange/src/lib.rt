@@ -10,17 +10,23 @@
 mod auth;
 mod half_opens;
 mod judging;
+mod lots;
+mod member;
 mod offers;
 mod parts;
 mod request;
+mod responses;
 mod usable;
 
 pub use auth::{AuthJudged, ID_BODY_OCTETS, judge_auth};
 pub use half_opens::{HALF_OPEN_AGE, HalfOpen, HalfOpens, MAX_HALF_OPENS};
 pub use judging::Judged;
+pub use lots::{LEASED_NUMBERS, draw_pooled};
+pub use member::{MemberAnswer, OwnParts};
 pub use offers::{ESP, LEAST_CHILD_SPI, first_fit};
 pub use parts::SHARED_KEY;
 pub use request::{NONCE_OCTETS, presented};
+pub use responses::{EMPTY_RESPONSE, IKE_SESSION_RESUME, NONCE_RESPONSE, Reserved, nonce_with, put_nonce, put_notice};
 pub use usable::usable_ticket;
 
 #[cfg(test)]
