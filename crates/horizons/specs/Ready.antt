@@ -16,8 +16,8 @@ use Rattle.keeper_book.specs.declared.calls.KeeperAsk.TheVariants as ask
 -- what follows the answer to a cover
 abbrev pub Answered : KeeperAnswer → (Stop → Type 0) → Type 0 → Type 0
 Answered answer.Done stops goes = goes
-Answered (answer.Taken taken) stops goes = ⊥
 Answered (answer.Refused why) stops goes = MatchOption (stop_of why) ⊥ stops
+Answered answered stops goes = ⊥
 
 -- the next call is the cover that the number asks for
 abbrev pub Covers : Reach → ℕ → List Call → (Stop → List Call → Type 0) → (ℕ → List Call → Type 0)

@@ -14,10 +14,11 @@ use Rattle.keeper_book.specs.declared.calls.KeeperAsk.TheVariants as ask
 use Rattle.keeper_book.specs.declared.counters.Counter.{Counter}
 use Rattle.keeper_book.specs.declared.faults.KeeperFault.{KeeperFault}
 use Rattle.keeper_book.specs.declared.faults.KeeperFault.TheVariants as fault
-use Rattle.keeper_book.specs.Book.{Book, Entry, Answers, RefusedAs, book_after, answer_to, cover_refusal, edit_at, empty, enter_refusal, book_entered, entry_of, fresh, answer_given, raised_at, refusal, shares_spi, take_over_refusal, takeover_answer, taken_over, takes_memory, unless_refused, when}
+use Rattle.keeper_book.specs.Book.{Book, Entry, Answers, RefusedAs, book_after, answer_to, cover_refusal, edit_at, enter_refusal, book_entered, entry_of, fresh, answer_given, raised_at, refusal, shares_spi, take_over_refusal, takeover_answer, taken_over, takes_memory, unless_refused, when}
 use Rattle.keeper_book.specs.Counters.{AreWithinEnds, counter_named}
 use Rattle.keeper_book.specs.Entries.{IsPlaceOf}
 use Rattle.keeper_book.specs.declared.TheConstants.{MAX_ASSOCIATIONS, MAX_EPOCHS}
+use Rattle.keeper_book.specs.declared.pools.PoolNumbers.{PoolNumbers}
 use Rattle.keeper_book.specs.declared.records.Record.{Record}
 use Rattle.keeper_book.specs.declared.records.Taken.{Taken}
 use Rattle.ha_base.specs.declared.counter_names.Kind.{Kind}
@@ -25,6 +26,10 @@ use Rattle.keeper_book.proofs.EntryLemmas.{entry_at, edited_at}
 use Rattle.keeper_book.specs.Spoken.{Spoken}
 use Rattle.keeper_book.specs.Told.{IsAnswerOf, IsCallOf, IsFailed, IsRefusalOf, done, taken_answer}
 use Rattle.keeper_book.proofs.Passed.{recorded}
+
+-- a book by its parts, as the keeper has them
+abbrev pub book_of : PoolNumbers → List ℕ → List Entry → Book
+book_of next spent es = record { entries = es; next = next; spent = spent }
 
 -- refused by name, or for want of memory where nothing else is refused
 pub refused_answers : (old : Book) (asked : KeeperAsk) (why : KeeperFault) → takes_memory asked ≡ true → RefusedAs why (refusal old asked) → Answers old asked (answer.Refused why) old
@@ -49,22 +54,23 @@ unless_shared sa es other few =
     let room : nat_le MAX_ASSOCIATIONS (length es) ≡ false = ⊎_elim (λ t. absurd (omega (arith, t.1))) (λ t. t.0) (leb_tells MAX_ASSOCIATIONS (length es)) in
     rw (other, room)
 
-pub enter_shared : (sa : Record) (es : List Entry) (old : Book) → record empty { entries = es } ≡ old → list_any (shares_spi sa) es ≡ true → Answers old (ask.Enter sa) (answer.Refused fault.SpiInUse) old
-enter_shared sa es old view shared =
-    subst (λ b. Answers b (ask.Enter sa) (answer.Refused fault.SpiInUse) b) view (refused_answers (record empty { entries = es }) (ask.Enter sa) fault.SpiInUse refl (rw shared))
+module _ (next : PoolNumbers) (spent : List ℕ) where
+  pub enter_shared : (sa : Record) (es : List Entry) (old : Book) → (book_of next spent es) ≡ old → list_any (shares_spi sa) es ≡ true → Answers old (ask.Enter sa) (answer.Refused fault.SpiInUse) old
+  enter_shared sa es old view shared =
+      subst (λ b. Answers b (ask.Enter sa) (answer.Refused fault.SpiInUse) b) view (refused_answers (book_of next spent es) (ask.Enter sa) fault.SpiInUse refl (rw shared))
 
-pub enter_full : (sa : Record) (es : List Entry) (old : Book) → record empty { entries = es } ≡ old → list_any (shares_spi sa) es ≡ false → MAX_ASSOCIATIONS ≤ length es → Answers old (ask.Enter sa) (answer.Refused (fault.Full MAX_ASSOCIATIONS)) old
-enter_full sa es old view other many =
-    let full : nat_le MAX_ASSOCIATIONS (length es) ≡ true = le-leb _ _ many in
-    subst (λ b. Answers b (ask.Enter sa) (answer.Refused (fault.Full MAX_ASSOCIATIONS)) b) view (refused_answers (record empty { entries = es }) (ask.Enter sa) (fault.Full MAX_ASSOCIATIONS) refl (rw (other, full)))
+  pub enter_full : (sa : Record) (es : List Entry) (old : Book) → (book_of next spent es) ≡ old → list_any (shares_spi sa) es ≡ false → MAX_ASSOCIATIONS ≤ length es → Answers old (ask.Enter sa) (answer.Refused (fault.Full MAX_ASSOCIATIONS)) old
+  enter_full sa es old view other many =
+      let full : nat_le MAX_ASSOCIATIONS (length es) ≡ true = le-leb _ _ many in
+      subst (λ b. Answers b (ask.Enter sa) (answer.Refused (fault.Full MAX_ASSOCIATIONS)) b) view (refused_answers (book_of next spent es) (ask.Enter sa) (fault.Full MAX_ASSOCIATIONS) refl (rw (other, full)))
 
-pub enter_memory : (sa : Record) (es : List Entry) (old : Book) → record empty { entries = es } ≡ old → list_any (shares_spi sa) es ≡ false → length es < MAX_ASSOCIATIONS → Answers old (ask.Enter sa) (answer.Refused fault.Memory) old
-enter_memory sa es old view other few =
-    subst (λ b. Answers b (ask.Enter sa) (answer.Refused fault.Memory) b) view (refused_answers (record empty { entries = es }) (ask.Enter sa) fault.Memory refl (unless_shared sa es other few))
+  pub enter_memory : (sa : Record) (es : List Entry) (old : Book) → (book_of next spent es) ≡ old → list_any (shares_spi sa) es ≡ false → length es < MAX_ASSOCIATIONS → Answers old (ask.Enter sa) (answer.Refused fault.Memory) old
+  enter_memory sa es old view other few =
+      subst (λ b. Answers b (ask.Enter sa) (answer.Refused fault.Memory) b) view (refused_answers (book_of next spent es) (ask.Enter sa) fault.Memory refl (unless_shared sa es other few))
 
-pub enter_done : (sa : Record) (es : List Entry) (old new : Book) → record empty { entries = es } ≡ old → list_any (shares_spi sa) es ≡ false → length es < MAX_ASSOCIATIONS → record empty { entries = es ++ fresh sa ∷ [] } ≡ new → Answers old (ask.Enter sa) answer.Done new
-enter_done sa es old new view other few added =
-    subst (λ b. Answers b (ask.Enter sa) answer.Done new) view (granted (record empty { entries = es }) (ask.Enter sa) answer.Done new (unless_shared sa es other few) refl (sym added))
+  pub enter_done : (sa : Record) (es : List Entry) (old new : Book) → (book_of next spent es) ≡ old → list_any (shares_spi sa) es ≡ false → length es < MAX_ASSOCIATIONS → (book_of next spent (es ++ fresh sa ∷ [])) ≡ new → Answers old (ask.Enter sa) answer.Done new
+  enter_done sa es old new view other few added =
+      subst (λ b. Answers b (ask.Enter sa) answer.Done new) view (granted (book_of next spent es) (ask.Enter sa) answer.Done new (unless_shared sa es other few) refl (sym added))
 
 -- a call of a keeper that tells its book and nothing else, and never fails
 pub memory_call : (old new : Book) (asked : KeeperAsk) (answered : KeeperAnswer) → Answers old asked answered new → (IsFailed answered → ⊥) → IsAnswerOf asked answered → (x : Call) × IsCallOf asked answered x × Spoken {K = Book} (λ book. Some book) (λ _. None) (λ _. 0) (λ _ _ _. Unit {0}) old (x ∷ []) new
@@ -90,40 +96,41 @@ refused_cover e (Some c) epoch r = by_tests e.closed (not (epoch == length e.bas
     by_tests false true r = cc
     by_tests false false r = cc
 
--- an association that is written back unchanged
-same_book : (es : List Entry) (new : Book) (place : ℕ) (e e' : Entry) → record empty { entries = set es place e' } ≡ new → e ≡ get_or es place e → e' ≡ e → record empty { entries = es } ≡ new
-same_book es new place e e' left at same = ap (λ xs. record empty { entries = xs }) (sym (ap (set es place) (same ∙ at) ∙ set-get_or es place e)) ∙ left
+module _ (next : PoolNumbers) (spent : List ℕ) where
+  -- an association that is written back unchanged
+  same_book : (es : List Entry) (new : Book) (place : ℕ) (e e' : Entry) → (book_of next spent (set es place e')) ≡ new → e ≡ get_or es place e → e' ≡ e → (book_of next spent es) ≡ new
+  same_book es new place e e' left at same = ap (λ xs. (book_of next spent xs)) (sym (ap (set es place) (same ∙ at) ∙ set-get_or es place e)) ∙ left
 
--- an association that is edited
-edited_book : (es : List Entry) (new : Book) (spir place : ℕ) (edit : Entry → Entry) (e e' : Entry) → record empty { entries = set es place e' } ≡ new → IsPlaceOf spir place es → e ≡ get_or es place e → e' ≡ edit e → new ≡ record empty { entries = edit_at spir edit es }
-edited_book es new spir place edit e e' left is at same = sym left ∙ ap (λ xs. record empty { entries = xs }) (ap (set es place) same ∙ sym (edited_at spir place edit es e is at))
+  -- an association that is edited
+  edited_book : (es : List Entry) (new : Book) (spir place : ℕ) (edit : Entry → Entry) (e e' : Entry) → (book_of next spent (set es place e')) ≡ new → IsPlaceOf spir place es → e ≡ get_or es place e → e' ≡ edit e → new ≡ (book_of next spent (edit_at spir edit es))
+  edited_book es new spir place edit e e' left is at same = sym left ∙ ap (λ xs. (book_of next spent xs)) (ap (set es place) same ∙ sym (edited_at spir place edit es e is at))
 
--- a takeover, by what the association says of it
-pub took_over : (es : List Entry) (old new : Book) (spir member place : ℕ) (e e' : Entry) (result : Result Taken KeeperFault) → record empty { entries = es } ≡ old → record empty { entries = set es place e' } ≡ new → IsPlaceOf spir place es → e ≡ get_or es place e
-    → IfOk result (λ t. (take_over_refusal (Some e) ≡ None) × (taken_answer result ≡ takeover_answer (Some e)) × (e' ≡ taken_over member e)) → IfErr result (λ why. RefusedAs why (take_over_refusal (Some e)) × (e' ≡ e)) → Answers old (ask.TakeOver spir member) (taken_answer result) new
-took_over es old new spir member place e e' (Ok t) view left is at ok err =
-    let found : entry_of spir es ≡ Some e = entry_at spir place es e is at in
-    subst (λ b. Answers b (ask.TakeOver spir member) (answer.Taken t) new) view
-    (granted (record empty { entries = es }) (ask.TakeOver spir member) (answer.Taken t) new (ap take_over_refusal found ∙ ok.0) (ok.1 ∙ sym (ap takeover_answer found)) (edited_book es new spir place (taken_over member) e e' left is at ok.2))
-took_over es old new spir member place e e' (Err why) view left is at ok err =
-    let found : entry_of spir es ≡ Some e = entry_at spir place es e is at in
-    subst (λ b. Answers b (ask.TakeOver spir member) (answer.Refused why) new) view
-    (subst (λ n. Answers (record empty { entries = es }) (ask.TakeOver spir member) (answer.Refused why) n) (same_book es new place e e' left at err.1)
-    (refused_answers (record empty { entries = es }) (ask.TakeOver spir member) why refl (subst (λ o. RefusedAs why (take_over_refusal o)) (sym found) err.0)))
+  -- a takeover, by what the association says of it
+  pub took_over : (es : List Entry) (old new : Book) (spir member place : ℕ) (e e' : Entry) (result : Result Taken KeeperFault) → (book_of next spent es) ≡ old → (book_of next spent (set es place e')) ≡ new → IsPlaceOf spir place es → e ≡ get_or es place e
+      → IfOk result (λ t. (take_over_refusal (Some e) ≡ None) × (taken_answer result ≡ takeover_answer (Some e)) × (e' ≡ taken_over member e)) → IfErr result (λ why. RefusedAs why (take_over_refusal (Some e)) × (e' ≡ e)) → Answers old (ask.TakeOver spir member) (taken_answer result) new
+  took_over es old new spir member place e e' (Ok t) view left is at ok err =
+      let found : entry_of spir es ≡ Some e = entry_at spir place es e is at in
+      subst (λ b. Answers b (ask.TakeOver spir member) (answer.Taken t) new) view
+      (granted (book_of next spent es) (ask.TakeOver spir member) (answer.Taken t) new (ap take_over_refusal found ∙ ok.0) (ok.1 ∙ sym (ap takeover_answer found)) (edited_book es new spir place (taken_over member) e e' left is at ok.2))
+  took_over es old new spir member place e e' (Err why) view left is at ok err =
+      let found : entry_of spir es ≡ Some e = entry_at spir place es e is at in
+      subst (λ b. Answers b (ask.TakeOver spir member) (answer.Refused why) new) view
+      (subst (λ n. Answers (book_of next spent es) (ask.TakeOver spir member) (answer.Refused why) n) (same_book es new place e e' left at err.1)
+      (refused_answers (book_of next spent es) (ask.TakeOver spir member) why refl (subst (λ o. RefusedAs why (take_over_refusal o)) (sym found) err.0)))
 
--- a cover, by what the association says of it
-pub covered : (es : List Entry) (old new : Book) (spir : ℕ) (kind : Kind) (child epoch upto place : ℕ) (e e' : Entry) (result : Result (Unit {0}) KeeperFault) → record empty { entries = es } ≡ old → record empty { entries = set es place e' } ≡ new → IsPlaceOf spir place es → e ≡ get_or es place e
-    → IfOk result (λ _. (cover_refusal (Some e) (counter_named kind child) epoch ≡ None) × (e' ≡ raised_at (counter_named kind child) upto e)) → IfErr result (λ why. (cover_refusal (Some e) (counter_named kind child) epoch ≡ Some why) × (e' ≡ e)) → Answers old (ask.Cover spir kind child epoch upto) (done result) new
-covered es old new spir kind child epoch upto place e e' (Ok unit) view left is at ok err =
-    let found : entry_of spir es ≡ Some e = entry_at spir place es e is at in
-    subst (λ b. Answers b (ask.Cover spir kind child epoch upto) answer.Done new) view
-    (granted (record empty { entries = es }) (ask.Cover spir kind child epoch upto) answer.Done new (ap (λ o. cover_refusal o (counter_named kind child) epoch) found ∙ ok.0) refl (edited_book es new spir place (raised_at (counter_named kind child) upto) e e' left is at ok.1))
-covered es old new spir kind child epoch upto place e e' (Err why) view left is at ok err =
-    let found : entry_of spir es ≡ Some e = entry_at spir place es e is at in
-    let refused : cover_refusal (entry_of spir es) (counter_named kind child) epoch ≡ cover_refusal (Some e) (counter_named kind child) epoch = ap (λ o. cover_refusal o (counter_named kind child) epoch) found in
-    subst (λ b. Answers b (ask.Cover spir kind child epoch upto) (answer.Refused why) new) view
-    (subst (λ n. Answers (record empty { entries = es }) (ask.Cover spir kind child epoch upto) (answer.Refused why) n) (same_book es new place e e' left at err.1)
-    (refused_by_name (record empty { entries = es }) (ask.Cover spir kind child epoch upto) why (λ m. refused_cover e (counter_named kind child) epoch (sym refused ∙ m)) (refused ∙ err.0)))
+  -- a cover, by what the association says of it
+  pub covered : (es : List Entry) (old new : Book) (spir : ℕ) (kind : Kind) (child epoch upto place : ℕ) (e e' : Entry) (result : Result (Unit {0}) KeeperFault) → (book_of next spent es) ≡ old → (book_of next spent (set es place e')) ≡ new → IsPlaceOf spir place es → e ≡ get_or es place e
+      → IfOk result (λ _. (cover_refusal (Some e) (counter_named kind child) epoch ≡ None) × (e' ≡ raised_at (counter_named kind child) upto e)) → IfErr result (λ why. (cover_refusal (Some e) (counter_named kind child) epoch ≡ Some why) × (e' ≡ e)) → Answers old (ask.Cover spir kind child epoch upto) (done result) new
+  covered es old new spir kind child epoch upto place e e' (Ok unit) view left is at ok err =
+      let found : entry_of spir es ≡ Some e = entry_at spir place es e is at in
+      subst (λ b. Answers b (ask.Cover spir kind child epoch upto) answer.Done new) view
+      (granted (book_of next spent es) (ask.Cover spir kind child epoch upto) answer.Done new (ap (λ o. cover_refusal o (counter_named kind child) epoch) found ∙ ok.0) refl (edited_book es new spir place (raised_at (counter_named kind child) upto) e e' left is at ok.1))
+  covered es old new spir kind child epoch upto place e e' (Err why) view left is at ok err =
+      let found : entry_of spir es ≡ Some e = entry_at spir place es e is at in
+      let refused : cover_refusal (entry_of spir es) (counter_named kind child) epoch ≡ cover_refusal (Some e) (counter_named kind child) epoch = ap (λ o. cover_refusal o (counter_named kind child) epoch) found in
+      subst (λ b. Answers b (ask.Cover spir kind child epoch upto) (answer.Refused why) new) view
+      (subst (λ n. Answers (book_of next spent es) (ask.Cover spir kind child epoch upto) (answer.Refused why) n) (same_book es new place e e' left at err.1)
+      (refused_by_name (book_of next spent es) (ask.Cover spir kind child epoch upto) why (λ m. refused_cover e (counter_named kind child) epoch (sym refused ∙ m)) (refused ∙ err.0)))
 
 -- an association that is not there
 pub unknown : (old : Book) (asked : KeeperAsk) → (refusal old asked ≡ Some fault.Unknown) → Answers old asked (answer.Refused fault.Unknown) old

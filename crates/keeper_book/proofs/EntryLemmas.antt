@@ -19,7 +19,7 @@ pub edit_at-there : (spir : ℕ) (edit : Entry → Entry) (e : Entry) (es : List
 edit_at-there spir edit e es h = let t : (e.sa.spir == spir) ≡ false = ne_eqb _ _ h in rw t
 
 -- where no association has the SPI, the first one has it not, and none behind it
-not_here : (spir : ℕ) (e : Entry) (es : List Entry) → entry_of spir (e ∷ es) ≡ None → e.sa.spir ≢ spir
+pub not_here : (spir : ℕ) (e : Entry) (es : List Entry) → entry_of spir (e ∷ es) ≡ None → e.sa.spir ≢ spir
 not_here spir e es n = λ h. let found : entry_of spir (e ∷ es) ≡ Some e = entry_of-here spir e es h in absurd (cc)
 
 -- an association more that has another SPI

@@ -3,3 +3,4 @@ pub mod BookAnswers
 pub mod EntryLemmas
 pub mod Passed
 pub mod Placed
+pub mod PoolAnswers

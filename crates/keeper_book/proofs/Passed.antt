@@ -21,6 +21,9 @@ failed-answer : (asked : KeeperAsk) → IsAnswerOf asked (answer.Refused fault.F
 failed-answer (ask.Enter sa) = tt
 failed-answer (ask.TakeOver spir member) = tt
 failed-answer (ask.Cover spir kind child epoch upto) = tt
+failed-answer (ask.Lease pool count) = tt
+failed-answer (ask.Settle ticket old_spir sa member) = tt
+failed-answer (ask.Look ticket) = tt
 
 -- what a keeper promises of an answer holds of what the caller saw
 pub seen-answer : (call : Call) → IsAnswerOf call.asked call.answer → IsAnswerOf call.asked (seen call)

@@ -1,19 +1,24 @@
 -- The keeper's book as plain data, what a call asks of it, and what is answered.
-use Rattle.std.specs.Prelude.{ℕ, ◌+◌, ◌≡◌, ◌⊎◌, Bool, true, false, not, ◌||◌, ◌==◌, nat_le, if◌then◌else◌, min, max, Option, Some, None, List, [], ◌∷◌, ◌++◌, length}
+use Rattle.std.specs.Prelude.{ℕ, ◌+◌, ◌≡◌, ◌⊎◌, Bool, true, false, not, ◌||◌, ◌==◌, nat_le, nat_lt, if◌then◌else◌, min, max, Option, Some, None, List, [], ◌∷◌, ◌++◌, length}
 use Rattle.std.specs.List.{list_any}
-use Rattle.keeper_book.specs.declared.TheConstants.{MAX_ASSOCIATIONS, MAX_EPOCHS}
+use Rattle.keeper_book.specs.declared.TheConstants.{MAX_ASSOCIATIONS, MAX_EPOCHS, MAX_SPENT_TICKETS, SETTLED_ANSWER_HIGH, SETTLED_IV_HIGH}
 use Rattle.keeper_book.specs.declared.calls.Call.{Call}
 use Rattle.keeper_book.specs.declared.calls.KeeperAnswer.{KeeperAnswer}
 use Rattle.keeper_book.specs.declared.calls.KeeperAnswer.TheVariants as answer
 use Rattle.keeper_book.specs.declared.calls.KeeperAsk.{KeeperAsk}
 use Rattle.keeper_book.specs.declared.calls.KeeperAsk.TheVariants as ask
 use Rattle.keeper_book.specs.declared.counters.Counter.{Counter}
+use Rattle.keeper_book.specs.declared.counters.Counter.TheVariants as counter
 use Rattle.keeper_book.specs.declared.counters.Five.{Five}
 use Rattle.keeper_book.specs.declared.faults.KeeperFault.{KeeperFault}
 use Rattle.keeper_book.specs.declared.faults.KeeperFault.TheVariants as fault
+use Rattle.keeper_book.specs.declared.pools.Pool.{Pool}
+use Rattle.keeper_book.specs.declared.pools.PoolNumbers.{PoolNumbers}
+use Rattle.keeper_book.specs.declared.pools.TheConstants.{FIRST_POOL_NUMBER}
 use Rattle.keeper_book.specs.declared.records.Record.{Record}
 use Rattle.keeper_book.specs.CounterEnds.{end_of}
 use Rattle.keeper_book.specs.Counters.{counter_named, five_at, with_five}
+use Rattle.keeper_book.specs.Pools.{number_of, pool_end, with_number}
 
 -- An association in the book. Its epoch is the number of its bases: each epoch begins at the highs
 -- of its time.
@@ -28,12 +33,25 @@ pub record Entry : Type 0 where
 -- that were spent.
 pub record Book : Type 0 where
   pub entries : List Entry
-  pub next_ticket : ℕ
-  pub next_nonce : ℕ
+  pub next : PoolNumbers
   pub spent : List ℕ
 
 abbrev pub empty : Book
-empty = record { entries = []; next_ticket = 1; next_nonce = 1; spent = [] }
+empty = record {
+  entries = [];
+  next = record { ticket = FIRST_POOL_NUMBER; nonce = FIRST_POOL_NUMBER };
+  spent = [];
+}
+
+-- the next number of a pool, by the book
+abbrev pub pool_next : Pool → Book → ℕ
+pool_next pool book = number_of pool book.next
+
+abbrev pub with_pool_next : Pool → ℕ → Book → Book
+with_pool_next pool n book = record book { next = with_number pool n book.next }
+
+abbrev pub is_spent : ℕ → List ℕ → Bool
+is_spent ticket spent = list_any (λ t. t == ticket) spent
 
 -- the association of a responder's SPI
 abbrev pub entry_of : ℕ → List Entry → Option Entry
@@ -48,6 +66,27 @@ edit_at spir edit (e ∷ es) = if e.sa.spir == spir then edit e ∷ es else e �
 -- the association as it is added
 abbrev pub fresh : Record → Entry
 fresh sa = record { sa = sa; closed = false; owner = None; bases = []; highs = sa.starts }
+
+-- nobody may use the association any more
+abbrev pub closed : Entry → Entry
+closed e = record e { closed = true }
+
+-- The highs of an association that is resumed: its IKE_AUTH is answered under Message ID 1 and
+-- sealed with an IV from the start on, so that these are not used again in a later epoch.
+abbrev pub settled_highs : Five → Five
+settled_highs starts =
+    with_five counter.Iv (max starts.iv SETTLED_IV_HIGH)
+    (with_five counter.Answer (max starts.answer SETTLED_ANSWER_HIGH) starts)
+
+-- an association as a resumption adds it: its first epoch is the member's
+abbrev pub settled : Record → ℕ → Entry
+settled sa member = record {
+  sa = sa;
+  closed = false;
+  owner = Some member;
+  bases = sa.starts ∷ [];
+  highs = settled_highs sa.starts;
+}
 
 -- one epoch more: the highs are its bases, and the member its owner
 abbrev pub taken_over : ℕ → Entry → Entry
@@ -92,12 +131,27 @@ cover_refusal (Some e) (Some c) epoch =
     when e.closed fault.Closed
     (when (not (epoch == length e.bases)) (fault.Replaced (length e.bases)) None)
 
+abbrev pub lease_refusal : Pool → ℕ → PoolNumbers → Option KeeperFault
+lease_refusal pool count next =
+    when (nat_lt (pool_end pool) (number_of pool next + count)) (fault.Full (pool_end pool)) None
+
+abbrev pub settle_refusal : ℕ → Record → List ℕ → List Entry → Option KeeperFault
+settle_refusal ticket sa spent entries =
+    when (is_spent ticket spent) fault.Spent
+    (when (list_any (shares_spi sa) entries) fault.SpiInUse
+    (when (nat_le MAX_SPENT_TICKETS (length spent)) (fault.Full MAX_SPENT_TICKETS)
+    (when (nat_le MAX_ASSOCIATIONS (length entries)) (fault.Full MAX_ASSOCIATIONS) None)))
+
 -- why a call is refused, where it is: the first of its refusals that applies
 abbrev pub refusal : Book → KeeperAsk → Option KeeperFault
 refusal book (ask.Enter sa) = enter_refusal sa book.entries
 refusal book (ask.TakeOver spir member) = take_over_refusal (entry_of spir book.entries)
 refusal book (ask.Cover spir kind child epoch upto) =
     cover_refusal (entry_of spir book.entries) (counter_named kind child) epoch
+refusal book (ask.Lease pool count) = lease_refusal pool count book.next
+refusal book (ask.Settle ticket old_spir sa member) =
+    settle_refusal ticket sa book.spent book.entries
+refusal book (ask.Look ticket) = None
 
 -- the book with the entry that a call makes
 abbrev pub book_entered : Book → KeeperAsk → Book
@@ -108,6 +162,12 @@ book_entered book (ask.TakeOver spir member) = record book {
 }
 book_entered book (ask.Cover spir kind child epoch upto) =
     record book { entries = edit_at spir (raised_at (counter_named kind child) upto) book.entries }
+book_entered book (ask.Lease pool count) = with_pool_next pool (pool_next pool book + count) book
+book_entered book (ask.Settle ticket old_spir sa member) = record book {
+  entries = edit_at old_spir closed book.entries ++ settled sa member ∷ [];
+  spent = book.spent ++ ticket ∷ [];
+}
+book_entered book (ask.Look ticket) = book
 
 -- what a takeover is told: the epoch that begins, its bases, and the record
 abbrev pub takeover_answer : Option Entry → KeeperAnswer
@@ -123,6 +183,9 @@ abbrev pub answer_given : Book → KeeperAsk → KeeperAnswer
 answer_given book (ask.Enter sa) = answer.Done
 answer_given book (ask.TakeOver spir member) = takeover_answer (entry_of spir book.entries)
 answer_given book (ask.Cover spir kind child epoch upto) = answer.Done
+answer_given book (ask.Lease pool count) = answer.First (pool_next pool book)
+answer_given book (ask.Settle ticket old_spir sa member) = answer.Done
+answer_given book (ask.Look ticket) = answer.Look (is_spent ticket book.spent)
 
 -- a value, or another one where there is a refusal
 abbrev pub unless_refused : {T : Type 0} → Option KeeperFault → (KeeperFault → T) → T → T
@@ -142,6 +205,9 @@ abbrev pub takes_memory : KeeperAsk → Bool
 takes_memory (ask.Enter sa) = true
 takes_memory (ask.TakeOver spir member) = true
 takes_memory (ask.Cover spir kind child epoch upto) = false
+takes_memory (ask.Lease pool count) = false
+takes_memory (ask.Settle ticket old_spir sa member) = true
+takes_memory (ask.Look ticket) = false
 
 -- What an answer says of the book: a failed call was entered or it was not; want of memory comes
 -- where nothing else is refused, and changes nothing; any other answer is the one by the book.

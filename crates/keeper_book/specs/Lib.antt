@@ -5,6 +5,7 @@ pub mod Counters
 pub mod Entries
 pub mod Gates
 pub mod Places
+pub mod Pools
 pub mod Records
 pub mod Spoken
 pub mod Told

@@ -1,9 +1,10 @@
 -- What a keeper's calls say of it: the calls that it tells, and its count of faults.
-use Rattle.std.specs.Prelude.{ℕ, ◌+◌, ◌<◌, ◌≤◌, ◌≡◌, ◌⊎◌, if◌then◌else◌, Option, Some, None, List, [], ◌∷◌, ◌++◌, length, Result, Ok, Err}
+use Rattle.std.specs.Prelude.{ℕ, ◌+◌, ◌<◌, ◌≤◌, ◌≡◌, ◌⊎◌, Bool, if◌then◌else◌, Option, Some, None, List, [], ◌∷◌, ◌++◌, length, Result, Ok, Err}
 use Rattle.std.specs.List.{AllByRecursion}
 use Rattle.ha_base.specs.Faults.{Rose}
 use Rattle.keeper_book.specs.Counters.{AreWithinEnds}
-use Rattle.keeper_book.specs.declared.TheConstants.{MAX_ASSOCIATIONS, MAX_EPOCHS}
+use Rattle.keeper_book.specs.Pools.{IsRangeOf, pool_end}
+use Rattle.keeper_book.specs.declared.TheConstants.{MAX_ASSOCIATIONS, MAX_EPOCHS, MAX_SPENT_TICKETS}
 use Rattle.keeper_book.specs.declared.calls.Call.{Call}
 use Rattle.keeper_book.specs.declared.calls.KeeperAnswer.{KeeperAnswer}
 use Rattle.keeper_book.specs.declared.calls.KeeperAnswer.TheVariants as answer
@@ -23,6 +24,12 @@ done = answered (λ _. answer.Done)
 
 abbrev pub taken_answer : Result Taken KeeperFault → KeeperAnswer
 taken_answer = answered answer.Taken
+
+abbrev pub first_answer : Result ℕ KeeperFault → KeeperAnswer
+first_answer = answered answer.First
+
+abbrev pub look_answer : Result Bool KeeperFault → KeeperAnswer
+look_answer = answered answer.Look
 
 -- what the caller saw: a hidden answer as a failed call
 abbrev pub seen : Call → KeeperAnswer
@@ -55,6 +62,12 @@ IsRefusalOf (ask.TakeOver spir member) fault.Memory = Unit {0}
 IsRefusalOf (ask.Cover spir kind child epoch upto) fault.Unknown = Unit {0}
 IsRefusalOf (ask.Cover spir kind child epoch upto) fault.Closed = Unit {0}
 IsRefusalOf (ask.Cover spir kind child epoch upto) (fault.Replaced other) = Unit {0}
+IsRefusalOf (ask.Lease pool count) (fault.Full limit) = limit ≡ pool_end pool
+IsRefusalOf (ask.Settle ticket old_spir sa member) fault.Spent = Unit {0}
+IsRefusalOf (ask.Settle ticket old_spir sa member) fault.SpiInUse = Unit {0}
+IsRefusalOf (ask.Settle ticket old_spir sa member) (fault.Full limit) =
+    (limit ≡ MAX_SPENT_TICKETS) ⊎ (limit ≡ MAX_ASSOCIATIONS)
+IsRefusalOf (ask.Settle ticket old_spir sa member) fault.Memory = Unit {0}
 IsRefusalOf asked why = ⊥
 
 -- what a takeover grants is the association that was asked for, and its bases lie within the ends
@@ -65,10 +78,13 @@ pub record IsGrantOf (spir : ℕ) (taken : Taken) : Type 0 where
 -- the answers that a call has, whatever the keeper's book is
 abbrev pub IsAnswerOf : KeeperAsk → KeeperAnswer → Type 0
 IsAnswerOf asked (answer.Refused why) = IsRefusalOf asked why
+IsAnswerOf (ask.Enter sa) answer.Done = Unit {0}
 IsAnswerOf (ask.TakeOver spir member) (answer.Taken taken) = IsGrantOf spir taken
-IsAnswerOf (ask.TakeOver spir member) answer.Done = ⊥
-IsAnswerOf asked (answer.Taken taken) = ⊥
-IsAnswerOf asked answer.Done = Unit {0}
+IsAnswerOf (ask.Cover spir kind child epoch upto) answer.Done = Unit {0}
+IsAnswerOf (ask.Lease pool count) (answer.First first) = IsRangeOf pool count first
+IsAnswerOf (ask.Settle ticket old_spir sa member) answer.Done = Unit {0}
+IsAnswerOf (ask.Look ticket) (answer.Look spent) = Unit {0}
+IsAnswerOf asked answered = ⊥
 
 -- each of these calls was answered so
 abbrev pub AreAnswers : List Call → Type 0

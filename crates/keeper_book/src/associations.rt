@@ -1,17 +1,17 @@
 ghost use Rattle.std.specs.Prelude.{◌≡◌, ◌||◌, ◌==◌, Some, None, IfOk, IfErr, MatchOption};
 ghost use Rattle.std.specs.List.{list_any};
 ghost use Rattle.keeper_book.specs.declared.calls.KeeperAsk.TheVariants as ask;
-ghost use Rattle.keeper_book.specs.Book.{RefusedAs, cover_refusal, entry_of, fresh, raised_at, shares_spi, take_over_refusal, takeover_answer, taken_over};
+ghost use Rattle.keeper_book.specs.Book.{RefusedAs, closed, cover_refusal, edit_at, entry_of, fresh, raised_at, settled, shares_spi, take_over_refusal, takeover_answer, taken_over};
 ghost use Rattle.keeper_book.specs.Counters.{AreWithinEnds, counter_named};
 ghost use Rattle.keeper_book.specs.Entries.{IsPlaceOf};
 ghost use Rattle.keeper_book.specs.Told.{IsRefusalOf, taken_answer};
 
-use crate::MAX_EPOCHS;
 use crate::counters::{Counter, Five};
 use crate::faults::KeeperFault;
 use crate::records::{Record, Taken};
+use crate::{MAX_EPOCHS, SETTLED_ANSWER_HIGH, SETTLED_IV_HIGH};
 use ha_base::Kind;
-use std::alloc::Global;
+use std::alloc::{AllocError, Global};
 use std::marker::Model;
 
 /// An association in the book.
@@ -54,6 +54,32 @@ impl Association {
             bases: Vec::new(alloc),
             highs: sa.starts,
         }
+    }
+
+    /// An association that was resumed, in its first epoch, which the member owns. An error is
+    /// want of memory.
+    pub fn settled(alloc: Global, sa: &Record, member: u32) -> Result<Association, AllocError>
+        ensures { IfOk result (λ a. a ≡ settled sa.now member) }
+    {
+        let mut bases = Vec::new(alloc);
+        bases.push(sa.starts)?;
+        let mut highs = sa.starts;
+        highs.answer = highs.answer.max(SETTLED_ANSWER_HIGH);
+        highs.iv = highs.iv.max(SETTLED_IV_HIGH);
+        Ok(Association {
+            sa: sa.copied(),
+            closed: false,
+            owner: Some(member),
+            bases,
+            highs,
+        })
+    }
+
+    /// Nobody may use it any more.
+    pub fn close(&mut self)
+        ensures { self.new ≡ closed self.old }
+    {
+        self.closed = true;
     }
 
     /// The responder's SPI.

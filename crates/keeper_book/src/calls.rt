@@ -1,7 +1,8 @@
 ghost use Rattle.std.specs.Prelude.{◌≡◌};
-ghost use Rattle.keeper_book.specs.Told.{done, taken_answer};
+ghost use Rattle.keeper_book.specs.Told.{done, first_answer, look_answer, taken_answer};
 
 use crate::faults::KeeperFault;
+use crate::pools::Pool;
 use crate::records::{Record, Taken};
 use ha_base::Kind;
 
@@ -26,15 +27,36 @@ pub enum KeeperAsk {
         epoch: u64,
         upto: u64,
     },
+    /// For so many numbers of a pool.
+    Lease {
+        pool: Pool,
+        count: u64,
+    },
+    /// To spend a ticket, and to put the association that was resumed with it in place of the old
+    /// one, in an epoch of this member.
+    Settle {
+        ticket: u64,
+        old_spir: u64,
+        sa: Record,
+        member: u32,
+    },
+    /// Whether a ticket is spent.
+    Look {
+        ticket: u64,
+    },
 }
 
 /// What a keeper answers.
 #[derive(Debug, PartialEq, Eq, Drop)]
 pub enum KeeperAnswer {
-    /// An association was added, or a high raised.
+    /// An association was added, a high raised, or a ticket spent.
     Done,
     /// An epoch began.
     Taken(Taken),
+    /// The first number of a range that was leased.
+    First(u64),
+    /// The ticket is spent.
+    Look(bool),
     /// The call failed, or was refused.
     Refused(KeeperFault),
 }
@@ -74,6 +96,22 @@ impl KeeperAsk {
                 epoch: *epoch,
                 upto: *upto,
             },
+            KeeperAsk::Lease { pool, count } => KeeperAsk::Lease {
+                pool: *pool,
+                count: *count,
+            },
+            KeeperAsk::Settle {
+                ticket,
+                old_spir,
+                sa,
+                member,
+            } => KeeperAsk::Settle {
+                ticket: *ticket,
+                old_spir: *old_spir,
+                sa: sa.copied(),
+                member: *member,
+            },
+            KeeperAsk::Look { ticket } => KeeperAsk::Look { ticket: *ticket },
         }
     }
 }
@@ -86,6 +124,8 @@ impl KeeperAnswer {
         match self {
             KeeperAnswer::Done => KeeperAnswer::Done,
             KeeperAnswer::Taken(taken) => KeeperAnswer::Taken(taken.copied()),
+            KeeperAnswer::First(first) => KeeperAnswer::First(*first),
+            KeeperAnswer::Look(spent) => KeeperAnswer::Look(*spent),
             KeeperAnswer::Refused(fault) => KeeperAnswer::Refused(*fault),
         }
     }
@@ -106,6 +146,26 @@ impl KeeperAnswer {
     {
         match answered {
             Ok(taken) => KeeperAnswer::Taken(taken.copied()),
+            Err(fault) => KeeperAnswer::Refused(*fault),
+        }
+    }
+
+    /// What a lease is answered.
+    pub fn of_first(answered: &Result<u64, KeeperFault>) -> KeeperAnswer
+        ensures { result ≡ first_answer answered.now }
+    {
+        match answered {
+            Ok(first) => KeeperAnswer::First(*first),
+            Err(fault) => KeeperAnswer::Refused(*fault),
+        }
+    }
+
+    /// What is answered to whether a ticket is spent.
+    pub fn of_look(answered: &Result<bool, KeeperFault>) -> KeeperAnswer
+        ensures { result ≡ look_answer answered.now }
+    {
+        match answered {
+            Ok(spent) => KeeperAnswer::Look(*spent),
             Err(fault) => KeeperAnswer::Refused(*fault),
         }
     }

@@ -5,6 +5,7 @@ use crate::call_lists::Calls;
 use crate::calls::{Call, KeeperAnswer, KeeperAsk};
 use crate::faults::KeeperFault;
 use crate::keepers::Keeper;
+use crate::pools::Pool;
 use crate::records::{Record, Taken};
 use ha_base::Kind;
 use std::marker::Model;
@@ -117,6 +118,47 @@ impl<K: Keeper> Keeper for Gate<K> {
                 upto,
             },
             answer: KeeperAnswer::of_done(&result),
+            hidden: false,
+        });
+        result
+    }
+
+    fn lease(&mut self, pool: Pool, count: u64) -> Result<u64, KeeperFault> {
+        let result = self.keeper.lease(pool, count);
+        self.record(Call {
+            asked: KeeperAsk::Lease { pool, count },
+            answer: KeeperAnswer::of_first(&result),
+            hidden: false,
+        });
+        result
+    }
+
+    fn settle(
+        &mut self,
+        ticket: u64,
+        old_spir: u64,
+        sa: &Record,
+        member: u32,
+    ) -> Result<(), KeeperFault> {
+        let result = self.keeper.settle(ticket, old_spir, sa, member);
+        self.record(Call {
+            asked: KeeperAsk::Settle {
+                ticket,
+                old_spir,
+                sa: sa.copied(),
+                member,
+            },
+            answer: KeeperAnswer::of_done(&result),
+            hidden: false,
+        });
+        result
+    }
+
+    fn look(&mut self, ticket: u64) -> Result<bool, KeeperFault> {
+        let result = self.keeper.look(ticket);
+        self.record(Call {
+            asked: KeeperAsk::Look { ticket },
+            answer: KeeperAnswer::of_look(&result),
             hidden: false,
         });
         result

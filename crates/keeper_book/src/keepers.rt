@@ -5,9 +5,11 @@ ghost use Rattle.keeper_book.specs.declared.calls.KeeperAsk.TheVariants as ask;
 ghost use Rattle.keeper_book.specs.Counters.{AreWithinEnds};
 ghost use Rattle.keeper_book.specs.Book.{Book};
 ghost use Rattle.keeper_book.specs.Spoken.{Spoken};
-ghost use Rattle.keeper_book.specs.Told.{IsCallOf, IsRefusalOf, done, taken_answer};
+ghost use Rattle.keeper_book.specs.Pools.{IsRangeOf};
+ghost use Rattle.keeper_book.specs.Told.{IsCallOf, IsRefusalOf, done, first_answer, look_answer, taken_answer};
 
 use crate::faults::KeeperFault;
+use crate::pools::Pool;
 use crate::records::{Record, Taken};
 use ha_base::Kind;
 
@@ -67,6 +69,42 @@ pub trait Keeper {
             × Spoken book calls faults call_gives self.old (call ∷ []) self.new }
         ensures refusals { IfErr result (IsRefusalOf (ask.Cover spir kind child epoch upto)) }
         ensures held { held self.new ≡ held self.old };
+
+    /// Leases so many numbers of a pool, and answers the first of them. `Full` with the pool's end
+    /// where they would pass it, and `Failed`, after which they are leased or not. After every other
+    /// error nothing has changed.
+    fn lease(&mut self, pool: Pool, count: u64) -> Result<u64, KeeperFault>
+        ensures call { (call : Call) × IsCallOf (ask.Lease pool count) (first_answer result) call
+            × Spoken book calls faults call_gives self.old (call ∷ []) self.new }
+        ensures refusals { IfErr result (IsRefusalOf (ask.Lease pool count)) }
+        ensures range { IfOk result (λ first. IsRangeOf pool count first) }
+        ensures held { held self.new ≡ held self.old };
+
+    /// Spends a ticket: closes the association that it was issued in, where there is one, and adds
+    /// the one that was resumed, in its first epoch, which the member owns. `Spent` where the ticket
+    /// was spent before, `SpiInUse` where an association has the SPIr or the `spi_in` of the new
+    /// one, `Full(65536)` at 65,536 spent tickets, `Full(1024)` at 1,024 associations, `Memory`, and
+    /// `Failed`, after which the ticket was spent or not. After every other error nothing has
+    /// changed.
+    fn settle(
+        &mut self,
+        ticket: u64,
+        old_spir: u64,
+        sa: &Record,
+        member: u32,
+    ) -> Result<(), KeeperFault>
+        ensures call { (call : Call) × IsCallOf (ask.Settle ticket old_spir sa.now member)
+            (done result) call
+            × Spoken book calls faults call_gives self.old (call ∷ []) self.new }
+        ensures refusals { IfErr result (IsRefusalOf (ask.Settle ticket old_spir sa.now member)) }
+        ensures held { held self.new ≡ held self.old };
+
+    /// Whether a ticket is spent. It may fail, and changes nothing.
+    fn look(&mut self, ticket: u64) -> Result<bool, KeeperFault>
+        ensures call { (call : Call) × IsCallOf (ask.Look ticket) (look_answer result) call
+            × Spoken book calls faults call_gives self.old (call ∷ []) self.new }
+        ensures refusals { IfErr result (IsRefusalOf (ask.Look ticket)) }
+        ensures held { held self.new ≡ held self.old };
 }
 
 impl<K: Keeper> Keeper for &mut K {
@@ -97,5 +135,23 @@ impl<K: Keeper> Keeper for &mut K {
         upto: u64,
     ) -> Result<(), KeeperFault> {
         Keeper::cover(&mut **self, spir, kind, child, epoch, upto)
+    }
+
+    fn lease(&mut self, pool: Pool, count: u64) -> Result<u64, KeeperFault> {
+        Keeper::lease(&mut **self, pool, count)
+    }
+
+    fn settle(
+        &mut self,
+        ticket: u64,
+        old_spir: u64,
+        sa: &Record,
+        member: u32,
+    ) -> Result<(), KeeperFault> {
+        Keeper::settle(&mut **self, ticket, old_spir, sa, member)
+    }
+
+    fn look(&mut self, ticket: u64) -> Result<bool, KeeperFault> {
+        Keeper::look(&mut **self, ticket)
     }
 }

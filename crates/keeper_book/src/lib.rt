@@ -11,6 +11,7 @@ mod faults;
 mod gates;
 mod keepers;
 mod memory_keepers;
+mod pools;
 mod records;
 
 pub use call_lists::Calls;
@@ -20,6 +21,7 @@ pub use faults::KeeperFault;
 pub use gates::Gate;
 pub use keepers::Keeper;
 pub use memory_keepers::MemoryKeeper;
+pub use pools::{Pool, PoolNumbers};
 pub use records::{Record, Taken};
 
 /// The most associations that a book has.
@@ -27,6 +29,16 @@ pub const MAX_ASSOCIATIONS: u64 = 1024;
 
 /// The last epoch of an association.
 pub const MAX_EPOCHS: u64 = 4096;
+
+/// The most tickets that a book has as spent.
+pub const MAX_SPENT_TICKETS: u64 = 65_536;
+
+/// In a resumed association the member that settles it may use all IVs below this: its answer to
+/// IKE_AUTH is sealed with the first one.
+pub const SETTLED_IV_HIGH: u64 = 64;
+
+/// In a resumed association the request of IKE_AUTH, with Message ID 1, is answered.
+pub const SETTLED_ANSWER_HIGH: u64 = 2;
 
 #[cfg(test)]
 mod tests;

@@ -3,7 +3,7 @@ ghost use Rattle.keeper_book.specs.Counters.{AreWithinEnds};
 
 use crate::{
     Call, Five, Gate, Keeper, KeeperAnswer, KeeperAsk, KeeperFault, MAX_ASSOCIATIONS, MemoryKeeper,
-    Record, Taken,
+    Pool, Record, Taken,
 };
 use ha_base::{ChildKeys, Identity, KeySize, Kind, OctetArray, OctetList, Origin, SaKeys};
 use std::test::Fail;
@@ -167,5 +167,104 @@ fn a_full_book(rt: HostRuntime) -> Result<(), Fail> {
         keeper.enter(&record(7, 7000)),
         Err(KeeperFault::Full(MAX_ASSOCIATIONS))
     );
+    assert_eq!(rt;
+        keeper.settle(1, SPIR, &record(7, 7000), 1),
+        Err(KeeperFault::Full(MAX_ASSOCIATIONS))
+    );
+    assert_eq!(rt; keeper.look(1), Ok(false));
+    Ok(())
+}
+
+#[test]
+fn leases_of_both_pools(rt: HostRuntime) -> Result<(), Fail> {
+    let mut keeper = MemoryKeeper::new(rt.alloc());
+    assert_eq!(rt; keeper.lease(Pool::Ticket, 16), Ok(1));
+    assert_eq!(rt; keeper.lease(Pool::Ticket, 16), Ok(17));
+    assert_eq!(rt;
+        keeper.lease(Pool::Ticket, u64::MAX),
+        Err(KeeperFault::Full(1 << 32))
+    );
+    assert_eq!(rt; keeper.lease(Pool::Nonce, 65_279), Ok(1));
+    assert_eq!(rt;
+        keeper.lease(Pool::Nonce, 1),
+        Err(KeeperFault::Full(65_280))
+    );
+    assert_eq!(rt; keeper.lease(Pool::Nonce, 0), Ok(65_280));
+    Ok(())
+}
+
+#[test]
+fn a_ticket_is_spent_once(rt: HostRuntime) -> Result<(), Fail> {
+    let mut keeper = MemoryKeeper::new(rt.alloc());
+    keeper.enter(&record(SPIR, 0x0001_0001))?;
+    assert_eq!(rt; keeper.look(1), Ok(false));
+    assert_eq!(rt;
+        keeper.settle(1, SPIR, &record(SPIR, 257), 1),
+        Err(KeeperFault::SpiInUse)
+    );
+    assert_eq!(rt;
+        keeper.settle(1, SPIR, &record(1, 0x0001_0001), 1),
+        Err(KeeperFault::SpiInUse)
+    );
+    assert_eq!(rt; keeper.settle(1, SPIR, &record(1, 257), 2), Ok(()));
+    assert_eq!(rt; keeper.look(1), Ok(true));
+    assert_eq!(rt;
+        keeper.settle(1, SPIR, &record(1, 257), 2),
+        Err(KeeperFault::Spent)
+    );
+    assert_eq!(rt; keeper.take_over(SPIR, 3), Err(KeeperFault::Closed));
+    assert_eq!(rt;
+        keeper.cover(SPIR, Kind::Iv, 0, 0, 9),
+        Err(KeeperFault::Closed)
+    );
+
+    // an association that nobody knows is closed by nobody
+    assert_eq!(rt; keeper.settle(2, SPIR + 9, &record(2, 258), 1), Ok(()));
+
+    let taken = keeper.take_over(1, 3)?;
+    assert_eq!(rt; taken.epoch, 2);
+    assert_eq!(rt; taken.bases.esp_out, 1);
+    assert_eq!(rt; taken.bases.iv, 64);
+    assert_eq!(rt; taken.bases.ask, 0);
+    assert_eq!(rt; taken.bases.answer, 2);
+    Ok(())
+}
+
+#[test]
+fn a_gate_records_what_is_leased_spent_and_looked_at(rt: HostRuntime) -> Result<(), Fail> {
+    let mut keeper = MemoryKeeper::new(rt.alloc());
+    let mut gate = Gate::new(&mut keeper);
+    assert_eq!(rt; gate.lease(Pool::Nonce, 16), Ok(1));
+    assert_eq!(rt; gate.settle(5, SPIR, &record(1, 257), 2), Ok(()));
+    assert_eq!(rt; gate.look(5), Ok(true));
+
+    let calls = gate.take_calls();
+    assert_eq!(rt; calls.len(), 3);
+    let lease = Call {
+        asked: KeeperAsk::Lease {
+            pool: Pool::Nonce,
+            count: 16,
+        },
+        answer: KeeperAnswer::First(1),
+        hidden: false,
+    };
+    assert_eq!(rt; calls.get(0).ok_or("lease")?.copied(), lease);
+    let settle = Call {
+        asked: KeeperAsk::Settle {
+            ticket: 5,
+            old_spir: SPIR,
+            sa: record(1, 257),
+            member: 2,
+        },
+        answer: KeeperAnswer::Done,
+        hidden: false,
+    };
+    assert_eq!(rt; calls.get(1).ok_or("settle")?.copied(), settle);
+    let look = Call {
+        asked: KeeperAsk::Look { ticket: 5 },
+        answer: KeeperAnswer::Look(true),
+        hidden: false,
+    };
+    assert_eq!(rt; calls.get(2).ok_or("look")?.copied(), look);
     Ok(())
 }

@@ -1,11 +1,13 @@
 -- A call of the keeper and its answer are read back from their words.
 use Rattle.std.proofs.Common.{◌≡◌, ℕ, Bool, true, false, List, [], ◌∷◌, ◌++◌, Ok, Err, refl, ap, ◌∙◌, codes, if◌then◌else◌}
 use Rattle.std.specs.Str.{bytes_eq}
+use Rattle.keeper_book.specs.declared.pools.Pool.{Pool}
+use Rattle.keeper_book.specs.declared.pools.Pool.TheVariants as pools
 use Rattle.line_fields.specs.Octets.{spi_in_word}
 use Rattle.line_fields.specs.declared.fault.LineReason.TheVariants.{Word}
 use Rattle.report_text.specs.LineRanges.{FitsAnswer, FitsAsk}
 use Rattle.report_text.specs.Lines.{ReportLine, KeepLine}
-use Rattle.report_text.specs.Spelling.{answer_words, ask_words, lost_words}
+use Rattle.report_text.specs.Spelling.{answer_words, ask_words, lost_words, pool_word}
 use Rattle.report_text.specs.declared.line.PlainAnswer.{PlainAnswer}
 use Rattle.report_text.specs.declared.line.PlainAnswer.TheVariants as answers
 use Rattle.report_text.specs.declared.line.PlainAsk.{PlainAsk}
@@ -15,13 +17,14 @@ use Rattle.report_text.proofs.WordReading.{◌>>=◌, Reading, counter_again, co
 abbrev answer_in : List (List ℕ) → Reading PlainAnswer
 answer_in (w ∷ []) =
     named ((codes "ok", answers.Done) ∷ (codes "failed", answers.Failed) ∷ (codes "unknown", answers.Unknown) ∷ (codes "closed", answers.Closed) ∷ (codes "spent", answers.Spent) ∷ (codes "spi-in-use", answers.SpiInUse) ∷ []) w
-answer_in (w ∷ n ∷ []) = numbered ((codes "replaced", answers.Replaced) ∷ (codes "full", answers.Full) ∷ []) w n
+answer_in (w ∷ n ∷ []) = numbered ((codes "ok", answers.Number) ∷ (codes "replaced", answers.Replaced) ∷ (codes "full", answers.Full) ∷ []) w n
 answer_in (w ∷ n ∷ f ∷ ws) = number_in n >>= (λ epoch. five_in (f ∷ ws) >>= (λ five. Ok (answers.Taken epoch five)))
 answer_in [] = Err Word
 
 answer_again : (answer : PlainAnswer) → FitsAnswer answer → answer_in (answer_words answer) ≡ Ok answer
 answer_again answers.Done fits = refl
 answer_again (answers.Taken epoch bases) fits = rw (number_again epoch fits.0, five_again bases fits.1) refl
+answer_again (answers.Number number) fits = rw (number_again number fits) refl
 answer_again answers.Failed fits = refl
 answer_again (answers.Replaced epoch) fits = rw (number_again epoch fits) refl
 answer_again answers.Unknown fits = refl
@@ -41,6 +44,7 @@ marked_in ask (w ∷ ws) = if bytes_eq w (codes "lost") then answer_line ask tru
 unmarked : (ask : PlainAsk) (answer : PlainAnswer) → marked_in ask (answer_words answer) ≡ answer_line ask false (answer_in (answer_words answer))
 unmarked ask answers.Done = refl
 unmarked ask (answers.Taken epoch bases) = refl
+unmarked ask (answers.Number number) = refl
 unmarked ask answers.Failed = refl
 unmarked ask (answers.Replaced epoch) = refl
 unmarked ask answers.Unknown = refl
@@ -74,12 +78,42 @@ abbrev enter_line : List (List ℕ) → Reading ReportLine
 enter_line (s ∷ ws) = spi_in_word s >>= (λ spir. marked_in (calls.Enter spir) ws)
 enter_line other = Err Word
 
+abbrev pool_in : List ℕ → Reading Pool
+pool_in w = named ((codes "ticket", pools.Ticket) ∷ (codes "nonce", pools.Nonce) ∷ []) w
+
+pool_again : (pool : Pool) → pool_in (pool_word pool) ≡ Ok pool
+pool_again pools.Ticket = refl
+pool_again pools.Nonce = refl
+
+abbrev lease_line : List (List ℕ) → Reading ReportLine
+lease_line (p ∷ c ∷ ws) = do
+  pool ← pool_in p
+  count ← number_in c
+  marked_in (calls.Lease pool count) ws
+lease_line other = Err Word
+
+abbrev settle_line : List (List ℕ) → Reading ReportLine
+settle_line (t ∷ o ∷ s ∷ m ∷ ws) = do
+  ticket ← number_in t
+  old_spir ← spi_in_word o
+  spir ← spi_in_word s
+  member ← number_in m
+  marked_in (calls.Settle ticket old_spir spir member) ws
+settle_line other = Err Word
+
+abbrev look_line : List (List ℕ) → Reading ReportLine
+look_line (t ∷ ws) = number_in t >>= (λ ticket. marked_in (calls.Look ticket) ws)
+look_line other = Err Word
+
 abbrev pub keep_in : List (List ℕ) → Reading ReportLine
 keep_in [] = Err Word
 keep_in (w ∷ ws) =
     if bytes_eq w (codes "enter") then enter_line ws
     else if bytes_eq w (codes "take-over") then take_over_line ws
     else if bytes_eq w (codes "cover") then cover_line ws
+    else if bytes_eq w (codes "lease") then lease_line ws
+    else if bytes_eq w (codes "settle") then settle_line ws
+    else if bytes_eq w (codes "look") then look_line ws
     else Err Word
 
 pub keep_again : (ask : PlainAsk) (lost : Bool) (answer : PlainAnswer) → FitsAsk ask → FitsAnswer answer → keep_in (ask_words ask ++ (lost_words lost ++ answer_words answer)) ≡ Ok (KeepLine ask lost answer)
@@ -87,3 +121,7 @@ keep_again (calls.Enter spir) lost answer fits told = rw (spi_again spir fits) (
 keep_again (calls.TakeOver spir member) lost answer fits told = rw (spi_again spir fits.0, number_again member fits.1) (marked_again _ lost answer told)
 keep_again (calls.Cover spir counter child epoch upto) lost answer fits told =
     rw (spi_again spir fits.0, counter_again counter, number_again child fits.1, number_again epoch fits.2, number_again upto fits.3) (marked_again _ lost answer told)
+keep_again (calls.Lease pool count) lost answer fits told = rw (pool_again pool, number_again count fits) (marked_again _ lost answer told)
+keep_again (calls.Settle ticket old_spir spir member) lost answer fits told =
+    rw (number_again ticket fits.0, spi_again old_spir fits.1, spi_again spir fits.2, number_again member fits.3) (marked_again _ lost answer told)
+keep_again (calls.Look ticket) lost answer fits told = rw (number_again ticket fits) (marked_again _ lost answer told)

@@ -34,10 +34,15 @@ FitsAsk (calls.Enter spir) = IsReportNumber spir
 FitsAsk (calls.TakeOver spir member) = IsReportNumber spir × IsReportNumber member
 FitsAsk (calls.Cover spir counter child epoch upto) =
     IsReportNumber spir × IsReportNumber child × IsReportNumber epoch × IsReportNumber upto
+FitsAsk (calls.Lease pool count) = IsReportNumber count
+FitsAsk (calls.Settle ticket old_spir spir member) =
+    IsReportNumber ticket × IsReportNumber old_spir × IsReportNumber spir × IsReportNumber member
+FitsAsk (calls.Look ticket) = IsReportNumber ticket
 
 abbrev pub FitsAnswer : PlainAnswer → Type 0
 FitsAnswer answers.Done = Unit {0}
 FitsAnswer (answers.Taken epoch bases) = IsReportNumber epoch × AreReportBases bases
+FitsAnswer (answers.Number number) = IsReportNumber number
 FitsAnswer answers.Failed = Unit {0}
 FitsAnswer (answers.Replaced epoch) = IsReportNumber epoch
 FitsAnswer answers.Unknown = Unit {0}

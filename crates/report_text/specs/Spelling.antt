@@ -7,6 +7,8 @@ use Rattle.ha_base.specs.declared.esp_outcomes.EspDrop.{EspDrop}
 use Rattle.ha_base.specs.declared.esp_outcomes.EspDrop.TheVariants as drops
 use Rattle.keeper_book.specs.declared.counters.Counter.{Counter}
 use Rattle.keeper_book.specs.declared.counters.Counter.TheVariants as counters
+use Rattle.keeper_book.specs.declared.pools.Pool.{Pool}
+use Rattle.keeper_book.specs.declared.pools.Pool.TheVariants as pools
 use Rattle.events.specs.declared.verdict.Refusal.{Refusal}
 use Rattle.events.specs.declared.verdict.Refusal.TheVariants as refusals
 use Rattle.events.specs.FieldWords.{five_words, medium_word}
@@ -32,16 +34,25 @@ counter_word counters.Iv = codes "iv"
 counter_word counters.Ask = codes "ask"
 counter_word counters.Answer = codes "answer"
 
+abbrev pub pool_word : Pool → List ℕ
+pool_word pools.Ticket = codes "ticket"
+pool_word pools.Nonce = codes "nonce"
+
 abbrev pub ask_words : PlainAsk → List (List ℕ)
 ask_words (calls.Enter spir) = codes "enter" ∷ spi_text spir ∷ []
 ask_words (calls.TakeOver spir member) = codes "take-over" ∷ spi_text spir ∷ decimal member ∷ []
 ask_words (calls.Cover spir counter child epoch upto) =
     codes "cover" ∷ spi_text spir ∷ counter_word counter
     ∷ decimal child ∷ decimal epoch ∷ decimal upto ∷ []
+ask_words (calls.Lease pool count) = codes "lease" ∷ pool_word pool ∷ decimal count ∷ []
+ask_words (calls.Settle ticket old_spir spir member) =
+    codes "settle" ∷ decimal ticket ∷ spi_text old_spir ∷ spi_text spir ∷ decimal member ∷ []
+ask_words (calls.Look ticket) = codes "look" ∷ decimal ticket ∷ []
 
 abbrev pub answer_words : PlainAnswer → List (List ℕ)
 answer_words answers.Done = codes "ok" ∷ []
 answer_words (answers.Taken epoch bases) = codes "ok" ∷ decimal epoch ∷ five_words bases
+answer_words (answers.Number number) = codes "ok" ∷ decimal number ∷ []
 answer_words answers.Failed = codes "failed" ∷ []
 answer_words (answers.Replaced epoch) = codes "replaced" ∷ decimal epoch ∷ []
 answer_words answers.Unknown = codes "unknown" ∷ []

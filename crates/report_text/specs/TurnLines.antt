@@ -1,5 +1,5 @@
 -- The lines of a turn. What no report has, has no line.
-use Rattle.std.specs.Prelude.{ℕ, List, [], ◌∷◌, ◌++◌, Option, Some, None}
+use Rattle.std.specs.Prelude.{ℕ, Bool, true, false, List, [], ◌∷◌, ◌++◌, Option, Some, None}
 use Rattle.std.specs.Option.{option_map}
 use Rattle.std.specs.List.{flat_map}
 use Rattle.std.specs.Prelude.{option_to_list}
@@ -46,6 +46,10 @@ plain_ask (calls.Enter sa) = Some (plain_asks.Enter sa.spir)
 plain_ask (calls.TakeOver spir member) = Some (plain_asks.TakeOver spir member)
 plain_ask (calls.Cover spir kind child epoch upto) =
     plain_cover spir (counter_of_kind kind) child epoch upto
+plain_ask (calls.Lease pool count) = Some (plain_asks.Lease pool count)
+plain_ask (calls.Settle ticket old_spir sa member) =
+    Some (plain_asks.Settle ticket old_spir sa.spir member)
+plain_ask (calls.Look ticket) = Some (plain_asks.Look ticket)
 
 -- Want of memory is no answer that a turn has: the turn itself ends with it.
 abbrev pub plain_fault : KeeperFault → Option PlainAnswer
@@ -58,9 +62,16 @@ plain_fault (faults.Full limit) = Some (plain_answers.Full limit)
 plain_fault faults.SpiInUse = Some plain_answers.SpiInUse
 plain_fault faults.Memory = None
 
+-- whether a ticket is spent, as a number
+abbrev pub spent_number : Bool → ℕ
+spent_number true = 1
+spent_number false = 0
+
 abbrev pub plain_answer : KeeperAnswer → Option PlainAnswer
 plain_answer answers.Done = Some plain_answers.Done
 plain_answer (answers.Taken taken) = Some (plain_answers.Taken taken.epoch taken.bases)
+plain_answer (answers.First first) = Some (plain_answers.Number first)
+plain_answer (answers.Look is_spent) = Some (plain_answers.Number (spent_number is_spent))
 plain_answer (answers.Refused fault) = plain_fault fault
 
 abbrev pub keep_line_of : Option PlainAsk → Call → Option PlainAnswer → Option ReportLine

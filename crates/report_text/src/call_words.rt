@@ -2,13 +2,14 @@
 
 ghost use Rattle.std.specs.Prelude.{◌≡◌, ◌∷◌, ◌++◌, OnOk};
 ghost use Rattle.line_fields.specs.Writing.{with_words};
-ghost use Rattle.report_text.specs.Spelling.{answer_words, ask_words, counter_word, lost_words};
+ghost use Rattle.report_text.specs.declared.line.PlainAsk.TheVariants as calls;
+ghost use Rattle.report_text.specs.Spelling.{answer_words, ask_words, counter_word, lost_words, pool_word};
 
 use crate::event::put_five;
 use crate::line::{PlainAnswer, PlainAsk};
 use crate::named::put_named_number;
 use ha_base::{Memory, Octets};
-use keeper_book::Counter;
+use keeper_book::{Counter, Pool};
 use std::alloc::Global;
 use word_text::{put_number, put_spi, put_word};
 
@@ -22,6 +23,33 @@ fn counter_word(counter: Counter) -> &'static [u8]
         Counter::Ask => b"ask",
         Counter::Answer => b"answer",
     }
+}
+
+fn pool_word(pool: Pool) -> &'static [u8]
+    ensures { result.now ≡ pool_word pool }
+{
+    match pool {
+        Pool::Ticket => b"ticket",
+        Pool::Nonce => b"nonce",
+    }
+}
+
+fn put_settle(
+    alloc: Global,
+    out: &mut Octets,
+    ticket: u64,
+    old_spir: u64,
+    spir: u64,
+    member: u32,
+) -> Result<(), Memory>
+    ensures { OnOk result (out.new.octets ≡ with_words out.old.octets
+        (ask_words (calls.Settle ticket old_spir spir member))) }
+{
+    put_word(out, b"settle")?;
+    put_number(alloc, out, ticket)?;
+    put_spi(alloc, out, old_spir)?;
+    put_spi(alloc, out, spir)?;
+    put_number(alloc, out, u64::from(member))
 }
 
 fn put_ask(alloc: Global, out: &mut Octets, ask: &PlainAsk) -> Result<(), Memory>
@@ -51,6 +79,18 @@ fn put_ask(alloc: Global, out: &mut Octets, ask: &PlainAsk) -> Result<(), Memory
             put_number(alloc, out, *epoch)?;
             put_number(alloc, out, *upto)
         }
+        PlainAsk::Lease { pool, count } => {
+            put_word(out, b"lease")?;
+            put_word(out, pool_word(*pool))?;
+            put_number(alloc, out, *count)
+        }
+        PlainAsk::Settle {
+            ticket,
+            old_spir,
+            spir,
+            member,
+        } => put_settle(alloc, out, *ticket, *old_spir, *spir, *member),
+        PlainAsk::Look { ticket } => put_named_number(alloc, out, b"look", *ticket),
     }
 }
 
@@ -63,6 +103,7 @@ fn put_answer(alloc: Global, out: &mut Octets, answer: &PlainAnswer) -> Result<(
             put_named_number(alloc, out, b"ok", *epoch)?;
             put_five(alloc, out, bases)
         }
+        PlainAnswer::Number(number) => put_named_number(alloc, out, b"ok", *number),
         PlainAnswer::Failed => put_word(out, b"failed"),
         PlainAnswer::Replaced(epoch) => put_named_number(alloc, out, b"replaced", *epoch),
         PlainAnswer::Unknown => put_word(out, b"unknown"),

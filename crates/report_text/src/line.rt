@@ -2,7 +2,7 @@
 
 use events::{Event, Medium, Verdict};
 use ha_base::{Derivation, Moment};
-use keeper_book::{Counter, Five};
+use keeper_book::{Counter, Five, Pool};
 
 /// What was sealed, and by which end.
 #[derive(Clone, Copy)]
@@ -50,15 +50,35 @@ pub enum PlainAsk {
         epoch: u64,
         upto: u64,
     },
+    /// For so many numbers of a pool.
+    Lease {
+        pool: Pool,
+        count: u64,
+    },
+    /// To spend a ticket, and to add the association with the new responder's SPI in place of the
+    /// one with the old SPI, for a member.
+    Settle {
+        ticket: u64,
+        old_spir: u64,
+        spir: u64,
+        member: u32,
+    },
+    /// Whether a ticket is spent.
+    Look {
+        ticket: u64,
+    },
 }
 
 /// What a keeper answered, by the fields of its line alone.
 #[derive(Clone, Copy)]
 pub enum PlainAnswer {
-    /// An association was added, or a high raised.
+    /// An association was added, a high raised, or a ticket spent.
     Done,
     /// An epoch began, with its bases.
     Taken { epoch: u64, bases: Five },
+    /// The first number of a range that was leased; or 1 where a ticket is spent, and 0 where it is
+    /// not.
+    Number(u64),
     /// The call failed.
     Failed,
     /// Another epoch had begun: the epoch in the book.

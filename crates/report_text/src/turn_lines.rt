@@ -3,7 +3,7 @@
 ghost use Rattle.std.specs.Prelude.{◌≡◌};
 ghost use Rattle.std.specs.Option.{option_map};
 ghost use Rattle.report_text.specs.Lines.{plain_line};
-ghost use Rattle.report_text.specs.TurnLines.{keep_line, key_origin, part_of, plain_answer, plain_ask, plain_fault, seal_line};
+ghost use Rattle.report_text.specs.TurnLines.{keep_line, key_origin, part_of, plain_answer, plain_ask, plain_fault, seal_line, spent_number};
 
 use crate::line::{KeyOrigin, Line, Part, PlainAnswer, PlainAsk};
 use events::Seal;
@@ -35,7 +35,30 @@ pub(crate) fn plain_ask(ask: &KeeperAsk) -> Option<PlainAsk>
                 upto: *upto,
             })
         }
+        KeeperAsk::Lease { pool, count } => Some(PlainAsk::Lease {
+            pool: *pool,
+            count: *count,
+        }),
+        KeeperAsk::Settle {
+            ticket,
+            old_spir,
+            sa,
+            member,
+        } => Some(PlainAsk::Settle {
+            ticket: *ticket,
+            old_spir: *old_spir,
+            spir: sa.spir,
+            member: *member,
+        }),
+        KeeperAsk::Look { ticket } => Some(PlainAsk::Look { ticket: *ticket }),
     }
+}
+
+// a spent ticket is 1
+fn spent_number(is_spent: bool) -> u64
+    ensures { result ≡ spent_number is_spent }
+{
+    if is_spent { 1 } else { 0 }
 }
 
 fn plain_fault(fault: KeeperFault) -> Option<PlainAnswer>
@@ -62,6 +85,8 @@ pub(crate) fn plain_answer(answer: &KeeperAnswer) -> Option<PlainAnswer>
             epoch: taken.epoch,
             bases: taken.bases,
         }),
+        KeeperAnswer::First(first) => Some(PlainAnswer::Number(*first)),
+        KeeperAnswer::Look(is_spent) => Some(PlainAnswer::Number(spent_number(*is_spent))),
         KeeperAnswer::Refused(fault) => plain_fault(*fault),
     }
 }

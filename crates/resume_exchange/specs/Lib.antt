@@ -5,3 +5,4 @@ pub mod Usable
 pub mod Judgements
 pub mod Parts
 pub mod Auth
+pub mod Lots

@@ -10,6 +10,7 @@
 mod auth;
 mod half_opens;
 mod judging;
+mod lots;
 mod offers;
 mod parts;
 mod request;
@@ -18,6 +19,7 @@ mod usable;
 pub use auth::{AuthJudged, ID_BODY_OCTETS, judge_auth};
 pub use half_opens::{HALF_OPEN_AGE, HalfOpen, HalfOpens, MAX_HALF_OPENS};
 pub use judging::Judged;
+pub use lots::{LEASED_NUMBERS, draw_pooled};
 pub use offers::{ESP, LEAST_CHILD_SPI, first_fit};
 pub use parts::SHARED_KEY;
 pub use request::{NONCE_OCTETS, presented};

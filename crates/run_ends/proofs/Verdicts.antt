@@ -117,6 +117,8 @@ takes-proper spir member calls step quietly = go calls quietly.follows
   where
     granted : (answered : KeeperAnswer) → Grants spir answered step.verdict → IsOfEnd step.verdict
     granted answer.Done g = absurd g
+    granted (answer.First first) g = absurd g
+    granted (answer.Look spent) g = absurd g
     granted (answer.Taken taken) g = of-verdict step.verdict (out.Owned taken.epoch taken.bases) (record { no_join = refl; heard = refl }) g.1
     granted (answer.Refused why) g = keeper-refused (refusal_of_takeover why) step.verdict (takeover-own why) g
 
@@ -131,6 +133,8 @@ enters-proper sa calls step quietly = go calls quietly.follows
     admitted : (answered : KeeperAnswer) → Admits answered step.verdict → IsOfEnd step.verdict
     admitted answer.Done a = of-verdict step.verdict out.Entered (record { no_join = refl; heard = refl }) a
     admitted (answer.Taken taken) a = absurd a
+    admitted (answer.First first) a = absurd a
+    admitted (answer.Look spent) a = absurd a
     admitted (answer.Refused why) a = keeper-refused (refusal_of_import why) step.verdict (import-own why) a
 
     go : (calls : List Call) → EntersRecord sa calls step.verdict → IsProper calls step

@@ -30,6 +30,8 @@ use Rattle.turn_rules.specs.Slots.{peer_counter}
 admits-idle : (answered : KeeperAnswer) (verdict : Verdict) → Admits answered verdict → IsIdle verdict
 admits-idle answer.Done verdict a = subst (λ v. IsIdle v) (sym a) tt
 admits-idle (answer.Taken taken) verdict a = absurd a
+admits-idle (answer.First first) verdict a = absurd a
+admits-idle (answer.Look spent) verdict a = absurd a
 admits-idle (answer.Refused why) verdict a = go (refusal_of_import why) a
   where
     go : (x : Option Refusal) → MatchOption x ⊥ (λ r. verdict ≡ out.Refused r) → IsIdle verdict
@@ -40,6 +42,8 @@ admits-idle (answer.Refused why) verdict a = go (refusal_of_import why) a
 admits-entry : (sa : Record) (answered : KeeperAnswer) (verdict : Verdict) → Admits answered verdict → entered_as (ask.Enter sa) answered ≡ record_entered (event.Import sa) verdict
 admits-entry sa answer.Done verdict a = sym (ap (λ v. record_entered (event.Import sa) v) a)
 admits-entry sa (answer.Taken taken) verdict a = absurd a
+admits-entry sa (answer.First first) verdict a = absurd a
+admits-entry sa (answer.Look spent) verdict a = absurd a
 admits-entry sa (answer.Refused why) verdict a = go (refusal_of_import why) a
   where
     go : (x : Option Refusal) → MatchOption x ⊥ (λ r. verdict ≡ out.Refused r) → None ≡ record_entered (event.Import sa) verdict
@@ -54,6 +58,8 @@ refused-entry event why = refl
 
 grants-idle : (spir : ℕ) (answered : KeeperAnswer) (verdict : Verdict) → Grants spir answered verdict → IsIdle verdict
 grants-idle spir answer.Done verdict g = absurd g
+grants-idle spir (answer.First first) verdict g = absurd g
+grants-idle spir (answer.Look spent) verdict g = absurd g
 grants-idle spir (answer.Taken taken) verdict g = subst (λ v. IsIdle v) (sym g.1) tt
 grants-idle spir (answer.Refused why) verdict g = go (refusal_of_takeover why) g
   where
@@ -64,6 +70,8 @@ grants-idle spir (answer.Refused why) verdict g = go (refusal_of_takeover why) g
 -- a takeover grants the record that was asked for
 grants-record : (spir member : ℕ) (answered : KeeperAnswer) (verdict : Verdict) → Grants spir answered verdict → (other : ℕ) (taken : Taken) → granted other (ask.TakeOver spir member) answered ≡ Some taken → taken.sa.spir ≡ other
 grants-record spir member answer.Done verdict g other taken is = absurd g
+grants-record spir member (answer.First first) verdict g other taken is = absurd g
+grants-record spir member (answer.Look spent) verdict g other taken is = absurd g
 grants-record spir member (answer.Refused why) verdict g other taken is = absurd (cc)
 grants-record spir member (answer.Taken t) verdict g other taken is = by_test (spir == other) refl is
   where

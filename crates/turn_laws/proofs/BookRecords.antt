@@ -3,7 +3,7 @@ use Rattle.std.proofs.Common.{◌≡◌, ℕ, ◌==◌, Bool, true, false, Optio
 use Rattle.std.proofs.lemmas.Bool.{eqb-true}
 use Rattle.std.proofs.lemmas.Option.{same_Some}
 use Rattle.std.specs.Option.{option_map}
-use Rattle.keeper_book.specs.Book.{Answers, Book, Entry, book_entered, entry_of, fresh, raised_at, taken_over}
+use Rattle.keeper_book.specs.Book.{Answers, Book, Entry, book_entered, closed, entry_of, fresh, raised_at, settled, taken_over}
 use Rattle.keeper_book.specs.Counters.{counter_named}
 use Rattle.keeper_book.specs.declared.calls.KeeperAnswer.{KeeperAnswer}
 use Rattle.keeper_book.specs.declared.calls.KeeperAsk.{KeeperAsk}
@@ -27,6 +27,9 @@ abbrev pub record_after : ℕ → KeeperAsk → Option Record → Option Record
 record_after spir (ask.Enter sa) old = first_some old (if sa.spir == spir then Some sa else None)
 record_after spir (ask.TakeOver asked member) old = old
 record_after spir (ask.Cover asked kind child epoch upto) old = old
+record_after spir (ask.Lease pool count) old = old
+record_after spir (ask.Settle ticket asked sa member) old = first_some old (if sa.spir == spir then Some sa else None)
+record_after spir (ask.Look ticket) old = old
 
 pub record-entered : (spir : ℕ) (asked : KeeperAsk) (x : Option Entry) → record_in (entry_after spir asked x) ≡ record_after spir asked (record_in x)
 record-entered spir (ask.Enter sa) (Some e) = refl
@@ -48,6 +51,17 @@ record-entered spir (ask.Cover asked kind child epoch upto) x = by_test (asked =
     by_test true None (Some e) = refl
     by_test true (Some c) (Some e) = refl
     by_test false named x = refl
+record-entered spir (ask.Lease pool count) x = refl
+record-entered spir (ask.Settle ticket asked sa member) x = by_test (asked == spir) (sa.spir == spir) x
+  where
+    by_test : (b d : Bool) (x : Option Entry) → record_in (first_some (if b then option_map closed x else x) (if d then Some (settled sa member) else None)) ≡ first_some (record_in x) (if d then Some sa else None)
+    by_test true true None = refl
+    by_test true false None = refl
+    by_test false true None = refl
+    by_test false false None = refl
+    by_test true d (Some e) = refl
+    by_test false d (Some e) = refl
+record-entered spir (ask.Look ticket) x = refl
 
 module _ (old : Book) where
   -- the record that was there, or the new one
@@ -67,6 +81,9 @@ module _ (old : Book) where
   kept-after (ask.Enter sa) spir r is = ap (λ x. first_some x (if sa.spir == spir then Some sa else None)) is
   kept-after (ask.TakeOver asked member) spir r is = is
   kept-after (ask.Cover asked kind child epoch upto) spir r is = is
+  kept-after (ask.Lease pool count) spir r is = is
+  kept-after (ask.Settle ticket asked sa member) spir r is = ap (λ x. first_some x (if sa.spir == spir then Some sa else None)) is
+  kept-after (ask.Look ticket) spir r is = is
 
   module _ (new : Book) (asked : KeeperAsk) (answered : KeeperAnswer) (answers : Answers old asked answered new) where
     pub records-after : new ≡ book_entered old asked → (spir : ℕ) → record_of new spir ≡ record_after spir asked (record_of old spir)
@@ -85,6 +102,7 @@ module _ (old : Book) where
   -- and still is, where what is entered may be
   abbrev pub MayEnter : KeeperAsk → Type 0
   MayEnter (ask.Enter sa) = IsImport sa
+  MayEnter (ask.Settle ticket asked sa member) = ⊥
   MayEnter asked = Unit {0}
 
   imports-after : (asked : KeeperAsk) → MayEnter asked → AreImports old → (spir : ℕ) (r : Record) → record_after spir asked (record_of old spir) ≡ Some r → IsImport r
@@ -95,6 +113,9 @@ module _ (old : Book) where
       go (IsNow at same) = subst (λ x. IsImport x) same may
   imports-after (ask.TakeOver asked member) may imports spir r is = imports spir r is
   imports-after (ask.Cover asked kind child epoch upto) may imports spir r is = imports spir r is
+  imports-after (ask.Lease pool count) may imports spir r is = imports spir r is
+  imports-after (ask.Settle ticket asked sa member) may imports spir r is = absurd may
+  imports-after (ask.Look ticket) may imports spir r is = imports spir r is
 
   pub imports-kept : (new : Book) (asked : KeeperAsk) (answered : KeeperAnswer) → Answers old asked answered new → MayEnter asked → AreImports old → AreImports new
   imports-kept new asked answered answers may imports = ⊎_elim

@@ -5,9 +5,10 @@ use Rattle.std.proofs.lemmas.Bool.{eqb-true, or_parts, eq-eqb}
 use Rattle.std.proofs.lemmas.List.{length-map}
 use Rattle.std.specs.List.{list_any}
 use Rattle.std.specs.Option.{option_map}
-use Rattle.keeper_book.specs.Book.{Answers, Book, Entry, book_after, cover_refusal, enter_refusal, book_entered, entry_of, fresh, entry_raised, raised_at, refusal, shares_spi, takeover_answer, taken_over, unless_refused, when}
+use Rattle.keeper_book.specs.Book.{Answers, Book, Entry, book_after, book_entered, cover_refusal, enter_refusal, entry_of, entry_raised, fresh, pool_next, raised_at, refusal, shares_spi, taken_over, takeover_answer, unless_refused, when}
 use Rattle.keeper_book.specs.CounterEnds.{end_of}
 use Rattle.keeper_book.specs.Counters.{five_at}
+use Rattle.keeper_book.specs.Pools.{pool_end}
 use Rattle.keeper_book.specs.declared.TheConstants.{MAX_ASSOCIATIONS}
 use Rattle.keeper_book.specs.declared.calls.KeeperAnswer.{KeeperAnswer}
 use Rattle.keeper_book.specs.declared.calls.KeeperAnswer.TheVariants as answer
@@ -18,13 +19,13 @@ use Rattle.keeper_book.specs.declared.faults.KeeperFault.{KeeperFault}
 use Rattle.keeper_book.specs.declared.faults.KeeperFault.TheVariants as fault
 use Rattle.keeper_book.specs.declared.records.Record.{Record}
 use Rattle.keeper_book.specs.declared.records.Taken.{Taken}
-use Rattle.turn_laws.proofs.Columns.{goes_on-refl, mark-high}
+use Rattle.turn_laws.proofs.Columns.{goes_on-higher, goes_on-refl, mark-high}
 use Rattle.turn_laws.proofs.Entries.{IsFreeFor, entry_after, entry-entered, five_at-with_five, goes_on-ours, is_counter-same, new-taken_over}
 use Rattle.turn_laws.specs.Acts.{holding_begun}
 use Rattle.turn_laws.specs.Columns.{Column, ColumnGoesOn, IsRising, column_mark}
 use Rattle.turn_laws.specs.Holdings.{IsNew}
 use Rattle.turn_laws.proofs.Pools.{pool-entered}
-use Rattle.turn_laws.specs.Places.{Ours, Place, Pooled, Theirs, column, column_ours, pool_end}
+use Rattle.turn_laws.specs.Places.{Ours, Place, Pooled, Theirs, column, column_ours}
 use Rattle.turn_rules.specs.Held.{first_some}
 
 -- the book is as it was, or has the entry of a call that is not refused
@@ -53,7 +54,7 @@ module _ (old : Book) (asked : KeeperAsk) where
   column-entered : (p : Place) (begun : Column) → IsFree p asked begun → IsRising (column p begun old) → ColumnGoesOn (column p begun old) (column p begun (book_entered old asked))
   column-entered (Ours spir c) begun free rising = subst (λ o. ColumnGoesOn (column (Ours spir c) begun old) (column_ours c begun o)) (sym (entry-entered spir old asked)) (goes_on-ours c begun spir asked free (entry_of spir old.entries) rising)
   column-entered (Theirs name) begun free rising = goes_on-refl begun rising
-  column-entered (Pooled q) begun free rising = subst (λ n. ColumnGoesOn (column (Pooled q) begun old) (record { bases = begun.bases; high = n; end = pool_end q })) (sym (pool-entered q old asked)) (goes_on-refl (column (Pooled q) begun old) rising)
+  column-entered (Pooled q) begun free rising = goes_on-higher (column (Pooled q) begun old) (pool_next q (book_entered old asked)) rising (pool-entered q old asked)
 
 -- Whatever a call is answered, every column goes on.
 pub column-goes_on : (old new : Book) (asked : KeeperAsk) (answered : KeeperAnswer) → Answers old asked answered new → (p : Place) (begun : Column) → IsFree p asked begun → IsRising (column p begun old) → ColumnGoesOn (column p begun old) (column p begun new)

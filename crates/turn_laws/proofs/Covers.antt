@@ -20,6 +20,8 @@ module _ (R : List Call → Type 0) (r : Reach) (at : ℕ) (stops : Stop → Lis
   answered-calls : (answered : KeeperAnswer) (rest : List Call) → Answered answered (λ why. stops why rest) (goes (cover_of r at) rest) → R rest
   answered-calls answer.Done rest a = gone (cover_of r at) rest a
   answered-calls (answer.Taken taken) rest a = absurd a
+  answered-calls (answer.First first) rest a = absurd a
+  answered-calls (answer.Look spent) rest a = absurd a
   answered-calls (answer.Refused why) rest a = go (stop_of why) a
     where
       go : (x : Option Stop) → MatchOption x ⊥ (λ why. stops why rest) → R rest
@@ -43,6 +45,8 @@ module _ (r : Reach) (at : ℕ) (stops now : Stop → List Call → Type 0) (goe
   answered-as : (answered : KeeperAnswer) (rest : List Call) → Answered answered (λ why. stops why rest) (goes (cover_of r at) rest) → Answered answered (λ why. now why rest) (then_ (cover_of r at) rest)
   answered-as answer.Done rest a = gone (cover_of r at) rest a
   answered-as (answer.Taken taken) rest a = a
+  answered-as (answer.First first) rest a = a
+  answered-as (answer.Look spent) rest a = a
   answered-as (answer.Refused why) rest a = go (stop_of why) a
     where
       go : (x : Option Stop) → MatchOption x ⊥ (λ why. stops why rest) → MatchOption x ⊥ (λ why. now why rest)

@@ -10,6 +10,7 @@ use Rattle.ha_base.specs.declared.counter_names.CounterName.{CounterName}
 use Rattle.keeper_book.specs.Book.{Book}
 use Rattle.keeper_book.specs.CounterEnds.{end_of}
 use Rattle.keeper_book.specs.Counters.{AreWithinEnds, counter_named, five_at}
+use Rattle.keeper_book.specs.Pools.{pool_end}
 use Rattle.keeper_book.specs.Told.{AreAnswers, IsAnswerOf, seen}
 use Rattle.keeper_book.specs.declared.calls.Call.{Call}
 use Rattle.keeper_book.specs.declared.calls.KeeperAnswer.{KeeperAnswer}
@@ -19,6 +20,8 @@ use Rattle.keeper_book.specs.declared.calls.KeeperAsk.TheVariants as ask
 use Rattle.keeper_book.specs.declared.counters.Counter.{Counter}
 use Rattle.keeper_book.specs.declared.counters.Counter.TheVariants as counter
 use Rattle.keeper_book.specs.declared.faults.KeeperFault.TheVariants as fault
+use Rattle.keeper_book.specs.declared.pools.Pool.{Pool}
+use Rattle.keeper_book.specs.declared.pools.Pool.TheVariants as pools
 use Rattle.keeper_book.specs.declared.records.Record.{Record}
 use Rattle.keeper_book.specs.declared.records.Taken.{Taken}
 use Rattle.turn_laws.proofs.Acting.{MayDoMoves, moves_onto}
@@ -31,7 +34,7 @@ use Rattle.turn_laws.proofs.Safety.{begun-is, failed_effect, is_place-true, name
 use Rattle.turn_laws.specs.Acts.{Act, Calls, Ends, HoldsFor, Leaps, Leases, MayAsk, MayCover, MayDo, Move, Opens, Seals, Starts, Uses, act_by, begun_at, begun_leased, begun_named, begun_open, begun_started, effect_begun, effect_of, effect_of_call, effect_of_open, effect_of_use, effect_ours, end_at, half_begun, holding_at, lot_begun, numbers_at, uses_at}
 use Rattle.turn_laws.specs.Columns.{Column}
 use Rattle.turn_laws.specs.Holdings.{Passes, Actor, Begins, Draws, Effect, Half, Holding, Jumps, Nothing, Rises, Use, drawn, holding_after, is_actor, jumped_to, raised_to, use_end, uses_after}
-use Rattle.turn_laws.specs.Places.{NonceNumbers, NumberPool, Pooled, is_pool, pool_end, Ours, Place, Theirs, is_place, place_of}
+use Rattle.turn_laws.specs.Places.{Pooled, is_pool, Ours, Place, Theirs, is_place, place_of}
 use Rattle.turn_laws.specs.Turns.{actor_of, acts_of, key_iv, moves_of, uses_of}
 use Rattle.turn_rules.specs.Held.{is_named, number_of}
 use Rattle.turn_rules.specs.Local.{Explained, Stands}
@@ -173,7 +176,7 @@ module _ (acts : List Act) (w : Actor) where
       by_test true = tt
       by_test false = tt
 
-  within-leased : (p : Place) (begun : Column) (pool : NumberPool) (first count : ℕ) (seen : Bool) → first + count ≤ pool_end pool → (h : Holding) → begun_leased p begun pool first count seen ≡ Some h → h.high ≤ h.end
+  within-leased : (p : Place) (begun : Column) (pool : Pool) (first count : ℕ) (seen : Bool) → first + count ≤ pool_end pool → (h : Holding) → begun_leased p begun pool first count seen ≡ Some h → h.high ≤ h.end
   within-leased (Ours spir c) begun pool first count seen below h is = absurd (cc)
   within-leased (Theirs name) begun pool first count seen below h is = absurd (cc)
   within-leased (Pooled q) begun pool first count false below h is = absurd (cc)
@@ -188,8 +191,8 @@ module _ (acts : List Act) (w : Actor) where
   within-started (Pooled q) sa h is = absurd (cc)
   within-started (Theirs name) sa h is = within-named name sa h is
 
-  ends-open : (p : Place) (sa : Record) → HoldsFor (holding_at (Pooled NonceNumbers) acts w) sa.spir → KeepsEnds (effect_of_open p w sa) (holding_at p acts)
-  ends-open (Pooled q) sa may = ends-use (Pooled q) (Pooled NonceNumbers) sa.spir may
+  ends-open : (p : Place) (sa : Record) → HoldsFor (holding_at (Pooled pools.Nonce) acts w) sa.spir → KeepsEnds (effect_of_open p w sa) (holding_at p acts)
+  ends-open (Pooled q) sa may = ends-use (Pooled q) (Pooled pools.Nonce) sa.spir may
   ends-open (Theirs name) sa may = tt
   ends-open (Ours spir c) sa may = ends-begun (Ours spir c) (Half sa.spir) (begun_open (Ours spir c) sa) (λ h is. subst (λ (x : Holding). x.high ≤ x.end) (sym (opened-is (Ours spir c) sa h is).is) (half-within sa))
 

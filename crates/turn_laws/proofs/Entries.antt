@@ -4,7 +4,7 @@ use Rattle.std.proofs.lemmas.Bool.{eqb-true, eqb-false}
 use Rattle.std.proofs.lemmas.List.{length-map, map-append}
 use Rattle.std.specs.Option.{option_map}
 use Rattle.keeper_book.proofs.EntryLemmas.{entry_of-edit_other, entry_of-edit_same}
-use Rattle.keeper_book.specs.Book.{Book, Entry, edit_at, book_entered, entry_of, fresh, entry_raised, raised_at, taken_over}
+use Rattle.keeper_book.specs.Book.{Book, Entry, book_entered, closed, edit_at, entry_of, entry_raised, fresh, raised_at, settled, taken_over}
 use Rattle.keeper_book.specs.CounterEnds.{end_of}
 use Rattle.keeper_book.specs.Counters.{counter_named, five_at, with_five}
 use Rattle.keeper_book.specs.declared.calls.KeeperAsk.{KeeperAsk}
@@ -26,6 +26,9 @@ abbrev pub entry_after : ℕ → KeeperAsk → Option Entry → Option Entry
 entry_after spir (ask.Enter sa) old = first_some old (if sa.spir == spir then Some (fresh sa) else None)
 entry_after spir (ask.TakeOver asked member) old = if asked == spir then option_map (taken_over member) old else old
 entry_after spir (ask.Cover asked kind child epoch upto) old = if asked == spir then option_map (raised_at (counter_named kind child) upto) old else old
+entry_after spir (ask.Lease pool count) old = old
+entry_after spir (ask.Settle ticket asked sa member) old = first_some (if asked == spir then option_map closed old else old) (if sa.spir == spir then Some (settled sa member) else None)
+entry_after spir (ask.Look ticket) old = old
 
 entry_of-append : (spir : ℕ) (es : List Entry) (x : Entry) → entry_of spir (es ++ x ∷ []) ≡ first_some (entry_of spir es) (if x.sa.spir == spir then Some x else None)
 entry_of-append spir [] x = refl
@@ -52,6 +55,11 @@ pub entry-entered : (spir : ℕ) (book : Book) (asked : KeeperAsk) → entry_of 
 entry-entered spir book (ask.Enter sa) = entry_of-append spir book.entries (fresh sa)
 entry-entered spir book (ask.TakeOver asked member) = edited_entry asked spir (taken_over member) (λ e. refl) book.entries
 entry-entered spir book (ask.Cover asked kind child epoch upto) = edited_entry asked spir (raised_at (counter_named kind child) upto) (raised_keeps (counter_named kind child) upto) book.entries
+entry-entered spir book (ask.Lease pool count) = refl
+entry-entered spir book (ask.Settle ticket asked sa member) =
+    entry_of-append spir (edit_at asked closed book.entries) (settled sa member)
+    ∙ ap (λ x. first_some x (if sa.spir == spir then Some (settled sa member) else None)) (edited_entry asked spir closed (λ e. refl) book.entries)
+entry-entered spir book (ask.Look ticket) = refl
 
 pub five_at-with_five : (d c : Counter) (n : ℕ) (five : Five) → five_at (with_five d n five) c ≡ (if is_counter d c then n else five_at five c)
 five_at-with_five counter.EspOut counter.EspOut n five = refl
@@ -124,6 +132,7 @@ module _ (c : Counter) where
   -- The cluster's column goes on, where nothing is half open under the SPI of what is entered.
   abbrev pub IsFreeFor : KeeperAsk → ℕ → Column → Type 0
   IsFreeFor (ask.Enter sa) spir begun = sa.spir ≡ spir → begun ≡ nothing
+  IsFreeFor (ask.Settle ticket asked sa member) spir begun = ⊥
   IsFreeFor asked spir begun = Unit {0}
 
   pub goes_on-ours : (begun : Column) (spir : ℕ) (asked : KeeperAsk) → IsFreeFor asked spir begun → (old : Option Entry) → IsRising (column_ours c begun old) → ColumnGoesOn (column_ours c begun old) (column_ours c begun (entry_after spir asked old))
@@ -145,6 +154,9 @@ module _ (c : Counter) where
       by_test false old rising = goes_on-refl (column_ours c begun old) rising
       by_test true None rising = goes_on-refl begun rising
       by_test true (Some e) rising = goes_on-raised (counter_named kind child) upto e rising
+  goes_on-ours begun spir (ask.Lease pool count) free old rising = goes_on-refl (column_ours c begun old) rising
+  goes_on-ours begun spir (ask.Settle ticket asked sa member) free old rising = absurd free
+  goes_on-ours begun spir (ask.Look ticket) free old rising = goes_on-refl (column_ours c begun old) rising
 
   -- the epoch that a takeover begins is held by nobody yet
   pub new-taken_over : (member : ℕ) (e : Entry) → IsNew (column_ours c nothing (Some e)) (column_ours c nothing (Some (taken_over member e))) (holding_begun c (record { epoch = length e.bases + 1; bases = e.highs; sa = e.sa }))

@@ -4,6 +4,8 @@ use Rattle.std.proofs.lemmas.Bool.Decides.{eqb_tells}
 use Rattle.std.specs.List.{AllByRecursion, Contains}
 use Rattle.keeper_book.specs.Book.{Book, Entry, entry_of}
 use Rattle.keeper_book.specs.declared.counters.Counter.TheVariants as counter
+use Rattle.keeper_book.specs.declared.pools.Pool.{Pool}
+use Rattle.keeper_book.specs.declared.pools.Pool.TheVariants as pools
 use Rattle.keeper_book.specs.declared.records.Record.{Record}
 use Rattle.turn_laws.proofs.Columns.{goes_on-first, goes_on-refl}
 use Rattle.turn_laws.proofs.Lists.{all-each}
@@ -12,7 +14,7 @@ use Rattle.turn_laws.specs.Acts.{Act, HoldsFor, IsHalfOpen, begun_at, column_at,
 use Rattle.turn_laws.specs.Columns.{Column, ColumnGoesOn, nothing}
 use Rattle.turn_laws.specs.Holdings.{Actor, Half, Holding, IsNotIn, IsOwned, MayUse, Run, Use}
 use Rattle.turn_laws.specs.Owned.{Owned}
-use Rattle.turn_laws.specs.Places.{NonceNumbers, Ours, Pooled, column_ours, place_of}
+use Rattle.turn_laws.specs.Places.{Ours, Pooled, column_ours, place_of}
 use Rattle.turn_rules.specs.Safe.{KeyIv}
 
 -- the next number was not used
@@ -63,8 +65,8 @@ module _ (acts : List Act) (book : Book) (owned : Owned acts book) where
       by_entry None e = refl
       by_entry (Some f) e = absurd (opened (recorded-nothing spir f e))
 
-  pub opened-drawn : (spir : ℕ) → begun_at (Ours spir counter.Iv) acts ≢ nothing → Contains (numbers_at (Pooled NonceNumbers) acts) spir
-  opened-drawn spir opened = ⊎_elim (λ none. absurd (opened (owned.opened spir counter.Iv none))) (λ has. has) (either (numbers_at (Pooled NonceNumbers) acts))
+  pub opened-drawn : (spir : ℕ) → begun_at (Ours spir counter.Iv) acts ≢ nothing → Contains (numbers_at (Pooled pools.Nonce) acts) spir
+  opened-drawn spir opened = ⊎_elim (λ none. absurd (opened (owned.opened spir counter.Iv none))) (λ has. has) (either (numbers_at (Pooled pools.Nonce) acts))
     where
       either : (ns : List ℕ) → IsNotIn spir ns ⊎ Contains ns spir
       either [] = inl tt

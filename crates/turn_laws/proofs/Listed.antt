@@ -10,24 +10,26 @@ use Rattle.events.specs.declared.turn.Turn.{Turn}
 use Rattle.events.specs.declared.verdict.Verdict.{Verdict}
 use Rattle.events.specs.declared.verdict.Verdict.TheVariants as out
 use Rattle.keeper_book.specs.declared.calls.Call.{Call}
+use Rattle.keeper_book.specs.declared.pools.Pool.{Pool}
+use Rattle.keeper_book.specs.declared.pools.Pool.TheVariants as pools
 use Rattle.keeper_book.specs.declared.records.Record.{Record}
 use Rattle.turn_laws.proofs.Acting.{moves_onto}
 use Rattle.turn_laws.proofs.Numbers.{begun-uses, call-uses}
 use Rattle.turn_laws.specs.Acts.{Act, Calls, Ends, Leaps, Leases, Move, Opens, Seals, Starts, Uses, act_by, begun_at, begun_leased, begun_open, begun_started, effect_of_open, effect_of_use, holding_at, numbers_at, uses_at}
 use Rattle.turn_laws.specs.Holdings.{Actor, Draws, Half, Holding, Jumps, Nothing, Use, uses_after}
 use Rattle.turn_laws.specs.Listed.{drawn_at, drew, ivs_at, listed_at, number_where, packet_at}
-use Rattle.turn_laws.specs.Places.{NonceNumbers, Ours, Place, Pooled, Theirs, is_place, place_of}
+use Rattle.turn_laws.specs.Places.{Ours, Place, Pooled, Theirs, is_place, place_of}
 use Rattle.turn_laws.specs.Turns.{actor_of, acts_of, drawn_by, end_moves, key_iv, moves_of, uses_of}
 use Rattle.turn_rules.specs.Safe.{accepted_as, accepted_in}
 use Rattle.turn_rules.specs.States.{ended_by}
 
 -- what gets half open uses a number of the nonces' pool
 abbrev number_opened : Place → Record → Option ℕ
-number_opened (Pooled q) sa = number_where (Pooled q) (Pooled NonceNumbers) sa.spir
+number_opened (Pooled q) sa = number_where (Pooled q) (Pooled pools.Nonce) sa.spir
 number_opened p sa = None
 
 open-number : (p : Place) (w : Actor) (sa : Record) (held : Actor → Option Holding) (us : List Use) → map (λ u. u.number) (uses_after (effect_of_open p w sa) held us) ≡ cons_option (number_opened p sa) (map (λ u. u.number) us)
-open-number (Pooled q) w sa held us = by_test (is_place (Pooled NonceNumbers) (Pooled q))
+open-number (Pooled q) w sa held us = by_test (is_place (Pooled pools.Nonce) (Pooled q))
   where
     by_test : (b : Bool) → map (λ u. u.number) (uses_after (if b then Draws w sa.spir else Nothing) held us) ≡ cons_option (if b then Some sa.spir else None) (map (λ u. u.number) us)
     by_test true = refl

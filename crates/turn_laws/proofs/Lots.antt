@@ -1,13 +1,14 @@
 -- Lots of a pool do not meet, and each number is drawn of one lot, once.
 use Rattle.std.proofs.Common.{◌≡◌, ℕ, ◌+◌, ◌-◌, ◌<◌, ◌≤◌, Bool, Some, List, [], ◌∷◌, length, map, arith}
 use Rattle.std.specs.List.{AllByRecursion}
-use Rattle.keeper_book.specs.Book.{Book}
+use Rattle.keeper_book.specs.Book.{Book, pool_next}
+use Rattle.keeper_book.specs.declared.pools.Pool.{Pool}
 use Rattle.turn_laws.proofs.Columns.{mark-top}
 use Rattle.turn_laws.specs.Acts.{Act, column_at, holding_at, numbers_at, uses_at}
 use Rattle.turn_laws.specs.Columns.{Column, IsRising, column_mark}
 use Rattle.turn_laws.specs.Holdings.{Actor, Holding, IsOwned, IsUseOf, Use}
 use Rattle.turn_laws.specs.Owned.{Owned}
-use Rattle.turn_laws.specs.Places.{NumberPool, Pooled, pool_next}
+use Rattle.turn_laws.specs.Places.{Pooled}
 
 -- the numbers of a column lie below its high
 pub all-below : (column : Column) → IsRising column → (us : List Use) → AllByRecursion (IsUseOf column) us → AllByRecursion (λ n. n < column.high) (map (λ u. u.number) us)
@@ -20,7 +21,7 @@ all-below column rising us all = go us all
       go us all.1,
     )
 
-module _ (acts : List Act) (book : Book) (owned : Owned acts book) (q : NumberPool) where
+module _ (acts : List Act) (book : Book) (owned : Owned acts book) (q : Pool) where
   abbrev its_column : Column
   its_column = column_at (Pooled q) acts book
 

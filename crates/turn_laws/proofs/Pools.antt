@@ -1,48 +1,54 @@
 -- A range that is leased keeps the numbers of its pool apart, whether or not its caller saw it.
 use Rattle.std.proofs.Common.{◌≡◌, ℕ, ◌+◌, ◌-◌, ◌<◌, ◌≤◌, Bool, true, false, Option, Some, None, List, [], ◌∷◌, ◌++◌, length, refl, ap, sym, ◌∙◌, subst, arith, if◌then◌else◌}
-use Rattle.keeper_book.specs.Book.{Book, Entry, book_entered}
+use Rattle.keeper_book.specs.Book.{Book, Entry, book_entered, pool_next, with_pool_next}
+use Rattle.keeper_book.specs.Pools.{pool_end}
 use Rattle.keeper_book.specs.declared.calls.KeeperAsk.{KeeperAsk}
 use Rattle.keeper_book.specs.declared.calls.KeeperAsk.TheVariants as ask
+use Rattle.keeper_book.specs.declared.pools.Pool.{Pool}
+use Rattle.keeper_book.specs.declared.pools.Pool.TheVariants as pools
 use Rattle.turn_laws.proofs.Columns.{goes_on-epoch, goes_on-higher, goes_on-refl, length-append_one, mark-high, mark-with_epoch, with_epoch}
 use Rattle.turn_laws.proofs.Holdings.{Keeps}
 use Rattle.turn_laws.specs.Acts.{begun_leased, effect_begun, lot_begun, with_begun}
 use Rattle.turn_laws.specs.Columns.{Column, ColumnGoesOn, IsRising, column_mark}
 use Rattle.turn_laws.specs.Holdings.{Actor, Begins, Holding, IsNew, column_begun}
-use Rattle.turn_laws.specs.Places.{NonceNumbers, NumberPool, Ours, Place, Pooled, Theirs, TicketNumbers, column, is_pool, pool_end, pool_next, with_pool_next}
+use Rattle.turn_laws.specs.Places.{Ours, Place, Pooled, Theirs, column, is_pool}
 
-pub is_pool-same : (p : NumberPool) → is_pool p p ≡ true
-is_pool-same TicketNumbers = refl
-is_pool-same NonceNumbers = refl
+pub is_pool-same : (p : Pool) → is_pool p p ≡ true
+is_pool-same pools.Ticket = refl
+is_pool-same pools.Nonce = refl
 
-pub is_pool-true : (p q : NumberPool) → is_pool p q ≡ true → p ≡ q
-is_pool-true TicketNumbers TicketNumbers e = refl
-is_pool-true NonceNumbers NonceNumbers e = refl
-is_pool-true TicketNumbers NonceNumbers e = absurd (cc)
-is_pool-true NonceNumbers TicketNumbers e = absurd (cc)
+pub is_pool-true : (p q : Pool) → is_pool p q ≡ true → p ≡ q
+is_pool-true pools.Ticket pools.Ticket e = refl
+is_pool-true pools.Nonce pools.Nonce e = refl
+is_pool-true pools.Ticket pools.Nonce e = absurd (cc)
+is_pool-true pools.Nonce pools.Ticket e = absurd (cc)
 
--- calls leave the pools
-pub pool-entered : (q : NumberPool) (book : Book) (asked : KeeperAsk) → pool_next q (book_entered book asked) ≡ pool_next q book
-pool-entered TicketNumbers book (ask.Enter sa) = refl
-pool-entered TicketNumbers book (ask.TakeOver spir member) = refl
-pool-entered TicketNumbers book (ask.Cover spir kind child epoch upto) = refl
-pool-entered NonceNumbers book (ask.Enter sa) = refl
-pool-entered NonceNumbers book (ask.TakeOver spir member) = refl
-pool-entered NonceNumbers book (ask.Cover spir kind child epoch upto) = refl
+-- no call lowers the next number of a pool
+pub pool-entered : (q : Pool) (book : Book) (asked : KeeperAsk) → pool_next q book ≤ pool_next q (book_entered book asked)
+pool-entered pools.Ticket book (ask.Lease pools.Ticket count) = omega arith
+pool-entered pools.Ticket book (ask.Lease pools.Nonce count) = omega arith
+pool-entered pools.Nonce book (ask.Lease pools.Ticket count) = omega arith
+pool-entered pools.Nonce book (ask.Lease pools.Nonce count) = omega arith
+pool-entered q book (ask.Enter sa) = omega arith
+pool-entered q book (ask.TakeOver spir member) = omega arith
+pool-entered q book (ask.Cover spir kind child epoch upto) = omega arith
+pool-entered q book (ask.Settle ticket old_spir sa member) = omega arith
+pool-entered q book (ask.Look ticket) = omega arith
 
 -- a lease changes the next number of its pool alone
-pub lease-entries : (pool : NumberPool) (n : ℕ) (book : Book) → (with_pool_next pool n book).entries ≡ book.entries
-lease-entries TicketNumbers n book = refl
-lease-entries NonceNumbers n book = refl
+pub lease-entries : (pool : Pool) (n : ℕ) (book : Book) → (with_pool_next pool n book).entries ≡ book.entries
+lease-entries pools.Ticket n book = refl
+lease-entries pools.Nonce n book = refl
 
-next-leased : (pool : NumberPool) (n : ℕ) (book : Book) → pool_next pool (with_pool_next pool n book) ≡ n
-next-leased TicketNumbers n book = refl
-next-leased NonceNumbers n book = refl
+next-leased : (pool : Pool) (n : ℕ) (book : Book) → pool_next pool (with_pool_next pool n book) ≡ n
+next-leased pools.Ticket n book = refl
+next-leased pools.Nonce n book = refl
 
-next-other : (pool q : NumberPool) (n : ℕ) (book : Book) → is_pool pool q ≡ false → pool_next q (with_pool_next pool n book) ≡ pool_next q book
-next-other TicketNumbers TicketNumbers n book e = absurd (cc)
-next-other TicketNumbers NonceNumbers n book e = refl
-next-other NonceNumbers TicketNumbers n book e = refl
-next-other NonceNumbers NonceNumbers n book e = absurd (cc)
+next-other : (pool q : Pool) (n : ℕ) (book : Book) → is_pool pool q ≡ false → pool_next q (with_pool_next pool n book) ≡ pool_next q book
+next-other pools.Ticket pools.Ticket n book e = absurd (cc)
+next-other pools.Ticket pools.Nonce n book e = refl
+next-other pools.Nonce pools.Ticket n book e = refl
+next-other pools.Nonce pools.Nonce n book e = absurd (cc)
 
 module _ (lots : List ℕ) (high end count : ℕ) (rising : IsRising (record { bases = lots; high = high; end = end })) where
   abbrev was : Column
@@ -92,7 +98,7 @@ module _ (lots : List ℕ) (high end count : ℕ) (rising : IsRising (record { b
     unused = refl;
   }
 
-module _ (held : Actor → Option Holding) (w : Actor) (begun : Column) (old new : Book) (pool : NumberPool) (first count : ℕ) (is_next : first ≡ pool_next pool old) (is : new ≡ with_pool_next pool (first + count) old) where
+module _ (held : Actor → Option Holding) (w : Actor) (begun : Column) (old new : Book) (pool : Pool) (first count : ℕ) (is_next : first ≡ pool_next pool old) (is : new ≡ with_pool_next pool (first + count) old) where
   -- the pool's next number afterwards
   next-is : pool_next pool new ≡ first + count
   next-is = ap (pool_next pool) is ∙ next-leased pool (first + count) old
@@ -106,10 +112,10 @@ module _ (held : Actor → Option Holding) (w : Actor) (begun : Column) (old new
       (lot-goes_on begun.bases (pool_next pool old) (pool_end pool) count rising, lot-new begun.bases (pool_next pool old) (pool_end pool) count rising))
 
   -- what its caller did not see leaves a gap, and other pools stay
-  goes-higher : (q : NumberPool) → IsRising (column (Pooled q) begun old) → pool_next q old ≤ pool_next q new → ColumnGoesOn (column (Pooled q) begun old) (column (Pooled q) begun new)
+  goes-higher : (q : Pool) → IsRising (column (Pooled q) begun old) → pool_next q old ≤ pool_next q new → ColumnGoesOn (column (Pooled q) begun old) (column (Pooled q) begun new)
   goes-higher q rising above = goes_on-higher (column (Pooled q) begun old) (pool_next q new) rising above
 
-  no-lower : (q : NumberPool) → pool_next q old ≤ pool_next q new
+  no-lower : (q : Pool) → pool_next q old ≤ pool_next q new
   no-lower q = by_test (is_pool pool q) refl
     where
       by_test : (b : Bool) → is_pool pool q ≡ b → pool_next q old ≤ pool_next q new
@@ -134,7 +140,7 @@ module _ (held : Actor → Option Holding) (w : Actor) (begun : Column) (old new
       by_test false t = goes-higher q rising (no-lower q)
 
 -- a lease gets no pool beyond its end
-pub lease-within : (old new : Book) (pool : NumberPool) (first count : ℕ) → first + count ≤ pool_end pool → new ≡ with_pool_next pool (first + count) old → (q : NumberPool) → pool_next q old ≤ pool_end q → pool_next q new ≤ pool_end q
+pub lease-within : (old new : Book) (pool : Pool) (first count : ℕ) → first + count ≤ pool_end pool → new ≡ with_pool_next pool (first + count) old → (q : Pool) → pool_next q old ≤ pool_end q → pool_next q new ≤ pool_end q
 lease-within old new pool first count within is q before = by_test (is_pool pool q) refl
   where
     by_test : (b : Bool) → is_pool pool q ≡ b → pool_next q new ≤ pool_end q

@@ -4,10 +4,10 @@ use Rattle.std.proofs.lemmas.Bool.{eqb-false, eqb-true, or_parts}
 use Rattle.std.proofs.lemmas.Option.{same_Some}
 use Rattle.std.specs.List.{AllByRecursion, list_any}
 use Rattle.std.specs.Prelude.{nat_le}
-use Rattle.keeper_book.specs.declared.TheConstants.{MAX_ASSOCIATIONS}
+use Rattle.keeper_book.specs.declared.TheConstants.{MAX_ASSOCIATIONS, MAX_SPENT_TICKETS}
 use Rattle.std.specs.Option.{option_map}
 use Rattle.events.specs.declared.turn.Turn.{Turn}
-use Rattle.keeper_book.specs.Book.{Answers, Book, Enters, Entry, enter_refusal, entry_of, refusal, shares_spi, when}
+use Rattle.keeper_book.specs.Book.{Answers, Book, Enters, Entry, enter_refusal, entry_of, is_spent, refusal, settle_refusal, shares_spi, when}
 use Rattle.keeper_book.specs.Told.{seen}
 use Rattle.keeper_book.specs.declared.calls.Call.{Call}
 use Rattle.keeper_book.specs.declared.calls.KeeperAnswer.{KeeperAnswer}
@@ -29,7 +29,7 @@ use Rattle.turn_laws.specs.Acts.{Act, Calls, Ends, Leaps, Leases, Move, Opens, S
 use Rattle.turn_laws.specs.Owned.{Lawful, Writes}
 use Rattle.turn_laws.specs.Turns.{acts_of}
 use Rattle.turn_rules.specs.Ends.{Member, is_by, own}
-use Rattle.turn_rules.specs.Held.{Held, found, grant_of, granted, held_by, holding, window_by}
+use Rattle.turn_rules.specs.Held.{Held, first_some, found, grant_of, granted, held_by, holding, window_by}
 use Rattle.turn_rules.specs.Local.{Explained, Stands}
 
 -- the record of an association stays, and no two are found at one SPI
@@ -58,20 +58,36 @@ enters-free sa es none = by_test (list_any (shares_spi sa) es) (when (nat_le MAX
     by_test true later none = absurd (cc)
     by_test false later none = refl
 
+settles-free : (ticket : ℕ) (sa : Record) (spent : List ℕ) (es : List Entry) → settle_refusal ticket sa spent es ≡ None → list_any (shares_spi sa) es ≡ false
+settles-free ticket sa spent es none = by_test (is_spent ticket spent) (list_any (shares_spi sa) es)
+    (when (nat_le MAX_SPENT_TICKETS (length spent)) (fault.Full MAX_SPENT_TICKETS) (when (nat_le MAX_ASSOCIATIONS (length es)) (fault.Full MAX_ASSOCIATIONS) None)) none
+  where
+    by_test : (a b : Bool) (later : Option KeeperFault) → when a fault.Spent (when b fault.SpiInUse later) ≡ None → b ≡ false
+    by_test true b later none = absurd (cc)
+    by_test false true later none = absurd (cc)
+    by_test false false later none = refl
+
 module _ (old : Book) where
-  apart-after : (asked : KeeperAsk) → refusal old asked ≡ None → AreApart (record_of old) → AreApart (λ spir. record_after spir asked (record_of old spir))
-  apart-after (ask.Enter sa) none apart = λ a b r s ra sb same. go a b r s same (entered-is old sa a r (record_of old a) refl ra) (entered-is old sa b s (record_of old b) refl sb)
+  -- a record that shares no SPI with those of the book
+  entered-apart : (sa : Record) → list_any (shares_spi sa) old.entries ≡ false → AreApart (record_of old) → AreApart (λ spir. first_some (record_of old spir) (if sa.spir == spir then Some sa else None))
+  entered-apart sa shares apart = λ a b r s ra sb same. go a b r s same (entered-is old sa a r (record_of old a) refl ra) (entered-is old sa b s (record_of old b) refl sb)
     where
       free : (spir : ℕ) (x : Record) → record_of old spir ≡ Some x → sa.spi_in ≢ x.spi_in
-      free = none-shares sa old.entries (enters-free sa old.entries none)
+      free = none-shares sa old.entries shares
 
       go : (a b : ℕ) (r s : Record) → r.spi_in ≡ s.spi_in → IsRecordOf old sa a r → IsRecordOf old sa b s → a ≡ b
       go a b r s same (Was wa) (Was wb) = apart a b r s wa wb same
       go a b r s same (Was wa) (IsNow at is) = absurd (free a r wa (ap (λ (x : Record). x.spi_in) is ∙ sym same))
       go a b r s same (IsNow at is) (Was wb) = absurd (free b s wb (ap (λ (x : Record). x.spi_in) is ∙ same))
       go a b r s same (IsNow at is) (IsNow bt js) = sym at ∙ bt
+
+  apart-after : (asked : KeeperAsk) → refusal old asked ≡ None → AreApart (record_of old) → AreApart (λ spir. record_after spir asked (record_of old spir))
+  apart-after (ask.Enter sa) none apart = entered-apart sa (enters-free sa old.entries none) apart
   apart-after (ask.TakeOver asked member) none apart = apart
   apart-after (ask.Cover asked kind child epoch upto) none apart = apart
+  apart-after (ask.Lease pool count) none apart = apart
+  apart-after (ask.Settle ticket asked sa member) none apart = entered-apart sa (settles-free ticket sa old.spent old.entries none) apart
+  apart-after (ask.Look ticket) none apart = apart
 
   module _ (new : Book) (asked : KeeperAsk) (answered : KeeperAnswer) (answers : Answers old asked answered new) where
     pub records-apart : AreApart (record_of old) → AreApart (record_of new)
@@ -99,6 +115,9 @@ module _ (old : Book) where
   none-granted spir (ask.Enter sa) why = refl
   none-granted spir (ask.TakeOver asked member) why = refl
   none-granted spir (ask.Cover asked kind child epoch upto) why = refl
+  none-granted spir (ask.Lease pool count) why = refl
+  none-granted spir (ask.Settle ticket asked sa member) why = refl
+  none-granted spir (ask.Look ticket) why = refl
 
   grant-called : (new : Book) (spir : ℕ) (taken : Taken) (call : Call) → Enters old call new → granted spir call.asked (seen call) ≡ Some taken → record_of old spir ≡ Some taken.sa
   grant-called new spir taken call enters is = by_test call.hidden refl

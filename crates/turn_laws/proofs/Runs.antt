@@ -7,6 +7,8 @@ use Rattle.keeper_book.specs.Book.{Book, EntersAll}
 use Rattle.keeper_book.specs.Told.{seen}
 use Rattle.keeper_book.specs.declared.calls.Call.{Call}
 use Rattle.keeper_book.specs.declared.counters.Counter.{Counter}
+use Rattle.keeper_book.specs.declared.pools.Pool.{Pool}
+use Rattle.keeper_book.specs.declared.pools.Pool.TheVariants as pools
 use Rattle.keeper_book.specs.declared.records.Record.{Record}
 use Rattle.keeper_book.specs.declared.records.Taken.{Taken}
 use Rattle.turn_laws.proofs.Acting.{MayDoMoves, moves_onto}
@@ -15,7 +17,7 @@ use Rattle.turn_laws.specs.Acts.{Act, Calls, Ends, IsNotBy, Leaps, Leases, Move,
 use Rattle.turn_laws.specs.Columns.{Column}
 use Rattle.turn_laws.specs.Holdings.{Actor, Begins, Draws, Effect, End, Half, Holding, Jumps, Nothing, Passes, Rises, Run, holding_after, is_actor, raised_to}
 use Rattle.turn_laws.specs.Owned.{Lawful, Writes}
-use Rattle.turn_laws.specs.Places.{NonceNumbers, Ours, Place, Pooled, Theirs, is_place, place_of}
+use Rattle.turn_laws.specs.Places.{Ours, Place, Pooled, Theirs, is_place, place_of}
 use Rattle.turn_rules.specs.Ends.{Member, Peer, Performer, is_performer}
 use Rattle.turn_rules.specs.Held.{covered, covers_in, first_some, grant_in, granted, greatest}
 
@@ -90,7 +92,7 @@ module _ (p : Place) (begun : Column) (w v : Actor) (held : Actor → Option Hol
       by_place : (p : Place) → holding_after (effect_of_open p w sa) held v ≡ held v
       by_place (Ours spir c) = opens (Ours spir c)
       by_place (Theirs name) = opens (Theirs name)
-      by_place (Pooled q) = other-effect w v other held (effect_of_use (Pooled q) (Pooled NonceNumbers) w sa.spir) (by-use w (Pooled q) (Pooled NonceNumbers) sa.spir)
+      by_place (Pooled q) = other-effect w v other held (effect_of_use (Pooled q) (Pooled pools.Nonce) w sa.spir) (by-use w (Pooled q) (Pooled pools.Nonce) sa.spir)
   other-move (Starts sa) spares = other-effect w v other held (effect_begun w (begun_started p sa)) (by-begun w (begun_started p sa))
   other-move Ends spares = refl
 

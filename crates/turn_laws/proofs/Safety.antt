@@ -5,10 +5,11 @@ use Rattle.std.proofs.lemmas.Option.{same_Some}
 use Rattle.std.specs.Prelude.{is_some}
 use Rattle.std.specs.List.{AllByRecursion}
 use Rattle.std.specs.Option.{option_map}
-use Rattle.keeper_book.specs.Book.{Answers, Book, Enters, Entry, cover_refusal, empty, enter_refusal, entry_of, fresh, raised_at, refusal, taken_over}
+use Rattle.keeper_book.specs.Book.{Answers, Book, Enters, Entry, cover_refusal, empty, enter_refusal, entry_of, fresh, pool_next, raised_at, refusal, taken_over}
 use Rattle.ha_base.specs.declared.counter_names.CounterName.{CounterName}
 use Rattle.ha_base.specs.declared.limits.TheConstants.{LEAST_SPI}
 use Rattle.keeper_book.specs.Counters.{counter_named}
+use Rattle.keeper_book.specs.Pools.{pool_end}
 use Rattle.keeper_book.specs.Records.{spir_of_origin}
 use Rattle.keeper_book.specs.Told.{seen}
 use Rattle.keeper_book.specs.declared.calls.Call.{Call}
@@ -21,6 +22,8 @@ use Rattle.keeper_book.specs.declared.counters.Counter.TheVariants as counter
 use Rattle.keeper_book.specs.declared.records.Record.{Record}
 use Rattle.keeper_book.specs.declared.faults.KeeperFault.{KeeperFault}
 use Rattle.keeper_book.specs.declared.faults.KeeperFault.TheVariants as fault
+use Rattle.keeper_book.specs.declared.pools.Pool.{Pool}
+use Rattle.keeper_book.specs.declared.pools.Pool.TheVariants as pools
 use Rattle.turn_laws.proofs.BookRecords.{AreImports, MayEnter, entry-record, imports-kept, record_in, record_of, records-kept}
 use Rattle.turn_laws.proofs.Books.{IsFree, ShowsCovered, after-granted, answers-entry, column-goes_on, keeps-covered, keeps-taken, shows-covered, shows-done, shows-entered}
 use Rattle.turn_laws.proofs.Columns.{goes_on-refl, rising-none}
@@ -35,7 +38,7 @@ use Rattle.turn_laws.specs.Columns.{Column, ColumnGoesOn, IsRising, column_mark,
 use Rattle.turn_laws.specs.Holdings.{Actor, Begins, Draws, Effect, Half, Holding, IsNotIn, IsOwned, Jumps, Nothing, Passes, Rises, Use, column_begun, uses_after}
 use Rattle.turn_laws.specs.Names.{is_name}
 use Rattle.turn_laws.specs.Owned.{Lawful, Owned, Writes}
-use Rattle.turn_laws.specs.Places.{NonceNumbers, NumberPool, Ours, Place, Pooled, Theirs, TicketNumbers, column, column_ours, is_place, place_of, pool_end, pool_next}
+use Rattle.turn_laws.specs.Places.{Ours, Place, Pooled, Theirs, column, column_ours, is_place, place_of}
 use Rattle.turn_rules.specs.Held.{first_some, is_counter, is_named}
 use Rattle.turn_rules.specs.Slots.{peer_counter}
 
@@ -57,12 +60,21 @@ pub failed_effect : (w : Actor) (p : Place) (asked : KeeperAsk) (why : KeeperFau
 failed_effect w (Ours spir c) (ask.Enter sa) why = refl
 failed_effect w (Ours spir c) (ask.TakeOver asked member) why = refl
 failed_effect w (Ours spir c) (ask.Cover asked kind child epoch upto) why = refl
+failed_effect w (Ours spir c) (ask.Lease pool count) why = refl
+failed_effect w (Ours spir c) (ask.Settle ticket asked sa member) why = refl
+failed_effect w (Ours spir c) (ask.Look ticket) why = refl
 failed_effect w (Pooled q) (ask.Enter sa) why = refl
 failed_effect w (Pooled q) (ask.TakeOver asked member) why = refl
 failed_effect w (Pooled q) (ask.Cover asked kind child epoch upto) why = refl
+failed_effect w (Pooled q) (ask.Lease pool count) why = refl
+failed_effect w (Pooled q) (ask.Settle ticket asked sa member) why = refl
+failed_effect w (Pooled q) (ask.Look ticket) why = refl
 failed_effect w (Theirs name) (ask.Enter sa) why = refl
 failed_effect w (Theirs name) (ask.TakeOver asked member) why = refl
 failed_effect w (Theirs name) (ask.Cover asked kind child epoch upto) why = refl
+failed_effect w (Theirs name) (ask.Lease pool count) why = refl
+failed_effect w (Theirs name) (ask.Settle ticket asked sa member) why = refl
+failed_effect w (Theirs name) (ask.Look ticket) why = refl
 
 failed_begins : (p : Place) (asked : KeeperAsk) (why : KeeperFault) → None ≡ begun_called p asked (answer.Refused why)
 failed_begins (Ours spir c) asked why = refl
@@ -70,6 +82,9 @@ failed_begins (Pooled q) asked why = refl
 failed_begins (Theirs name) (ask.Enter sa) why = refl
 failed_begins (Theirs name) (ask.TakeOver asked member) why = refl
 failed_begins (Theirs name) (ask.Cover asked kind child epoch upto) why = refl
+failed_begins (Theirs name) (ask.Lease pool count) why = refl
+failed_begins (Theirs name) (ask.Settle ticket asked sa member) why = refl
+failed_begins (Theirs name) (ask.Look ticket) why = refl
 
 -- the counter of an association that begins under a name
 pub record IsBegun (name : CounterName) (sa : Record) (h : Holding) : Type 0 where
@@ -165,9 +180,14 @@ entered-has old new name call h enters spir of is none = by_hidden call.hidden r
         let gone : entry_of sa.spir new.entries ≡ None = ap (λ n. entry_of n new.entries) same ∙ none in
         absurd (cc)
     by_answer (ask.Enter sa) (answer.Taken taken) a is = absurd (cc)
+    by_answer (ask.Enter sa) (answer.First first) a is = absurd (cc)
+    by_answer (ask.Enter sa) (answer.Look spent) a is = absurd (cc)
     by_answer (ask.Enter sa) (answer.Refused why) a is = absurd (cc)
     by_answer (ask.TakeOver asked member) answered a is = absurd (cc)
     by_answer (ask.Cover asked kind child epoch upto) answered a is = absurd (cc)
+    by_answer (ask.Lease pool count) answered a is = absurd (cc)
+    by_answer (ask.Settle ticket asked sa member) answered a is = absurd (cc)
+    by_answer (ask.Look ticket) answered a is = absurd (cc)
 
     by_hidden : (b : Bool) → call.hidden ≡ b → ⊥
     by_hidden true t = none_seen call.asked (sym (ap (λ b. begun_by name (entered_as call.asked (if b then answer.Refused fault.Failed else call.answer))) t) ∙ is)
@@ -176,6 +196,9 @@ entered-has old new name call h enters spir of is none = by_hidden call.hidden r
         none_seen (ask.Enter sa) is = absurd (cc)
         none_seen (ask.TakeOver asked member) is = absurd (cc)
         none_seen (ask.Cover asked kind child epoch upto) is = absurd (cc)
+        none_seen (ask.Lease pool count) is = absurd (cc)
+        none_seen (ask.Settle ticket asked sa member) is = absurd (cc)
+        none_seen (ask.Look ticket) is = absurd (cc)
     by_hidden false t = by_answer call.asked call.answer enters (sym (ap (λ b. begun_by name (entered_as call.asked (if b then answer.Refused fault.Failed else call.answer))) t) ∙ is)
 
 module _ (acts : List Act) (old new : Book) (w : Actor) where
@@ -222,9 +245,14 @@ module _ (acts : List Act) (old new : Book) (w : Actor) where
             let it = begun-is name sa h is in
             unentered name sa.spir (begun-spir name sa h is) (subst (λ n. IsUnstarted n acts) (sym it.named) (may.1 it.counter)) (shows-entered sa old.entries (shows-done (enter_refusal sa old.entries) a.0))
     keeps-answered (Theirs name) (ask.Enter sa) (answer.Taken taken) may a = goes_on-refl (begun_at (Theirs name) acts) (rising (Theirs name))
+    keeps-answered (Theirs name) (ask.Enter sa) (answer.First first) may a = goes_on-refl (begun_at (Theirs name) acts) (rising (Theirs name))
+    keeps-answered (Theirs name) (ask.Enter sa) (answer.Look spent) may a = goes_on-refl (begun_at (Theirs name) acts) (rising (Theirs name))
     keeps-answered (Theirs name) (ask.Enter sa) (answer.Refused why) may a = goes_on-refl (begun_at (Theirs name) acts) (rising (Theirs name))
     keeps-answered (Theirs name) (ask.TakeOver asked member) answered may a = goes_on-refl (begun_at (Theirs name) acts) (rising (Theirs name))
     keeps-answered (Theirs name) (ask.Cover asked kind child epoch upto) answered may a = goes_on-refl (begun_at (Theirs name) acts) (rising (Theirs name))
+    keeps-answered (Theirs name) (ask.Lease pool count) answered may a = goes_on-refl (begun_at (Theirs name) acts) (rising (Theirs name))
+    keeps-answered (Theirs name) (ask.Settle ticket asked sa member) answered may a = goes_on-refl (begun_at (Theirs name) acts) (rising (Theirs name))
+    keeps-answered (Theirs name) (ask.Look ticket) answered may a = goes_on-refl (begun_at (Theirs name) acts) (rising (Theirs name))
     keeps-answered p asked answered may a = column-goes_on old new asked answered a p (begun_at p acts) (free p asked may) (rising p)
 
     keeps-call : (p : Place) (call : Call) → MayAsk acts w call.asked → Enters old call new → Keeps (effect_of p (begun_at p acts) w (Calls call)) (holding_at p acts) (column_at p acts old) (column p (begun_after (Calls call) p (begun_at p acts)) new)
@@ -251,22 +279,25 @@ module _ (acts : List Act) (old new : Book) (w : Actor) where
 
     -- what may be imported is not half open
     pub free-import : (sa : Record) → IsImport sa → (c : Counter) → begun_at (Ours sa.spir c) acts ≡ nothing
-    free-import sa import_of c = owned.opened sa.spir c (below-not_in (pool_next NonceNumbers old) sa.spir (numbers_at (Pooled NonceNumbers) acts)
-        (let a : pool_next NonceNumbers old ≤ pool_end NonceNumbers = owned.pools NonceNumbers in let b : LEAST_SPI ≤ sa.spir = import_of.spir in omega arith)
-        (drawn-below acts old owned NonceNumbers))
+    free-import sa import_of c = owned.opened sa.spir c (below-not_in (pool_next pools.Nonce old) sa.spir (numbers_at (Pooled pools.Nonce) acts)
+        (let a : pool_next pools.Nonce old ≤ pool_end pools.Nonce = owned.pools pools.Nonce in let b : LEAST_SPI ≤ sa.spir = import_of.spir in omega arith)
+        (drawn-below acts old owned pools.Nonce))
 
     free-call : (p : Place) (asked : KeeperAsk) → MayAsk acts w asked → IsFree p asked (begun_at p acts)
     free-call (Ours spir c) (ask.Enter sa) may = λ same. subst (λ n. begun_at (Ours n c) acts ≡ nothing) same (free-import sa may.0 c)
     free-call (Ours spir c) (ask.TakeOver asked member) may = tt
     free-call (Ours spir c) (ask.Cover asked kind child epoch upto) may = tt
+    free-call (Ours spir c) (ask.Lease pool count) may = tt
+    free-call (Ours spir c) (ask.Settle ticket asked sa member) may = may
+    free-call (Ours spir c) (ask.Look ticket) may = tt
     free-call (Theirs name) asked may = tt
     free-call (Pooled q) asked may = tt
 
     -- a number that may be drawn of the nonces was not drawn, and is no import's SPI
-    module _ (sa : Record) (may : HoldsFor (holding_at (Pooled NonceNumbers) acts w) sa.spir) where
-      undrawn : IsNotIn sa.spir (numbers_at (Pooled NonceNumbers) acts)
-      undrawn = (owned-after (holding_at (Pooled NonceNumbers) acts) (uses_at (Pooled NonceNumbers) acts) (column_at (Pooled NonceNumbers) acts old) (column_at (Pooled NonceNumbers) acts old) (Draws w sa.spir) (owned.numbers (Pooled NonceNumbers))
-          (goes_on-refl (column_at (Pooled NonceNumbers) acts old) (owned.numbers (Pooled NonceNumbers)).rising, may.holding, may.holds, may.may)).once.0
+    module _ (sa : Record) (may : HoldsFor (holding_at (Pooled pools.Nonce) acts w) sa.spir) where
+      undrawn : IsNotIn sa.spir (numbers_at (Pooled pools.Nonce) acts)
+      undrawn = (owned-after (holding_at (Pooled pools.Nonce) acts) (uses_at (Pooled pools.Nonce) acts) (column_at (Pooled pools.Nonce) acts old) (column_at (Pooled pools.Nonce) acts old) (Draws w sa.spir) (owned.numbers (Pooled pools.Nonce))
+          (goes_on-refl (column_at (Pooled pools.Nonce) acts old) (owned.numbers (Pooled pools.Nonce)).rising, may.holding, may.holds, may.may)).once.0
 
       no_entry : entry_of sa.spir old.entries ≡ None
       no_entry = go (entry_of sa.spir old.entries) refl
@@ -276,13 +307,13 @@ module _ (acts : List Act) (old new : Book) (w : Actor) where
           go (Some f) e =
               let low : LEAST_SPI ≤ f.sa.spir = (owned.imported sa.spir f e).spir in
               let same : f.sa.spir ≡ sa.spir = entry-spir sa.spir old.entries f e in
-              let below : may.holding.high ≤ pool_next NonceNumbers old = lot-below acts old owned NonceNumbers w may.holding may.holds in
+              let below : may.holding.high ≤ pool_next pools.Nonce old = lot-below acts old owned pools.Nonce w may.holding may.holds in
               let drawn : sa.spir < may.holding.high = may.may.below_high in
-              let end : pool_next NonceNumbers old ≤ pool_end NonceNumbers = owned.pools NonceNumbers in
+              let end : pool_next pools.Nonce old ≤ pool_end pools.Nonce = owned.pools pools.Nonce in
               absurd (omega arith)
 
       keeps-open : (p : Place) → new ≡ old → Keeps (effect_of_open p w sa) (holding_at p acts) (column_at p acts old) (column p (with_begun (begun_open p sa) (begun_at p acts)) new)
-      keeps-open (Pooled q) same = keeps-use (Pooled q) (Pooled NonceNumbers) sa.spir may (still (Pooled q) same)
+      keeps-open (Pooled q) same = keeps-use (Pooled q) (Pooled pools.Nonce) sa.spir may (still (Pooled q) same)
       keeps-open (Theirs name) same = goes_on-refl (begun_at (Theirs name) acts) (owned.numbers (Theirs name)).rising
       keeps-open (Ours spir c) same = by_case (begun_open (Ours spir c) sa) refl
         where
@@ -368,6 +399,9 @@ module _ (acts : List Act) (old new : Book) (w : Actor) where
         by_test : (b : Bool) → (asked == spir) ≡ b → (if asked == spir then option_map (raised_at (counter_named kind child) upto) x else x) ≡ Some e → e.highs ≡ e.sa.starts
         by_test true t found = raised_case (eqb-true asked spir t) x is (rw t at found)
         by_test false t found = owned.starts spir e (is ∙ (rw t at found)) none
+    starts-entry spir (ask.Lease pool count) may granted x is e found none = owned.starts spir e (is ∙ found) none
+    starts-entry spir (ask.Settle ticket asked sa member) may granted x is e found none = absurd may
+    starts-entry spir (ask.Look ticket) may granted x is e found none = owned.starts spir e (is ∙ found) none
 
     starts-call : (call : Call) → MayAsk acts w call.asked → Enters old call new → (spir : ℕ) (e : Entry) → entry_of spir new.entries ≡ Some e → e.bases ≡ [] → e.highs ≡ e.sa.starts
     starts-call call may enters spir e found none = ⊎_elim
@@ -412,6 +446,9 @@ module _ (acts : List Act) (old new : Book) (w : Actor) where
         may-enter (ask.Enter sa) may = may.0
         may-enter (ask.TakeOver asked member) may = tt
         may-enter (ask.Cover asked kind child epoch upto) may = tt
+        may-enter (ask.Lease pool count) may = tt
+        may-enter (ask.Settle ticket asked sa member) may = may
+        may-enter (ask.Look ticket) may = tt
 
         had : AreImports old old
         had spir r is = let entry = entry-record (entry_of spir old.entries) r is in subst (λ x. IsImport x) entry.2 (owned.imported spir entry.0 entry.1)
@@ -427,10 +464,10 @@ module _ (acts : List Act) (old new : Book) (w : Actor) where
     imported-move Ends may writes spir e found = owned.imported spir e (kept-entry Ends tt writes spir (Some e) found)
 
     -- no pool gets beyond its end
-    pools-same : (q : NumberPool) → pool_next q new ≡ pool_next q old → pool_next q new ≤ pool_end q
+    pools-same : (q : Pool) → pool_next q new ≡ pool_next q old → pool_next q new ≤ pool_end q
     pools-same q same = let a : pool_next q old ≤ pool_end q = owned.pools q in omega (arith, same)
 
-    pools-move : (move : Move) → MayDo acts w move → Writes old move new → (q : NumberPool) → pool_next q new ≤ pool_end q
+    pools-move : (move : Move) → MayDo acts w move → Writes old move new → (q : Pool) → pool_next q new ≤ pool_end q
     pools-move (Calls call) may writes q = pools-same q (⊎_elim (λ same. ap (pool_next q) same) (λ has. ap (pool_next q) has.is ∙ pool-entered q old call.asked) (answers-entry old new call.asked call.answer writes))
     pools-move (Uses place n) may writes q = pools-same q (ap (pool_next q) writes)
     pools-move (Seals key) may writes q = pools-same q (ap (pool_next q) writes)
@@ -441,18 +478,18 @@ module _ (acts : List Act) (old new : Book) (w : Actor) where
     pools-move Ends may writes q = pools-same q (ap (pool_next q) writes)
 
     -- what is half open was drawn
-    opened-move : (move : Move) → (spir : ℕ) (c : Counter) → IsNotIn spir (map (λ u. u.number) (uses_after (effect_of (Pooled NonceNumbers) (begun_at (Pooled NonceNumbers) acts) w move) (holding_at (Pooled NonceNumbers) acts) (uses_at (Pooled NonceNumbers) acts))) → begun_after move (Ours spir c) (begun_at (Ours spir c) acts) ≡ nothing
+    opened-move : (move : Move) → (spir : ℕ) (c : Counter) → IsNotIn spir (map (λ u. u.number) (uses_after (effect_of (Pooled pools.Nonce) (begun_at (Pooled pools.Nonce) acts) w move) (holding_at (Pooled pools.Nonce) acts) (uses_at (Pooled pools.Nonce) acts))) → begun_after move (Ours spir c) (begun_at (Ours spir c) acts) ≡ nothing
     opened-move (Opens sa) spir c none = by_case (begun_open (Ours spir c) sa) refl
       where
         by_case : (x : Option Holding) → begun_open (Ours spir c) sa ≡ x → with_begun x (begun_at (Ours spir c) acts) ≡ nothing
         by_case None e = owned.opened spir c none.1
         by_case (Some h) e = absurd (none.0 (sym (ours-spir spir sa.spir c counter.Iv (opened-is (Ours spir c) sa h e).at)))
     opened-move (Calls call) spir c none = owned.opened spir c none
-    opened-move (Leases pool first count seen) spir c none = owned.opened spir c (fewer-used (effect_begun w (begun_leased (Pooled NonceNumbers) (begun_at (Pooled NonceNumbers) acts) pool first count seen)) (holding_at (Pooled NonceNumbers) acts) (uses_at (Pooled NonceNumbers) acts) spir none)
+    opened-move (Leases pool first count seen) spir c none = owned.opened spir c (fewer-used (effect_begun w (begun_leased (Pooled pools.Nonce) (begun_at (Pooled pools.Nonce) acts) pool first count seen)) (holding_at (Pooled pools.Nonce) acts) (uses_at (Pooled pools.Nonce) acts) spir none)
     opened-move (Starts sa) spir c none = owned.opened spir c none
-    opened-move (Uses q n) spir c none = owned.opened spir c (fewer-used (effect_of_use (Pooled NonceNumbers) q w n) (holding_at (Pooled NonceNumbers) acts) (uses_at (Pooled NonceNumbers) acts) spir none)
-    opened-move (Seals key) spir c none = owned.opened spir c (fewer-used (effect_of_use (Pooled NonceNumbers) (place_of key.name) w key.iv) (holding_at (Pooled NonceNumbers) acts) (uses_at (Pooled NonceNumbers) acts) spir none)
-    opened-move (Leaps q n) spir c none = owned.opened spir c (fewer-used (if is_place q (Pooled NonceNumbers) then Jumps w n else Nothing) (holding_at (Pooled NonceNumbers) acts) (uses_at (Pooled NonceNumbers) acts) spir none)
+    opened-move (Uses q n) spir c none = owned.opened spir c (fewer-used (effect_of_use (Pooled pools.Nonce) q w n) (holding_at (Pooled pools.Nonce) acts) (uses_at (Pooled pools.Nonce) acts) spir none)
+    opened-move (Seals key) spir c none = owned.opened spir c (fewer-used (effect_of_use (Pooled pools.Nonce) (place_of key.name) w key.iv) (holding_at (Pooled pools.Nonce) acts) (uses_at (Pooled pools.Nonce) acts) spir none)
+    opened-move (Leaps q n) spir c none = owned.opened spir c (fewer-used (if is_place q (Pooled pools.Nonce) then Jumps w n else Nothing) (holding_at (Pooled pools.Nonce) acts) (uses_at (Pooled pools.Nonce) acts) spir none)
     opened-move Ends spir c none = owned.opened spir c none
 
     -- what the peer has is in the book, or was resumed
@@ -517,9 +554,9 @@ owned-empty = record {
     numbers (Theirs name) = owned-none (λ w. None) 0 0 (λ w. refl)
     numbers (Pooled q) = owned-none (λ w. None) (pool_next q empty) (pool_end q) (λ w. refl)
 
-    pools : (q : NumberPool) → pool_next q empty ≤ pool_end q
-    pools TicketNumbers = omega arith
-    pools NonceNumbers = omega arith
+    pools : (q : Pool) → pool_next q empty ≤ pool_end q
+    pools pools.Ticket = omega arith
+    pools pools.Nonce = omega arith
 
 -- after any acts, each of which may come after those before it
 pub owned-lawful : (acts : List Act) (book : Book) → Lawful acts book → Owned acts book

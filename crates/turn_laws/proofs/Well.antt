@@ -70,6 +70,8 @@ module _ (w : Actor) (R : List Act → List Call → Type 0) (r : Reach) (at : �
     answered-well below answer.Done rest sees a = gone (act_by w (Calls call) ∷ acts) (raised_to (cover_of r at) h) (cover_of r at) rest (held_covered sees)
         (record { epoch = refl; base = refl; numbers = refl; above = let some : 0 < lead_of r.counter = lead_some r.counter in omega arith }) a
     answered-well below (answer.Taken taken) rest sees a = absurd a
+    answered-well below (answer.First first) rest sees a = absurd a
+    answered-well below (answer.Look spent) rest sees a = absurd a
     answered-well below (answer.Refused why) rest sees a = go (stop_of why) a
       where
         go : (x : Option Stop) → MatchOption x ⊥ (λ why. stops why rest) → R (act_by w (Calls call) ∷ acts) rest

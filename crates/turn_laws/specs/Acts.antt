@@ -7,6 +7,7 @@ use Rattle.keeper_book.specs.Book.{Book}
 use Rattle.ha_base.specs.declared.limits.TheConstants.{LEAST_ESP_SPI, LEAST_SPI}
 use Rattle.keeper_book.specs.CounterEnds.{end_of}
 use Rattle.keeper_book.specs.Counters.{counter_named, five_at}
+use Rattle.keeper_book.specs.Pools.{pool_end}
 use Rattle.keeper_book.specs.Told.{seen}
 use Rattle.keeper_book.specs.declared.calls.Call.{Call}
 use Rattle.keeper_book.specs.declared.calls.KeeperAnswer.{KeeperAnswer}
@@ -15,12 +16,14 @@ use Rattle.keeper_book.specs.declared.calls.KeeperAsk.{KeeperAsk}
 use Rattle.keeper_book.specs.declared.calls.KeeperAsk.TheVariants as ask
 use Rattle.keeper_book.specs.declared.counters.Counter.{Counter}
 use Rattle.keeper_book.specs.declared.counters.Counter.TheVariants as counter
+use Rattle.keeper_book.specs.declared.pools.Pool.{Pool}
+use Rattle.keeper_book.specs.declared.pools.Pool.TheVariants as pools
 use Rattle.keeper_book.specs.declared.records.Record.{Record}
 use Rattle.keeper_book.specs.declared.records.Taken.{Taken}
 use Rattle.turn_laws.specs.Columns.{Column, nothing}
 use Rattle.turn_laws.specs.Holdings.{Actor, Begins, Draws, Effect, Half, Holding, Jumps, MayUse, Nothing, Rises, Use, column_begun, holding_after, uses_after}
 use Rattle.turn_laws.specs.Names.{is_name}
-use Rattle.turn_laws.specs.Places.{NonceNumbers, NumberPool, Place, Ours, Pooled, Theirs, column, is_place, is_pool, place_of, pool_end, start_of}
+use Rattle.turn_laws.specs.Places.{Place, Ours, Pooled, Theirs, column, is_place, is_pool, place_of, start_of}
 use Rattle.turn_rules.specs.Held.{covered, granted}
 use Rattle.turn_rules.specs.Safe.{KeyIv}
 use Rattle.turn_rules.specs.Slots.{peer_counter}
@@ -34,7 +37,7 @@ pub data Move : Type 0 where
   Seals : (key : KeyIv) → Move
   -- The book leases a range of a pool, from a number on and so many. Where the caller saw it, the
   -- range is its lot, in place of an earlier one.
-  Leases : (pool : NumberPool) → (first count : ℕ) → (seen : Bool) → Move
+  Leases : (pool : Pool) → (first count : ℕ) → (seen : Bool) → Move
   -- an end goes on with a number of a place, or with a later one
   Leaps : (place : Place) → (number : ℕ) → Move
   -- A resumption gets half open, which will be this association: its responder's SPI is a number
@@ -127,7 +130,7 @@ abbrev pub effect_of_use : Place → Place → Actor → ℕ → Effect
 effect_of_use p q w n = if is_place q p then Draws w n else Nothing
 
 -- a lot that was leased after so many: all its numbers may be used
-abbrev pub lot_begun : ℕ → NumberPool → ℕ → ℕ → Holding
+abbrev pub lot_begun : ℕ → Pool → ℕ → ℕ → Holding
 lot_begun before pool first count = record {
   epoch = before + 1;
   base = first;
@@ -138,7 +141,7 @@ lot_begun before pool first count = record {
 }
 
 -- the lot of a lease that its caller saw, after what began at a place
-abbrev pub begun_leased : Place → Column → NumberPool → ℕ → ℕ → Bool → Option Holding
+abbrev pub begun_leased : Place → Column → Pool → ℕ → ℕ → Bool → Option Holding
 begun_leased (Pooled q) begun pool first count true =
     if is_pool pool q then Some (lot_begun (length begun.bases) pool first count) else None
 begun_leased p begun pool first count seen = None
@@ -157,7 +160,7 @@ begun_started p sa = None
 -- what a resumption does at a place as it gets half open: a number of the pool is used, and the
 -- holding is that of no end yet
 abbrev pub effect_of_open : Place → Actor → Record → Effect
-effect_of_open (Pooled q) w sa = effect_of_use (Pooled q) (Pooled NonceNumbers) w sa.spir
+effect_of_open (Pooled q) w sa = effect_of_use (Pooled q) (Pooled pools.Nonce) w sa.spir
 effect_of_open p w sa = effect_begun (Half sa.spir) (begun_open p sa)
 
 -- what a move does at a place, after what began there without the book
@@ -254,6 +257,8 @@ MayAsk acts w (ask.Cover spir kind child epoch upto) =
     (holding_at (Ours spir c) acts w) epoch upto)
 MayAsk acts w (ask.Enter sa) = IsImport sa
     × ((c : Counter) → IsUnstarted (peer_counter sa c) acts)
+-- no event has an end spend a ticket
+MayAsk acts w (ask.Settle ticket old_spir sa member) = ⊥
 MayAsk acts w asked = Unit {0}
 
 -- what a move needs beside the book
@@ -263,7 +268,7 @@ MayDo acts w (Uses p n) = HoldsFor (holding_at p acts w) n
 MayDo acts w (Seals key) = HoldsFor (holding_at (place_of key.name) acts w) key.iv
 MayDo acts w (Leases pool first count seen) = first + count ≤ pool_end pool
 MayDo acts w (Leaps p n) = Unit {0}
-MayDo acts w (Opens sa) = HoldsFor (holding_at (Pooled NonceNumbers) acts w) sa.spir
+MayDo acts w (Opens sa) = HoldsFor (holding_at (Pooled pools.Nonce) acts w) sa.spir
 MayDo acts w (Starts sa) = (c : Counter) → begun_at (Theirs (peer_counter sa c)) acts ≡ nothing
 MayDo acts w Ends = Unit {0}
 

@@ -1,13 +1,16 @@
 -- The numbers of the book's epochs belong to one end each.
 use Rattle.std.specs.Prelude.{ℕ, ◌+◌, ◌≡◌, ◌≤◌, Some, None, List, [], ◌∷◌}
 use Rattle.ha_base.specs.declared.counter_names.CounterName.{CounterName}
-use Rattle.keeper_book.specs.Book.{Book, Entry, Enters, empty, entry_of}
+use Rattle.keeper_book.specs.Book.{Book, Enters, Entry, empty, entry_of, pool_next, with_pool_next}
+use Rattle.keeper_book.specs.Pools.{pool_end}
 use Rattle.keeper_book.specs.Records.{spir_of_origin}
 use Rattle.keeper_book.specs.declared.counters.Counter.{Counter}
+use Rattle.keeper_book.specs.declared.pools.Pool.{Pool}
+use Rattle.keeper_book.specs.declared.pools.Pool.TheVariants as pools
 use Rattle.turn_laws.specs.Acts.{Act, Calls, Ends, IsImport, IsUnstarted, Leaps, Leases, MayDo, Move, Opens, Seals, Starts, Uses, begun_at, column_at, holding_at, numbers_at, uses_at}
 use Rattle.turn_laws.specs.Columns.{nothing}
 use Rattle.turn_laws.specs.Holdings.{IsNotIn, IsOwned}
-use Rattle.turn_laws.specs.Places.{NonceNumbers, NumberPool, Ours, Place, Pooled, Theirs, pool_end, pool_next, with_pool_next}
+use Rattle.turn_laws.specs.Places.{Ours, Place, Pooled, Theirs}
 
 pub record Owned (acts : List Act) (book : Book) : Type 0 where
   -- of every counter of every association, the cluster's and the peer's, and of each pool
@@ -19,9 +22,9 @@ pub record Owned (acts : List Act) (book : Book) : Type 0 where
   -- no association of the book has an SPI that the cluster may draw itself
   pub imported : (spir : ℕ) (e : Entry) → entry_of spir book.entries ≡ Some e → IsImport e.sa
   -- no pool is beyond its end
-  pub pools : (q : NumberPool) → pool_next q book ≤ pool_end q
+  pub pools : (q : Pool) → pool_next q book ≤ pool_end q
   -- nothing is half open under an SPI that was not drawn
-  pub opened : (spir : ℕ) (c : Counter) → IsNotIn spir (numbers_at (Pooled NonceNumbers) acts)
+  pub opened : (spir : ℕ) (c : Counter) → IsNotIn spir (numbers_at (Pooled pools.Nonce) acts)
       → begun_at (Ours spir c) acts ≡ nothing
   -- the peer has no number of an association that it did not begin by a resumption and that the
   -- book does not have

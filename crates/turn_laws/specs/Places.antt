@@ -7,22 +7,24 @@ use Rattle.ha_base.specs.declared.counter_names.Kind.{Kind}
 use Rattle.ha_base.specs.declared.counter_names.Kind.TheVariants as kind
 use Rattle.ha_base.specs.declared.counter_names.Origin.{Origin}
 use Rattle.ha_base.specs.declared.counter_names.Origin.TheVariants as origin
-use Rattle.keeper_book.specs.Book.{Book, Entry, entry_of}
+use Rattle.keeper_book.specs.Book.{Book, Entry, entry_of, pool_next}
 use Rattle.keeper_book.specs.CounterEnds.{end_of}
 use Rattle.keeper_book.specs.Counters.{counter_named, five_at}
+use Rattle.keeper_book.specs.Pools.{pool_end}
 use Rattle.keeper_book.specs.Records.{spir_of_origin}
 use Rattle.keeper_book.specs.declared.counters.Counter.{Counter}
 use Rattle.keeper_book.specs.declared.counters.Counter.TheVariants as counter
+use Rattle.keeper_book.specs.declared.pools.Pool.{Pool}
+use Rattle.keeper_book.specs.declared.pools.Pool.TheVariants as pools
 use Rattle.keeper_book.specs.declared.records.Record.{Record}
 use Rattle.turn_laws.specs.Columns.{Column}
 use Rattle.turn_laws.specs.Names.{is_name}
 use Rattle.turn_rules.specs.Held.{is_counter}
 
--- The numbers that members draw from ranges that they lease: those under a ticket key, and those in
 -- the nonces of resumptions.
-pub data NumberPool : Type 0 where
-  TicketNumbers : NumberPool
-  NonceNumbers : NumberPool
+pub data Pool : Type 0 where
+  pools.Ticket : Pool
+  pools.Nonce : Pool
 
 -- A counter of the cluster, by the association's responder's SPI, a counter under its whole name,
 -- or a pool. Under their names stand the peer's counters, so that an association that takes an SPI
@@ -31,11 +33,11 @@ pub data NumberPool : Type 0 where
 pub data Place : Type 0 where
   Ours : (spir : ℕ) → (counter : Counter) → Place
   Theirs : (name : CounterName) → Place
-  Pooled : (pool : NumberPool) → Place
+  Pooled : (pool : Pool) → Place
 
-abbrev pub is_pool : NumberPool → NumberPool → Bool
-is_pool TicketNumbers TicketNumbers = true
-is_pool NonceNumbers NonceNumbers = true
+abbrev pub is_pool : Pool → Pool → Bool
+is_pool pools.Ticket pools.Ticket = true
+is_pool pools.Nonce pools.Nonce = true
 is_pool p q = false
 
 abbrev pub is_place : Place → Place → Bool
@@ -46,8 +48,8 @@ is_place p q = false
 
 -- the numbers under a ticket key, of whatever generation, and those in nonces
 abbrev pub place_pooled : CounterName → Origin → Kind → Place
-place_pooled name (origin.TicketKey generation) kind.TicketIv = Pooled TicketNumbers
-place_pooled name origin.Pool kind.Nonce = Pooled NonceNumbers
+place_pooled name (origin.TicketKey generation) kind.TicketIv = Pooled pools.Ticket
+place_pooled name origin.Pool kind.Nonce = Pooled pools.Nonce
 place_pooled name origin k = Theirs name
 
 -- a name of the cluster, of whatever association and counter
@@ -85,22 +87,6 @@ column_ours c begun (Some e) = record {
   high = five_at e.highs c;
   end = end_of e.sa c;
 }
-
--- the next number of a pool, by the book
-abbrev pub pool_next : NumberPool → Book → ℕ
-pool_next TicketNumbers book = book.next_ticket
-pool_next NonceNumbers book = book.next_nonce
-
-abbrev pub with_pool_next : NumberPool → ℕ → Book → Book
-with_pool_next TicketNumbers n book = record book { next_ticket = n }
-with_pool_next NonceNumbers n book = record book { next_nonce = n }
-
--- No number of a pool reaches its end. A number of a nonce is the responder's SPI of what is
--- resumed, and 256 more than it the SPI at which the cluster receives in it, so it stays below
--- those of imports.
-abbrev pub pool_end : NumberPool → ℕ
-pool_end TicketNumbers = 2 ^ 32
-pool_end NonceNumbers = 65280
 
 -- The numbers of a place, by what began there without the book, and by the book. Those of the peer
 -- are not in the book, and of a pool it has the next number alone.

@@ -3,11 +3,12 @@
 ghost use Rattle.std.specs.Prelude.{◌+◌, ◌≡◌, ◌≢◌, ◌<◌, ◌≤◌, ◌⊎◌, ℕ, Bool, Option, Some, None, List, [], ◌∷◌};
 ghost use Rattle.std.specs.List.{AllByRecursion, Contains, filter_map, flat_map};
 ghost use Rattle.events.specs.declared.turn.Turn.{Turn};
-ghost use Rattle.keeper_book.specs.Book.{Answers, Book, Enters, book_after, entry_of};
+ghost use Rattle.keeper_book.specs.Book.{Answers, Book, Enters, book_after, entry_of, pool_next, with_pool_next};
 ghost use Rattle.keeper_book.specs.Counters.{counter_named, five_at};
 ghost use Rattle.keeper_book.specs.declared.calls.Call.{Call};
 ghost use Rattle.ha_base.specs.declared.counter_names.CounterName.{CounterName};
 ghost use Rattle.ha_base.specs.declared.counter_names.Kind.{Kind};
+ghost use Rattle.keeper_book.specs.Pools.{pool_end};
 ghost use Rattle.keeper_book.specs.declared.records.Record.{Record};
 ghost use Rattle.turn_rules.specs.Slots.{peer_counter};
 ghost use Rattle.keeper_book.specs.declared.calls.KeeperAnswer.TheVariants as answer;
@@ -15,6 +16,8 @@ ghost use Rattle.keeper_book.specs.declared.calls.KeeperAsk.TheVariants as ask;
 ghost use Rattle.keeper_book.specs.declared.counters.Counter.{Counter};
 ghost use Rattle.keeper_book.specs.declared.counters.Counter.TheVariants as counter;
 ghost use Rattle.keeper_book.specs.declared.faults.KeeperFault.TheVariants as fault;
+ghost use Rattle.keeper_book.specs.declared.pools.Pool.{Pool};
+ghost use Rattle.keeper_book.specs.declared.pools.Pool.TheVariants as pools;
 ghost use Rattle.turn_laws.specs.Acts.{Act, Calls, Ends, HoldsFor, IsHalfOpen, IsNotBy, Leases, MayAsk, MayDo, MayDoAll, Move, Opens, Seals, Starts, act_by, acts_onto, begun_at, column_at, end_at, half_begun, holding_at, numbers_at, uses_at};
 ghost use Rattle.turn_laws.specs.Columns.{Column, ColumnGoesOn, column_mark, nothing};
 ghost use Rattle.turn_laws.specs.FirstDelivery.{MemberAcceptsFirst, PeerAcceptsFirst};
@@ -23,7 +26,7 @@ ghost use Rattle.turn_laws.specs.Listed.{listed_at};
 ghost use Rattle.turn_laws.specs.OwnTurns.{OwnTurnsTell};
 ghost use Rattle.turn_laws.specs.Owned.{Owned, Writes};
 ghost use Rattle.turn_laws.specs.PeerTurns.{told_theirs};
-ghost use Rattle.turn_laws.specs.Places.{NonceNumbers, NumberPool, Ours, Place, Pooled, Theirs, place_of, pool_end, pool_next, with_pool_next};
+ghost use Rattle.turn_laws.specs.Places.{Ours, Place, Pooled, Theirs, place_of};
 ghost use Rattle.turn_laws.specs.Replaced.{AreReplacedLater};
 ghost use Rattle.turn_laws.specs.Turns.{AreOwned, acts_in, acts_of, told};
 ghost use Rattle.turn_rules.specs.Ends.{Member, Peer, own};
@@ -120,7 +123,7 @@ pub fn others_change_nothing()
 /// A range that is leased of a pool keeps what is owned, whether its caller saw it, and has it as
 /// its lot, or not.
 pub fn leases_keep_owned()
-    ensures { (acts : List Act) (w : Actor) (pool : NumberPool) (first count : ℕ) (seen : Bool)
+    ensures { (acts : List Act) (w : Actor) (pool : Pool) (first count : ℕ) (seen : Bool)
         (old new : Book)
         → Owned acts old
         → first + count ≤ pool_end pool → first ≡ pool_next pool old
@@ -132,7 +135,7 @@ pub fn leases_keep_owned()
 /// and so does what it seals, by itself, under its first IV when it fails.
 pub fn half_opens_keep_owned()
     ensures opens { (acts : List Act) (w : Actor) (sa : Record) (book : Book) → Owned acts book
-        → HoldsFor (holding_at (Pooled NonceNumbers) acts w) sa.spir
+        → HoldsFor (holding_at (Pooled pools.Nonce) acts w) sa.spir
         → Owned (act_by w (Opens sa) ∷ acts) book }
     ensures fails { (acts : List Act) (key : KeyIv) (sa : Record) (book : Book) → Owned acts book
         → place_of key.name ≡ Ours sa.spir counter.Iv → key.iv ≡ 1
@@ -162,7 +165,7 @@ pub fn half_opens_are_apart()
         (column_at (Ours spir counter.Iv) acts book) }
     ensures drawn { (acts : List Act) (book : Book) → Owned acts book → (spir : ℕ)
         → begun_at (Ours spir counter.Iv) acts ≢ nothing
-        → Contains (numbers_at (Pooled NonceNumbers) acts) spir }
+        → Contains (numbers_at (Pooled pools.Nonce) acts) spir }
     ensures unrecorded { (acts : List Act) (book : Book) → Owned acts book → (spir : ℕ)
         → begun_at (Ours spir counter.Iv) acts ≢ nothing → entry_of spir book.entries ≡ None }
 {}
@@ -171,19 +174,19 @@ pub fn half_opens_are_apart()
 /// number that was drawn lies below the next number and was drawn once.
 pub fn lots_are_apart()
     ensures below { (acts : List Act) (book : Book) → Owned acts book
-        → (q : NumberPool) (w : Actor) (h : Holding) → holding_at (Pooled q) acts w ≡ Some h
+        → (q : Pool) (w : Actor) (h : Holding) → holding_at (Pooled q) acts w ≡ Some h
         → h.high ≤ pool_next q book }
     ensures apart { (acts : List Act) (book : Book) → Owned acts book
-        → (q : NumberPool) (w v : Actor) (h g : Holding)
+        → (q : Pool) (w v : Actor) (h g : Holding)
         → holding_at (Pooled q) acts w ≡ Some h → holding_at (Pooled q) acts v ≡ Some g
         → h.epoch < g.epoch → h.high ≤ g.base }
     ensures alone { (acts : List Act) (book : Book) → Owned acts book
-        → (q : NumberPool) (w v : Actor) (h g : Holding)
+        → (q : Pool) (w v : Actor) (h g : Holding)
         → holding_at (Pooled q) acts w ≡ Some h → holding_at (Pooled q) acts v ≡ Some g
         → h.epoch ≡ g.epoch → w ≡ v }
-    ensures drawn { (acts : List Act) (book : Book) → Owned acts book → (q : NumberPool)
+    ensures drawn { (acts : List Act) (book : Book) → Owned acts book → (q : Pool)
         → AllByRecursion (λ n. n < pool_next q book) (numbers_at (Pooled q) acts) }
-    ensures once { (acts : List Act) (book : Book) → Owned acts book → (q : NumberPool)
+    ensures once { (acts : List Act) (book : Book) → Owned acts book → (q : Pool)
         → IsEachOnce (numbers_at (Pooled q) acts) }
 {}
 

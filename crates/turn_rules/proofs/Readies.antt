@@ -107,6 +107,8 @@ module _ {P : Type 0} (held : Held) (c : Counter) (at : ℕ) (S : Stop → List 
   answered-elim call rest upto answer.Done stops goes asked low sees a =
       goes (subst (λ more. AreCovers held c (call ∷ more) upto) (sym (goes_end upto rest a)) (one-covers held c call upto asked sees low)) a
   answered-elim call rest upto (answer.Taken taken) stops goes asked low sees a = absurd a
+  answered-elim call rest upto (answer.First first) stops goes asked low sees a = absurd a
+  answered-elim call rest upto (answer.Look spent) stops goes asked low sees a = absurd a
   answered-elim call rest upto (answer.Refused fault) stops goes asked low sees a = go (stop_of fault) a
     where
       go : (x : Option Stop) → MatchOption x ⊥ (λ why. S why rest) → P
@@ -135,6 +137,8 @@ module _ {P Q : Stop → List Call → Type 0} {G H : ℕ → List Call → Type
   answered-map : (answered : KeeperAnswer) (upto : ℕ) (rest : List Call) → Answered answered (λ why. P why rest) (G upto rest) → Answered answered (λ why. Q why rest) (H upto rest)
   answered-map answer.Done upto rest a = goes upto rest a
   answered-map (answer.Taken taken) upto rest a = absurd a
+  answered-map (answer.First first) upto rest a = absurd a
+  answered-map (answer.Look spent) upto rest a = absurd a
   answered-map (answer.Refused fault) upto rest a = go (stop_of fault) a
     where
       go : (x : Option Stop) → MatchOption x ⊥ (λ why. P why rest) → MatchOption x ⊥ (λ why. Q why rest)

@@ -97,11 +97,11 @@ Draws held calls verdict = Ready (reach_of held counter.EspOut)
 
 -- what a takeover comes out as; what is granted is the record of the association
 abbrev pub Grants : ℕ → KeeperAnswer → Verdict → Type 0
-Grants spir answer.Done verdict = ⊥
 Grants spir (answer.Taken taken) verdict = (taken.sa.spir ≡ spir)
     × (verdict ≡ out.Owned taken.epoch taken.bases)
 Grants spir (answer.Refused why) verdict = MatchOption (refusal_of_takeover why) ⊥
     (λ r. verdict ≡ out.Refused r)
+Grants spir answered verdict = ⊥
 
 -- an association is taken over by one call
 abbrev pub TakesOver : ℕ → ℕ → List Call → Verdict → Type 0
@@ -113,9 +113,9 @@ TakesOver spir member (call ∷ other ∷ more) verdict = ⊥
 -- what an import comes out as
 abbrev pub Admits : KeeperAnswer → Verdict → Type 0
 Admits answer.Done verdict = verdict ≡ out.Entered
-Admits (answer.Taken taken) verdict = ⊥
 Admits (answer.Refused why) verdict = MatchOption (refusal_of_import why) ⊥
     (λ r. verdict ≡ out.Refused r)
+Admits answered verdict = ⊥
 
 -- an association is entered by one call
 abbrev pub EntersRecord : Record → List Call → Verdict → Type 0

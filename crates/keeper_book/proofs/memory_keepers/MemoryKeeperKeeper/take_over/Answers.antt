@@ -10,7 +10,7 @@ pub returns-in-Some-clause-call : goal.returns-in-Some-clause-call
 returns-in-Some-clause-call c =
     let place : IsPlaceOf c.args.spir c.in-Some.place c.self.inside.associations.items = subst (λ xs. IsPlaceOf c.args.spir c.in-Some.place xs) c.deref.ensures.value c.in-Some.ensures in
     memory_call _ _ (ask.TakeOver c.args.spir c.args.member) _
-    (took_over c.self.inside.associations.items _ _ c.args.spir c.args.member c.in-Some.place _ c.take_over.new.self c.take_over.result c.self.view_is refl place c.index_mut-association.ensures.value c.take_over.ensures.ok c.take_over.ensures.err)
+    (took_over c.self.inside.next c.self.inside.spent.items c.self.inside.associations.items _ _ c.args.spir c.args.member c.in-Some.place _ c.take_over.new.self c.take_over.result c.self.view_is refl place c.index_mut-association.ensures.value c.take_over.ensures.ok c.take_over.ensures.err)
     (took_over_soundly c.index_mut-association.result.now c.take_over.result _ c.take_over.ensures.err)
     (took_over_promised c.args.spir c.args.member c.index_mut-association.result.now.sa.spir c.take_over.result (place.here _ c.index_mut-association.ensures.value) c.take_over.ensures.refusals c.take_over.ensures.record c.take_over.ensures.bases_within)
 

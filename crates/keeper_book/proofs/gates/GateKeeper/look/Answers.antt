@@ -1,0 +1,12 @@
+-- The call that was passed on is recorded as it was answered.
+use Rattle.std.proofs.Common.{ap}
+use Rattle.keeper_book.specs.declared.calls.KeeperAsk.TheVariants as ask
+use Rattle.keeper_book.specs.Told.{look_answer}
+use Rattle.keeper_book.proofs.Passed.{passed, recorded}
+use Rattle.keeper_book.proofs.gates.GateKeeper.look.Goals as goal
+
+pub returns-clause-call : goal.returns-clause-call
+returns-clause-call g c =
+    let call = c.look-result.ensures.call in
+    passed c.self.inside.keeper c.self.inside.calls c.self.inside.missed c.args.self.now c.record.new.self c.self.view_is (ask.Look c.args.ticket) (look_answer c.look-result.result) _ call.0 _
+    call.1 call.2 c.record.ensures.keeper (ap (recorded (ask.Look c.args.ticket)) c.of_look.ensures) c.record.ensures.calls c.record.ensures.missed
