@@ -25,3 +25,6 @@ pub use exchanges::{CREATE_CHILD_SA, IKE_AUTH, IKE_SESSION_RESUME, INFORMATIONAL
 pub use keys::IkeKeys;
 pub use receiving::{Associations, receive};
 pub use sa::IkeSa;
+
+#[cfg(test)]
+mod tests;
