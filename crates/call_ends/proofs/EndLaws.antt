@@ -7,7 +7,7 @@ use Rattle.input_lines.specs.declared.fault.InputFault.{InputFault}
 use Rattle.call_ends.specs.Closing.{Closes, Unreads}
 use Rattle.call_ends.specs.Endings.{BreaksOff, Ends, Finishes}
 use Rattle.call_ends.specs.Jobs.{BeginsRead, BeginsText, IsBounded, IsRead, by_lines}
-use Rattle.call_ends.specs.Outside.{IsFront, Outside, ReadsAll, Says, Stream, WritesAll, octets_told}
+use Rattle.call_ends.specs.Outside.{IsFront, Outside, ReadsAll, SaysLine, Stream, WritesAll, octets_told}
 use Rattle.call_ends.specs.declared.status.Status.{Status}
 use Rattle.call_ends.specs.declared.status.Status.TheVariants as status
 
@@ -53,7 +53,7 @@ module _ (Makes : List ℕ → Option InputFault → List ℕ → Type 0) (input
   )
 
   -- memory ran out before anything was written
-  pub unmade_ends : (octets : List ℕ) → ReadsAll octets input now_input → IsBounded octets → Says (codes "ha: want of memory\n") errors now_errors
+  pub unmade_ends : (octets : List ℕ) → ReadsAll octets input now_input → IsBounded octets → SaysLine (codes "ha: want of memory\n") errors now_errors
       → Ends (by_lines Makes) (streams input out errors) (streams now_input out now_errors) status.Memory
   unmade_ends octets reads bounded says = (
     record { input = octets; output = []; read = reads.0; begins = (bounded, inl refl); wrote = appends_none out.octets },

@@ -2,7 +2,7 @@
 use Rattle.std.specs.Prelude.{ℕ, ◌≡◌, ◌⊎◌, List, Option, Some, None, codes}
 use Rattle.std.specs.Io.KnownBytes.{Appends, Consumes}
 use Rattle.call_ends.specs.Jobs.{Job}
-use Rattle.call_ends.specs.Outside.{AnyFault, NoneFailed, Outside, ReadsAll, Says, WritesAll, WritesFront, octets_told}
+use Rattle.call_ends.specs.Outside.{AnyFault, NoneFailed, Outside, ReadsAll, SaysLine, WritesAll, WritesFront, octets_told}
 use Rattle.call_ends.specs.declared.status.Status.{Status}
 use Rattle.call_ends.specs.declared.status.Status.TheVariants as status
 
@@ -32,15 +32,15 @@ Ends job old new status.Words = ⊥
 Ends job old new status.Memory =
     BreaksOff job status.Memory old new
     × NoneFailed old.input new.input × NoneFailed old.output new.output
-    × Says (codes "ha: want of memory\n") old.errors new.errors
+    × SaysLine (codes "ha: want of memory\n") old.errors new.errors
 Ends job old new status.ReadFault =
     BreaksOff job status.ReadFault old new
     × AnyFault old.input new.input × NoneFailed old.output new.output
-    × Says (codes "ha: read fault\n") old.errors new.errors
+    × SaysLine (codes "ha: read fault\n") old.errors new.errors
 Ends job old new status.WriteFault =
     (BreaksOff job status.WriteFault old new
     × NoneFailed old.input new.input × AnyFault old.output new.output
-    × Says (codes "ha: write fault\n") old.errors new.errors)
+    × SaysLine (codes "ha: write fault\n") old.errors new.errors)
     ⊎ ((fault : job.Fault) × Finishes job old new (Some fault) × AnyFault old.errors new.errors
     × WritesFront (job.diagnosis fault) old.errors new.errors)
 

@@ -57,5 +57,5 @@ abbrev pub WritesFront : List ℕ → Stream → Stream → Type 0
 WritesFront octets old new = AppendsFront old.octets new.octets octets
 
 -- the octets were written, or a front of them, and then a write failed
-abbrev pub Says : List ℕ → Stream → Stream → Type 0
-Says octets old new = WritesAll octets old new ⊎ (AnyFault old new × WritesFront octets old new)
+abbrev pub SaysLine : List ℕ → Stream → Stream → Type 0
+SaysLine octets old new = WritesAll octets old new ⊎ (AnyFault old new × WritesFront octets old new)

@@ -2,7 +2,7 @@
 
 ghost use Rattle.std.specs.Prelude.{◌≡◌, codes};
 ghost use Rattle.call_ends.specs.Closing.{Closes, Names};
-ghost use Rattle.call_ends.specs.Outside.{Says, sink_told};
+ghost use Rattle.call_ends.specs.Outside.{SaysLine, sink_told};
 
 use crate::status::Status;
 use ha_base::{Failed, Octets, Sink, write_all};
@@ -13,7 +13,7 @@ use std::alloc::Global;
 /// output. The call ends so all the same.
 pub fn complain<D: Sink>(diag: &mut D, line: &[u8], status: Status) -> Status
     ensures status { result ≡ status }
-    ensures says { Says line.now (sink_told D.Sink diag.old) (sink_told D.Sink diag.new) }
+    ensures says { SaysLine line.now (sink_told D.Sink diag.old) (sink_told D.Sink diag.new) }
 {
     let _ = write_all(diag, line);
     status

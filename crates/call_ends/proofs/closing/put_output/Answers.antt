@@ -2,12 +2,12 @@
 use Rattle.std.proofs.Common.{◌≡◌, List, ℕ, Option, Some, None, codes, inl, rules}
 use Rattle.input_lines.specs.declared.fault.InputFault.{InputFault}
 use Rattle.call_ends.specs.Closing.{Closes}
-use Rattle.call_ends.specs.Outside.{AnyFault, Says, Stream, WritesFront, sink_told}
+use Rattle.call_ends.specs.Outside.{AnyFault, SaysLine, Stream, WritesFront, sink_told}
 use Rattle.call_ends.specs.declared.status.Status.TheVariants as status
 use Rattle.call_ends.proofs.closing.put_output.Goals as goal
 
 closes_cut : (text : List ℕ) (fault : Option InputFault) (out now_out errors now_errors : Stream) → WritesFront text out now_out → AnyFault out now_out
-    → Says (codes "ha: write fault\n") errors now_errors → Closes text fault out now_out errors now_errors status.WriteFault
+    → SaysLine (codes "ha: write fault\n") errors now_errors → Closes text fault out now_out errors now_errors status.WriteFault
 closes_cut text None out now_out errors now_errors front failed says = (front, failed, says)
 closes_cut text (Some fault) out now_out errors now_errors front failed says = inl (front, failed, says)
 
