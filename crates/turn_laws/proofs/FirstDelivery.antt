@@ -20,16 +20,12 @@ use Rattle.keeper_book.specs.declared.records.Taken.{Taken}
 use Rattle.replay_set.proofs.Numbers.{judging_by}
 use Rattle.replay_set.specs.Window.{judged, window_of}
 use Rattle.replay_set.specs.declared.judgement.Judgement.TheVariants.{Fresh}
-use Rattle.turn_laws.proofs.Accepted.{no-packet}
-use Rattle.turn_laws.proofs.Deeds.{Spends}
 use Rattle.turn_laws.proofs.Genuine.{member-accepts-it, peer-accepts-it}
 use Rattle.turn_laws.proofs.Opened.{IsNamed, its-told, slot-told}
 use Rattle.turn_laws.proofs.Outcomes.{Idle, Ours_used, Outcome, Over, Theirs_used, idle-received, outcome-of, over-received}
 use Rattle.turn_laws.proofs.Records.{deed-of}
-use Rattle.turn_laws.proofs.Safety.{is_place-true}
-use Rattle.turn_laws.proofs.Theirs.{not-both}
+use Rattle.turn_laws.proofs.Theirs.{not-both, no-packet}
 use Rattle.turn_laws.proofs.Told.{is_end-true}
-use Rattle.turn_laws.proofs.Uses.{number_at}
 use Rattle.turn_laws.specs.FirstDelivery.{IsFirst, IsOtherPacket, MemberAcceptsFirst, PeerAcceptsFirst}
 use Rattle.turn_laws.specs.Holdings.{IsNotIn}
 use Rattle.turn_laws.specs.Places.{Ours, Place, Theirs, is_place, place_of}
@@ -74,28 +70,18 @@ received-took spir n event verdict is = go (delivery_of event) is
     go None is = absurd (cc)
     go (Some delivery) is = accepted-took spir n verdict is
 
-number-here : (p q : Place) (k n : ℕ) → number_at p q k ≡ Some n → q ≡ p
-number-here p q k n is = by_test (is_place q p) refl is
-  where
-    by_test : (b : Bool) → is_place q p ≡ b → (if b then Some k else None) ≡ Some n → q ≡ p
-    by_test true t is = is_place-true q p t
-    by_test false t is = absurd (cc)
-
 module _ (spir n : ℕ) (past : List Turn) (event : Event) (calls : List Call) (step : Step) (o : Outcome past event calls step) (is : received spir event step.verdict ≡ Some n) where
   abbrev took : Took spir n step.verdict
   took = received-took spir n event step.verdict is
 
   -- of the counter that received it
-  spent-here : (p q : Place) (k : ℕ) → Spends q k event step → number_at p q k ≡ Some n → place_of took.packet.name ≡ p
-  spent-here p q k spends here = (spends.of_packet took.packet took.accepted_it).0 ∙ number-here p q k n here
-
   member-took : (member : ℕ) → performer_at event step.verdict ≡ Some (Member member) → place_of took.packet.name ≡ Ours spir counter.EspIn
   member-took member by = go o
     where
       go : Outcome past event calls step → place_of took.packet.name ≡ Ours spir counter.EspIn
       go (Idle rests) = absurd (no-packet n (sym (idle-received spir event step.verdict rests.idle) ∙ is))
       go (Over ended said ends quiet) = absurd (no-packet n (sym (ap (received spir event) said ∙ over-received spir event) ∙ is))
-      go (Ours_used u it) = spent-here (Ours spir counter.EspIn) (Ours u.held.sa.spir u.c) u.number it.spends (sym (it.told spir counter.EspIn) ∙ is)
+      go (Ours_used u it) = it.named took.packet took.accepted_it spir n is
       go (Theirs_used u) = not-both member (performer_at event step.verdict) by u.by_it
 
 -- what holds of more packets holds of the others

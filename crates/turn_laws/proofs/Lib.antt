@@ -13,6 +13,8 @@ mod Halves
 mod Runs
 mod Names
 mod Uses
+mod Moved
+mod Single
 mod Covers
 mod Deeds
 mod Members

@@ -14,6 +14,7 @@ use Rattle.keeper_book.specs.declared.counters.Counter.TheVariants as counter
 use Rattle.keeper_book.specs.declared.records.Record.{Record}
 use Rattle.replay_set.specs.Window.{judged}
 use Rattle.replay_set.specs.declared.judgement.Judgement.TheVariants as judgement
+use Rattle.turn_laws.proofs.Moved.{rest-listed}
 use Rattle.turn_laws.proofs.Deeds.{Asked, Deed, Ended, PeerUses, Rested, Rests, Used, Used_theirs, number_theirs_of, rest_of}
 use Rattle.turn_laws.proofs.Listed.{moved}
 use Rattle.turn_laws.proofs.Lists.{all-append, all-both, all-each}
@@ -22,10 +23,10 @@ use Rattle.turn_laws.proofs.Outcomes.{idle-received, idle-theirs, rests-rest}
 use Rattle.turn_laws.proofs.Records.{deed-of}
 use Rattle.turn_laws.proofs.Safety.{begun-spir}
 use Rattle.turn_laws.proofs.Same.{is_name-true, is_origin-same}
-use Rattle.turn_laws.proofs.Theirs.{no-packet, not-both, rest-listed, told_theirs-held, use-moved}
+use Rattle.turn_laws.proofs.Theirs.{no-packet, not-both, told_theirs-held}
 use Rattle.turn_laws.proofs.Told.{is_end-true}
 use Rattle.turn_laws.proofs.Unused.{fresh-unused, next-unused}
-use Rattle.turn_laws.proofs.Uses.{number_at}
+use Rattle.turn_laws.proofs.Uses.{number_at, spent_of, uses-moved}
 use Rattle.turn_laws.proofs.Well.{PeerMayUse}
 use Rattle.turn_laws.specs.Acts.{HoldsFor, begun_by, begun_theirs, holding_at}
 use Rattle.turn_laws.specs.Holdings.{End, Holding, IsNotIn}
@@ -123,7 +124,7 @@ module _ (past : List Turn) (turn : Turn) (c : Counter) (sa : Record) where
   used-both : (u : PeerUses past turn.event turn.calls turn.step) → SameBySpir u.slot.sa sa → TellsBoth c turn sa
   used-both u by_spir = record {
     numbers = sym (rest-listed (Theirs (peer_counter sa c)) turn)
-        ∙ (ap reverse (use-moved (Theirs (peer_counter sa c)) (Theirs (peer_counter u.slot.sa u.c)) u.number (rest_of turn.event turn.step) u.spends.uses_it)
+        ∙ (ap reverse (uses-moved (Theirs (peer_counter sa c)) (spent_of (Theirs (peer_counter u.slot.sa u.c)) u.number ∷ []) (rest_of turn.event turn.step) u.spends.uses_it)
         ∙ (reverse-option (number_at (Theirs (peer_counter sa c)) (Theirs (peer_counter u.slot.sa u.c)) u.number)
         ∙ ap option_to_list (ap (λ b. if b then Some u.number else None) (names-same sa u.slot.sa c u.c by_spir) ∙ sym (u.told sa.spir c))));
     named = λ n packet is accepted.
