@@ -28,7 +28,7 @@ use Rattle.turn_laws.proofs.Theirs.{not-both, no-packet}
 use Rattle.turn_laws.proofs.Told.{is_end-true}
 use Rattle.turn_laws.specs.FirstDelivery.{IsFirst, IsOtherPacket, MemberAcceptsFirst, PeerAcceptsFirst}
 use Rattle.turn_laws.specs.Holdings.{IsNotIn}
-use Rattle.turn_laws.specs.Places.{Ours, Place, Theirs, is_place, place_of}
+use Rattle.turn_laws.specs.Places.{Ours, Place, Theirs, place_of}
 use Rattle.turn_laws.proofs.Lists.{all-both, all-filter}
 use Rattle.turn_rules.proofs.SlotTies.{DoesTold, first-passes}
 use Rattle.turn_rules.proofs.StateLaws.{does-told}

@@ -14,7 +14,6 @@ use Rattle.turn_laws.proofs.Covers.{are_ready-calls}
 use Rattle.turn_laws.proofs.Deeds.{number_theirs, Asked, Deed, Ended, IsIdle, MemberUses, PeerUses, Rested, Rests, Used, Used_theirs, UsesIt, rest_of, spent_by}
 use Rattle.turn_laws.specs.Acts.{Ends}
 use Rattle.turn_laws.specs.Turns.{end_moves, number_taken, uses_of}
-use Rattle.turn_rules.specs.Draws.{reach_of}
 use Rattle.turn_rules.specs.Datagrams.{Delivery, delivery_of}
 use Rattle.turn_rules.specs.Held.{accepted, received, used, received_in}
 use Rattle.turn_rules.specs.Slots.{sent}

@@ -14,7 +14,6 @@ use Rattle.turn_laws.proofs.Deeds.{Asked, Deed, Ended, HasItsRecord, MemberUses,
 use Rattle.turn_laws.proofs.Explained.{fits-deed}
 use Rattle.turn_laws.proofs.Lists.{all-each, all-filter}
 use Rattle.turn_rules.proofs.StateLaws.{does-told}
-use Rattle.turn_rules.specs.Draws.{reach_of}
 use Rattle.turn_rules.specs.Ends.{Member, is_by, own}
 use Rattle.turn_rules.specs.Held.{Held, first_some, found, grant_of, granted, held_by, holding, window_by}
 use Rattle.turn_rules.specs.Local.{IsByRule, Explained}

@@ -7,7 +7,6 @@ use Rattle.events.specs.declared.event.Event.{Event}
 use Rattle.events.specs.declared.turn.Step.{Step}
 use Rattle.events.specs.declared.turn.Turn.{Turn}
 use Rattle.events.specs.declared.verdict.Verdict.{Verdict}
-use Rattle.events.specs.declared.verdict.Verdict.TheVariants as out
 use Rattle.keeper_book.specs.CounterEnds.{end_of}
 use Rattle.keeper_book.specs.Counters.{five_at}
 use Rattle.keeper_book.specs.Told.{seen}
@@ -21,21 +20,18 @@ use Rattle.turn_laws.proofs.Uses.{uses-moved}
 use Rattle.turn_laws.proofs.Covers.{are_ready-calls}
 use Rattle.turn_laws.proofs.Acting.{moves_onto}
 use Rattle.turn_laws.proofs.Deeds.{Asked, Deed, Ended, Rested, Rests, Used, Used_theirs, UsesIt, rest_of, spent_by}
-use Rattle.turn_laws.proofs.Holdings.{is_actor-same, is_performer-same, is_performer-true}
+use Rattle.turn_laws.proofs.Holdings.{is_performer-same, is_performer-true}
 use Rattle.turn_laws.proofs.Outcomes.{Idle, Ours_used, Outcome, Over, Theirs_used, idle-taken, outcome-of, over-rest, over-taken, rests-rest}
 use Rattle.turn_laws.proofs.Records.{deed-of}
 use Rattle.turn_laws.proofs.Runs.{covered_by, held-call, held-covers, onto-append, others-hold}
 use Rattle.turn_laws.specs.Acts.{Act, Calls, holding_begun, holding_at}
-use Rattle.turn_laws.specs.Holdings.{Actor, Draws, End, Holding, Nothing, holding_after, is_actor}
-use Rattle.turn_laws.specs.Places.{Ours, is_place}
+use Rattle.turn_laws.specs.Holdings.{Actor, End, Holding}
+use Rattle.turn_laws.specs.Places.{Ours}
 use Rattle.turn_laws.specs.Turns.{actor_as, actor_of, acts_of, moves_of, number_taken, turn_taken, told}
 use Rattle.turn_rules.proofs.Ties.{greatest-append}
-use Rattle.turn_rules.specs.Draws.{reach_of}
 use Rattle.turn_rules.specs.Ends.{Member, Peer, Performer, is_by, is_end, is_performer, own, performer, performer_at}
 use Rattle.turn_rules.specs.Held.{after_number, covers_in, covers_of, first_some, found, grant_in, grant_of, granted, greatest, since}
 use Rattle.turn_rules.specs.Local.{Explained}
-use Rattle.turn_rules.specs.States.{ended_by}
-use Rattle.turn_rules.specs.Steps.{IsQuiet}
 
 -- what a turn makes of what is held, where it grants nothing
 abbrev pub told_more : ℕ → Counter → Event → List Call → Verdict → Holding → Holding
