@@ -13,3 +13,4 @@ pub use bodies::encode_body;
 pub use chain::{encode_chain, type_of};
 pub use length::fits_message;
 pub use message::{encode_message, flags_of, header_octets};
+pub use proposals::last_mark;

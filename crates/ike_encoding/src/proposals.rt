@@ -40,7 +40,7 @@ fn put_proposal(out: &mut Octets, last: bool, proposal: &Proposal) -> Result<(),
 {
     let spi = proposal.spi.as_slice();
     let transforms = proposal.transforms.as_slice();
-    out.extend(&[mark(2, last), 0])?;
+    out.extend(&[last_mark(2, last), 0])?;
     put_two(out, proposal_len(proposal) as u16)?;
     out.extend(&[
         proposal.number,
@@ -52,8 +52,9 @@ fn put_proposal(out: &mut Octets, last: bool, proposal: &Proposal) -> Result<(),
     put_transforms(out, transforms)
 }
 
-// What an item of a list begins with: 0 for the last.
-fn mark(more: u8, last: bool) -> u8
+/// The first octet of a proposal or a transform: 0 for the last of its list, and `more` for the
+/// others, which is 2 for proposals and 3 for transforms (RFC 7296, sections 3.3.1 and 3.3.2).
+pub fn last_mark(more: u8, last: bool) -> u8
     ensures { result ≡ last_mark more last }
 {
     if last { 0 } else { more }
@@ -86,7 +87,7 @@ fn put_transform(out: &mut Octets, last: bool, transform: &Transform) -> Result<
         → IsOk result }
 {
     let attributes = transform.attributes.as_slice();
-    out.extend(&[mark(3, last), 0])?;
+    out.extend(&[last_mark(3, last), 0])?;
     put_two(out, 8 + attributes_len(attributes) as u16)?;
     out.extend(&[transform.kind, 0])?;
     put_two(out, transform.id)?;

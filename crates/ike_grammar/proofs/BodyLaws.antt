@@ -122,7 +122,7 @@ delete_again end body x s =
 
 -- ---- encrypted payloads
 
-eight_below : (bytes : List ℕ) → IsOctets bytes → from_be_bytes w64 bytes < 2 ^ 64
+pub eight_below : (bytes : List ℕ) → IsOctets bytes → from_be_bytes w64 bytes < 2 ^ 64
 eight_below bytes fits = omega (arith, fits 0, fits 1, fits 2, fits 3, fits 4, fits 5, fits 6, fits 7)
 
 pub sk_found : (end first : ℕ) (body : List ℕ) (x : SkValue) → IsOctets body → sk_at end first body ≡ Ok x → SpellsSk x body × (x.first ≡ first)

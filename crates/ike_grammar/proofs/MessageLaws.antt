@@ -1,9 +1,9 @@
 -- Messages that are read are spelled so, and what is spelled so is read.
-use Rattle.std.proofs.Common.{◌≡◌, ℕ, zero, suc, ◌+◌, ◌/◌, ◌^◌, ◌≤◌, ◌<◌, ◌⊎◌, Bool, false, eq-eqb, List, [], ◌∷◌, ◌++◌, length, drop, Result, Ok, Err, refl, sym, ap, subst, ◌∙◌, arith, inl, inr}
+use Rattle.std.proofs.Common.{◌≡◌, ℕ, ◌+◌, ◌/◌, ◌^◌, ◌≤◌, ◌<◌, ◌⊎◌, Bool, false, eq-eqb, List, [], ◌∷◌, ◌++◌, length, take, drop, Result, Ok, Err, refl, sym, ap, subst, ◌∙◌, append_assoc, arith, inl, inr}
 use Rattle.std.specs.Prelude.{slice_index}
 use Rattle.std.specs.Int.{w32, w64, to_be_bytes, from_be_bytes}
 use Rattle.std.proofs.lemmas.Bool.{ltb-false, le-ltb, eqb-true, not-false, not_from_true}
-use Rattle.std.proofs.lemmas.List.{length-drop, get_or-drop, drop-drop}
+use Rattle.std.proofs.lemmas.List.{length-drop, length-take, get_or-drop, drop-drop, take-append-drop}
 use Rattle.std.proofs.lemmas.Nat.{be_bytes_4, be_bytes_8, from_be_bytes-to_be_bytes_4, from_be_bytes-to_be_bytes_8}
 use Rattle.ike_values.specs.Values.{PayloadValue}
 use Rattle.ike_values.specs.Headers.{HeaderParts, SpellsHeader, IsMessage}
@@ -14,76 +14,58 @@ use Rattle.ike_grammar.specs.declared.fault.Reason.{Reason}
 use Rattle.ike_grammar.specs.OctetRange.{IsOctets}
 use Rattle.ike_grammar.specs.Faults.{◌>>=◌}
 use Rattle.ike_grammar.specs.Chain.{chain_at}
-use Rattle.ike_grammar.specs.Messages.{four_at, eight_at, header_tests, header_read, header_at, message_at, MessageRefused}
+use Rattle.ike_grammar.specs.Messages.{header_tests, header_read, header_at, message_at, MessageRefused}
 use Rattle.ike_grammar.proofs.Binds.{done, bind_ok, ok_is, unless_ok, unless_passes, differ}
-use Rattle.ike_grammar.proofs.Cells.{IsOctets-drop, heads4, same4}
+use Rattle.ike_grammar.proofs.Cells.{IsOctets-drop, IsOctets-take, heads4, same4}
+use Rattle.ike_grammar.proofs.BodyLaws.{eight_below}
 use Rattle.ike_grammar.proofs.ChainLaws.{chain_found, chain_again}
 
--- ---- four and eight octets
+-- ---- numbers in four and in eight octets
 
-four_cells : (i : ℕ) (bytes : List ℕ) → i + 4 ≤ length bytes
-    → drop i bytes ≡ slice_index bytes (i + 0) ∷ slice_index bytes (i + 1) ∷ slice_index bytes (i + 2) ∷ slice_index bytes (i + 3) ∷ drop (i + 4) bytes
-four_cells i bytes l =
-    heads4 (drop i bytes) (omega (arith, length-drop i bytes)) ∙
-    same4 (get_or-drop i bytes 0 0) (get_or-drop i bytes 1 0) (get_or-drop i bytes 2 0) (get_or-drop i bytes 3 0) (drop-drop 4 i bytes)
+next_part : (bytes : List ℕ) (i n : ℕ) → drop i bytes ≡ take n (drop i bytes) ++ drop (i + n) bytes
+next_part bytes i n = sym (take-append-drop n (drop i bytes)) ∙ ap (λ (t : List ℕ). take n (drop i bytes) ++ t) (drop-drop n i bytes)
 
-octets_4 : (a b c d : ℕ) → a < 256 → b < 256 → c < 256 → d < 256 → IsOctets (a ∷ b ∷ c ∷ d ∷ [])
-octets_4 a b c d p q r s zero = p
-octets_4 a b c d p q r s (suc zero) = q
-octets_4 a b c d p q r s (suc (suc zero)) = r
-octets_4 a b c d p q r s (suc (suc (suc zero))) = s
-octets_4 a b c d p q r s (suc (suc (suc (suc i)))) = omega arith
+part-length : (bytes : List ℕ) (i n : ℕ) → i + n ≤ length bytes → length (take n (drop i bytes)) ≡ n
+part-length bytes i n long = omega (arith, length-take n (drop i bytes), length-drop i bytes)
 
-octets_8 : (a b c d : ℕ) (rest : List ℕ) → a < 256 → b < 256 → c < 256 → d < 256 → IsOctets rest → IsOctets (a ∷ b ∷ c ∷ d ∷ rest)
-octets_8 a b c d rest p q r s fits zero = p
-octets_8 a b c d rest p q r s fits (suc zero) = q
-octets_8 a b c d rest p q r s fits (suc (suc zero)) = r
-octets_8 a b c d rest p q r s fits (suc (suc (suc zero))) = s
-octets_8 a b c d rest p q r s fits (suc (suc (suc (suc i)))) = fits i
+part_fits : (bytes : List ℕ) (i n : ℕ) → IsOctets bytes → IsOctets (take n (drop i bytes))
+part_fits bytes i n fits = IsOctets-take n (drop i bytes) (IsOctets-drop i bytes fits)
 
-abbrev cells4 : List ℕ → ℕ → List ℕ
-cells4 bytes i = slice_index bytes i ∷ slice_index bytes (i + 1) ∷ slice_index bytes (i + 2) ∷ slice_index bytes (i + 3) ∷ []
+four_below : (bytes : List ℕ) → IsOctets bytes → from_be_bytes w32 bytes < 2 ^ 32
+four_below bytes fits = omega (arith, fits 0, fits 1, fits 2, fits 3)
 
-abbrev cells8 : List ℕ → ℕ → List ℕ
-cells8 bytes i = slice_index bytes i ∷ slice_index bytes (i + 1) ∷ slice_index bytes (i + 2) ∷ slice_index bytes (i + 3) ∷ slice_index bytes (i + 4) ∷ slice_index bytes (i + 5) ∷ slice_index bytes (i + 6) ∷ slice_index bytes (i + 7) ∷ []
+four_back : (xs : List ℕ) (n : ℕ) → length xs ≡ 4 → IsOctets xs → n ≡ from_be_bytes w32 xs → to_be_bytes w32 n ≡ xs
+four_back xs n long fits e = be_bytes_4 xs n long fits e
 
-cells4_fit : (bytes : List ℕ) (i : ℕ) → IsOctets bytes → IsOctets (cells4 bytes i)
-cells4_fit bytes i fits = octets_4 (slice_index bytes i) (slice_index bytes (i + 1)) (slice_index bytes (i + 2)) (slice_index bytes (i + 3)) (fits i) (fits (i + 1)) (fits (i + 2)) (fits (i + 3))
-
-cells8_fit : (bytes : List ℕ) (i : ℕ) → IsOctets bytes → IsOctets (cells8 bytes i)
-cells8_fit bytes i fits =
-    let behind : List ℕ = slice_index bytes (i + 4) ∷ slice_index bytes (i + 5) ∷ slice_index bytes (i + 6) ∷ slice_index bytes (i + 7) ∷ [] in
-    octets_8 (slice_index bytes i) (slice_index bytes (i + 1)) (slice_index bytes (i + 2)) (slice_index bytes (i + 3)) behind (fits i) (fits (i + 1)) (fits (i + 2)) (fits (i + 3))
-    (octets_4 (slice_index bytes (i + 4)) (slice_index bytes (i + 5)) (slice_index bytes (i + 6)) (slice_index bytes (i + 7)) (fits (i + 4)) (fits (i + 5)) (fits (i + 6)) (fits (i + 7)))
-
-four_below : (bytes : List ℕ) (i : ℕ) → IsOctets bytes → four_at bytes i < 2 ^ 32
-four_below bytes i fits = omega (arith, fits i, fits (i + 1), fits (i + 2), fits (i + 3))
-
-eight_below : (bytes : List ℕ) (i : ℕ) → IsOctets bytes → eight_at bytes i < 2 ^ 64
-eight_below bytes i fits = omega (arith, fits i, fits (i + 1), fits (i + 2), fits (i + 3), fits (i + 4), fits (i + 5), fits (i + 6), fits (i + 7))
-
-four_back : (bytes : List ℕ) (i n : ℕ) → IsOctets bytes → n ≡ four_at bytes i → to_be_bytes w32 n ≡ cells4 bytes i
-four_back bytes i n fits e = be_bytes_4 (cells4 bytes i) n refl (cells4_fit bytes i fits) e
-
-eight_back : (bytes : List ℕ) (i : ℕ) → IsOctets bytes → to_be_bytes w64 (eight_at bytes i) ≡ cells8 bytes i
-eight_back bytes i fits = be_bytes_8 (cells8 bytes i) (eight_at bytes i) refl (cells8_fit bytes i fits) refl
+eight_back : (xs : List ℕ) → length xs ≡ 8 → IsOctets xs → to_be_bytes w64 (from_be_bytes w64 xs) ≡ xs
+eight_back xs long fits = be_bytes_8 xs (from_be_bytes w64 xs) long fits refl
 
 -- ---- headers
 
 abbrev header_octets : List ℕ → List ℕ → List ℕ → List ℕ → List ℕ → List ℕ → List ℕ
 header_octets spii spir marks id len rest = spii ++ spir ++ marks ++ id ++ len ++ rest
 
-header_cells : (bytes : List ℕ) → 28 ≤ length bytes
-    → bytes ≡ header_octets (cells8 bytes 0) (cells8 bytes 8) (cells4 bytes 16) (cells4 bytes 20) (cells4 bytes 24) (drop 28 bytes)
-header_cells bytes l =
-    let behind : ℕ → List ℕ → List ℕ = λ i rest. slice_index bytes i ∷ slice_index bytes (i + 1) ∷ slice_index bytes (i + 2) ∷ slice_index bytes (i + 3) ∷ rest in
-    heads4 bytes (omega arith) ∙
-    ap (behind 0) (four_cells 4 bytes (omega arith) ∙
-    ap (behind 4) (four_cells 8 bytes (omega arith) ∙
-    ap (behind 8) (four_cells 12 bytes (omega arith) ∙
-    ap (behind 12) (four_cells 16 bytes (omega arith) ∙
-    ap (behind 16) (four_cells 20 bytes (omega arith) ∙
-    ap (behind 20) (four_cells 24 bytes l))))))
+regrouped : (a b c d e f : List ℕ) → ((((a ++ b) ++ c) ++ d) ++ e) ++ f ≡ a ++ (b ++ (c ++ (d ++ (e ++ f))))
+regrouped a b c d e f = simp append_assoc
+
+-- next payload, version, exchange and flags
+abbrev marks_of : List ℕ → List ℕ
+marks_of bytes = slice_index bytes 16 ∷ slice_index bytes 17 ∷ slice_index bytes 18 ∷ slice_index bytes 19 ∷ []
+
+four_cells : (bytes : List ℕ) → 20 ≤ length bytes → drop 16 bytes ≡ marks_of bytes ++ drop 20 bytes
+four_cells bytes l =
+    heads4 (drop 16 bytes) (omega (arith, length-drop 16 bytes)) ∙
+    same4 (get_or-drop 16 bytes 0 0) (get_or-drop 16 bytes 1 0) (get_or-drop 16 bytes 2 0) (get_or-drop 16 bytes 3 0) (drop-drop 4 16 bytes)
+
+header_parts : (bytes : List ℕ) → 28 ≤ length bytes
+    → bytes ≡ header_octets (take 8 bytes) (take 8 (drop 8 bytes)) (marks_of bytes) (take 4 (drop 20 bytes)) (take 4 (drop 24 bytes)) (drop 28 bytes)
+header_parts bytes l =
+    sym (take-append-drop 8 bytes) ∙
+    ap (λ (t : List ℕ). take 8 bytes ++ t) (next_part bytes 8 8 ∙
+    ap (λ (t : List ℕ). take 8 (drop 8 bytes) ++ t) (four_cells bytes (omega arith) ∙
+    ap (λ (t : List ℕ). marks_of bytes ++ t) (next_part bytes 20 4 ∙
+    ap (λ (t : List ℕ). take 4 (drop 20 bytes) ++ t) (next_part bytes 24 4)))) ∙
+    sym (regrouped (take 8 bytes) (take 8 (drop 8 bytes)) (marks_of bytes) (take 4 (drop 20 bytes)) (take 4 (drop 24 bytes)) (drop 28 bytes))
 
 -- what is free in a header that is read
 abbrev parts_of : List ℕ → HeaderParts
@@ -95,21 +77,30 @@ header_found bytes h fits e =
     let u = unless_ok (header_tests bytes) (Ok (header_read bytes)) h e in
     let long : 28 ≤ length bytes = ltb-false _ _ u.0.0 in
     let version : slice_index bytes 17 / 16 ≡ 2 = eqb-true _ _ (not-false _ u.0.1.0) in
-    let len : four_at bytes 24 ≡ length bytes = eqb-true _ _ (not-false _ u.0.1.1.0) in
-    let whole : 28 + length (drop 28 bytes) ≡ four_at bytes 24 = omega (arith, len, long, length-drop 28 bytes) in
+    let spii = take 8 bytes in
+    let spir = take 8 (drop 8 bytes) in
+    let marks = marks_of bytes in
+    let id = take 4 (drop 20 bytes) in
+    let size = take 4 (drop 24 bytes) in
     let rest = drop 28 bytes in
-    let marks = cells4 bytes 16 in
+    let len : from_be_bytes w32 size ≡ length bytes = eqb-true _ _ (not-false _ u.0.1.1.0) in
+    let whole : 28 + length rest ≡ from_be_bytes w32 size = omega (arith, len, long, length-drop 28 bytes) in
+    let spii_fit : IsOctets spii = IsOctets-take 8 bytes fits in
+    let spir_fit : IsOctets spir = part_fits bytes 8 8 fits in
+    let id_fit : IsOctets id = part_fits bytes 20 4 fits in
+    let size_fit : IsOctets size = part_fits bytes 24 4 fits in
+    let spii_long : length spii ≡ 8 = omega (arith, length-take 8 bytes) in
+    let spii_back : spii ≡ to_be_bytes w64 (from_be_bytes w64 spii) = sym (eight_back spii spii_long spii_fit) in
+    let spir_back : spir ≡ to_be_bytes w64 (from_be_bytes w64 spir) = sym (eight_back spir (part-length bytes 8 8 (omega arith)) spir_fit) in
+    let id_back : id ≡ to_be_bytes w32 (from_be_bytes w32 id) = sym (four_back id (from_be_bytes w32 id) (part-length bytes 20 4 (omega arith)) id_fit refl) in
+    let size_back : size ≡ to_be_bytes w32 (28 + length rest) = sym (four_back size (28 + length rest) (part-length bytes 24 4 long) size_fit whole) in
     subst (λ (y : Header). SpellsHeader y bytes (parts_of bytes)) (ok_is (header_read bytes) h u.1)
     (record {
-      bytes_are = header_cells bytes long ∙
-          ap (λ (t : List ℕ). header_octets t (cells8 bytes 8) marks (cells4 bytes 20) (cells4 bytes 24) rest) (sym (eight_back bytes 0 fits)) ∙
-          ap (λ (t : List ℕ). header_octets (to_be_bytes w64 (eight_at bytes 0)) t marks (cells4 bytes 20) (cells4 bytes 24) rest) (sym (eight_back bytes 8 fits)) ∙
-          ap (λ (t : List ℕ). header_octets (to_be_bytes w64 (eight_at bytes 0)) (to_be_bytes w64 (eight_at bytes 8)) marks t (cells4 bytes 24) rest) (sym (four_back bytes 20 (four_at bytes 20) fits refl)) ∙
-          ap (λ (t : List ℕ). header_octets (to_be_bytes w64 (eight_at bytes 0)) (to_be_bytes w64 (eight_at bytes 8)) marks (to_be_bytes w32 (four_at bytes 20)) t rest) (sym (four_back bytes 24 (28 + length rest) fits whole));
-      spii_fits = eight_below bytes 0 fits;
-      spir_fits = eight_below bytes 8 fits;
-      id_fits = four_below bytes 20 fits;
-      length_fits = (let below = four_below bytes 24 fits in omega (arith, whole, below));
+      bytes_are = header_parts bytes long ∙ (λ i. header_octets (spii_back i) (spir_back i) marks (id_back i) (size_back i) rest);
+      spii_fits = eight_below spii spii_fit;
+      spir_fits = eight_below spir spir_fit;
+      id_fits = four_below id id_fit;
+      length_fits = (let below = four_below size size_fit in omega (arith, whole, below));
       version_is = version;
       initiator_is = refl;
       response_is = refl;

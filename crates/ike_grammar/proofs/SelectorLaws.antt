@@ -8,7 +8,7 @@ use Rattle.ike_values.specs.Values.{SelectorValue}
 use Rattle.ike_values.specs.Spelling.{address_len, selector_spelling, FitsSelector, selectors_spelling, SpellsTraffic}
 use Rattle.ike_grammar.specs.declared.fault.Bad.{Bad}
 use Rattle.ike_grammar.specs.OctetRange.{IsOctets}
-use Rattle.ike_grammar.specs.Faults.{◌>>=◌, two_at, counted}
+use Rattle.ike_grammar.specs.Faults.{◌>>=◌, two_at, so_many}
 use Rattle.ike_grammar.specs.Selectors.{selector_tests, selector_read, selector_at, traffic_tests, behind_tests, traffic_made, traffic_at}
 use Rattle.ike_grammar.proofs.Binds.{done, bind_ok, ok_is, unless_ok, unless_passes, not_none, some_octets}
 use Rattle.ike_grammar.proofs.Cells.{IsOctets-drop, heads4, heads8, high, low, two_again}
@@ -82,12 +82,12 @@ pub record TakesSelectors (n : ℕ) (bytes : List ℕ) (x : List SelectorValue �
   pub fit : AllByRecursion FitsSelector x.0
   pub count : length x.0 ≡ n
 
-selectors_take : (end n : ℕ) (bytes : List ℕ) (x : List SelectorValue × List ℕ) → IsOctets bytes → counted (selector_at end) n bytes ≡ Ok x → TakesSelectors n bytes x
-unfolding counted
+selectors_take : (end n : ℕ) (bytes : List ℕ) (x : List SelectorValue × List ℕ) → IsOctets bytes → so_many (selector_at end) n bytes ≡ Ok x → TakesSelectors n bytes x
+unfolding so_many
 selectors_take end zero bytes x fits e = subst (TakesSelectors 0 bytes) (ok_is ([], bytes) x e) (record { parts = refl; fit = tt; count = refl })
 selectors_take end (suc n) bytes x fits e =
-    let first = bind_ok (selector_at end bytes) (λ y. counted (selector_at end) n y.1 >>= λ others. Ok (y.0 ∷ others.0, others.1)) x e in
-    let others = bind_ok (counted (selector_at end) n first.0.1) (λ ys. Ok (first.0.0 ∷ ys.0, ys.1)) x first.2 in
+    let first = bind_ok (selector_at end bytes) (λ y. so_many (selector_at end) n y.1 >>= λ others. Ok (y.0 ∷ others.0, others.1)) x e in
+    let others = bind_ok (so_many (selector_at end) n first.0.1) (λ ys. Ok (first.0.0 ∷ ys.0, ys.1)) x first.2 in
     let one = selector_takes end bytes first.0 fits first.1 in
     let more = selectors_take end n first.0.1 others.0 one.rest_fits others.1 in
     subst (TakesSelectors (suc n) bytes) (ok_is (first.0.0 ∷ others.0.0, others.0.1) x others.2)
@@ -97,20 +97,20 @@ selectors_take end (suc n) bytes x fits e =
       count = ap suc more.count;
     })
 
-selectors_again : (end : ℕ) (xs : List SelectorValue) (rest : List ℕ) → AllByRecursion FitsSelector xs → counted (selector_at end) (length xs) (selectors_spelling xs ++ rest) ≡ Ok (xs, rest)
-unfolding counted
+selectors_again : (end : ℕ) (xs : List SelectorValue) (rest : List ℕ) → AllByRecursion FitsSelector xs → so_many (selector_at end) (length xs) (selectors_spelling xs ++ rest) ≡ Ok (xs, rest)
+unfolding so_many
 selectors_again end [] rest fits = refl
 selectors_again end (x ∷ xs) rest fits =
     let regrouped : selectors_spelling (x ∷ xs) ++ rest ≡ selector_spelling x ++ (selectors_spelling xs ++ rest) = append_assoc (selector_spelling x) (selectors_spelling xs) rest in
-    ap (counted (selector_at end) (suc (length xs))) regrouped ∙
-    ap (λ (r : Result (SelectorValue × List ℕ) Bad). r >>= λ first. counted (selector_at end) (length xs) first.1 >>= λ others. Ok (first.0 ∷ others.0, others.1)) (selector_again end x (selectors_spelling xs ++ rest) fits.0) ∙
+    ap (so_many (selector_at end) (suc (length xs))) regrouped ∙
+    ap (λ (r : Result (SelectorValue × List ℕ) Bad). r >>= λ first. so_many (selector_at end) (length xs) first.1 >>= λ others. Ok (first.0 ∷ others.0, others.1)) (selector_again end x (selectors_spelling xs ++ rest) fits.0) ∙
     ap (λ (r : Result (List SelectorValue × List ℕ) Bad). r >>= λ others. Ok (x ∷ others.0, others.1)) (selectors_again end xs rest fits.1)
 
 pub traffic_found : (end : ℕ) (body : List ℕ) (xs : List SelectorValue) → IsOctets body → traffic_at end body ≡ Ok xs → (r : ℕ × ℕ × ℕ) × SpellsTraffic xs body r
 unfolding traffic_at
 traffic_found end body xs fits e =
-    let u = unless_ok (traffic_tests end body) (counted (selector_at end) (slice_index body 0) (drop 4 body) >>= λ selectors. traffic_made end selectors) xs e in
-    let b = bind_ok (counted (selector_at end) (slice_index body 0) (drop 4 body)) (λ selectors. traffic_made end selectors) xs u.1 in
+    let u = unless_ok (traffic_tests end body) (so_many (selector_at end) (slice_index body 0) (drop 4 body) >>= λ selectors. traffic_made end selectors) xs e in
+    let b = bind_ok (so_many (selector_at end) (slice_index body 0) (drop 4 body)) (λ selectors. traffic_made end selectors) xs u.1 in
     let v = unless_ok (behind_tests end b.0.1) (Ok b.0.0) xs b.2 in
     let long : 4 ≤ length body = ltb-false _ _ u.0.0 in
     let some : 0 < slice_index body 0 = some_octets _ u.0.1.0 in
@@ -131,8 +131,8 @@ pub traffic_again : (end : ℕ) (body : List ℕ) (xs : List SelectorValue) (r :
 unfolding traffic_at
 traffic_again end body xs r s =
     let bytes : List ℕ = length xs ∷ r.0 ∷ r.1 ∷ r.2 ∷ selectors_spelling xs in
-    let all : counted (selector_at end) (length xs) (selectors_spelling xs) ≡ Ok (xs, []) = ap (counted (selector_at end) (length xs)) (sym (append-nil (selectors_spelling xs))) ∙ selectors_again end xs [] s.selectors in
+    let all : so_many (selector_at end) (length xs) (selectors_spelling xs) ≡ Ok (xs, []) = ap (so_many (selector_at end) (length xs)) (sym (append-nil (selectors_spelling xs))) ∙ selectors_again end xs [] s.selectors in
     ap (traffic_at end) s.bytes_are ∙
-    unless_passes (traffic_tests end bytes) (counted (selector_at end) (length xs) (selectors_spelling xs) >>= λ selectors. traffic_made end selectors) (le-ltb (length bytes) 4 (omega arith), (not_none (length xs) s.some, tt)) ∙
+    unless_passes (traffic_tests end bytes) (so_many (selector_at end) (length xs) (selectors_spelling xs) >>= λ selectors. traffic_made end selectors) (le-ltb (length bytes) 4 (omega arith), (not_none (length xs) s.some, tt)) ∙
     ap (λ (q : Result (List SelectorValue × List ℕ) Bad). q >>= λ selectors. traffic_made end selectors) all ∙
     unless_passes (behind_tests end []) (Ok xs) (refl, tt)

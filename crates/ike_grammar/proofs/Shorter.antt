@@ -5,7 +5,7 @@ use Rattle.std.proofs.lemmas.Bool.{ltb-false, or_parts}
 use Rattle.std.proofs.lemmas.List.{length-drop}
 use Rattle.ike_values.specs.Values.{AttributeValue, TransformValue, ProposalValue, SelectorValue}
 use Rattle.ike_values.specs.Spelling.{address_len}
-use Rattle.ike_grammar.specs.Faults.{◌>>=◌, unless, Passes, two_at, many, counted}
+use Rattle.ike_grammar.specs.Faults.{◌>>=◌, unless, Passes, two_at, many, so_many}
 use Rattle.ike_grammar.specs.Proposals.{attribute_tests, attribute_at, formed_at, free_tests, free_read, fixed_read, item_tests, within, behind_item, transform_at, transform_read, transforms_at, proposal_tests, proposal_at, proposal_read, proposal_made, inside_at, left_tests}
 use Rattle.ike_grammar.specs.Selectors.{selector_tests, selector_read, selector_at}
 use Rattle.ike_grammar.proofs.Binds.{bind_ok, ok_is, unless_ok, chosen}
@@ -67,8 +67,8 @@ pub transforms_count : (end : ℕ) → Counts (λ k. transform_at end (k == 0)) 
 unfolding transforms_at
 transforms_count end = record { none = λ bytes. refl; more = λ k bytes. refl }
 
-pub selectors_count : (end : ℕ) → Counts (λ k. selector_at end) (counted (selector_at end))
-unfolding counted
+pub selectors_count : (end : ℕ) → Counts (λ k. selector_at end) (so_many (selector_at end))
+unfolding so_many
 selectors_count end = record { none = λ bytes. refl; more = λ k bytes. refl }
 
 pub transform_within : (end : ℕ) (last : Bool) (bytes after : List ℕ) (x : TransformValue) → transform_at end last bytes ≡ Ok (x, after) → length after ≤ length bytes

@@ -53,12 +53,12 @@ abbrev pub many : {X : Type 0} → (List ℕ → Result (X × List ℕ) Bad) →
 many one bytes = many_by one (length bytes) bytes
 
 -- this many items, and the octets after them
-unfoldable pub counted : {X : Type 0} → (List ℕ → Result (X × List ℕ) Bad) → ℕ → List ℕ
+unfoldable pub so_many : {X : Type 0} → (List ℕ → Result (X × List ℕ) Bad) → ℕ → List ℕ
     → Result (List X × List ℕ) Bad
-counted one zero bytes = Ok ([], bytes)
-counted one (suc n) bytes = do
+so_many one zero bytes = Ok ([], bytes)
+so_many one (suc n) bytes = do
   first ← one bytes
-  others ← counted one n first.1
+  others ← so_many one n first.1
   Ok (first.0 ∷ others.0, others.1)
 
 -- memory ran out, or the fault is one of these places and reasons

@@ -1,5 +1,5 @@
 -- Reading a whole message: its header, and the chain behind it.
-use Rattle.std.specs.Prelude.{◌≡◌, ℕ, ◌+◌, ◌/◌, ◌==◌, nat_lt, not, Bool, false, List, [], ◌∷◌, length, slice_index, drop, Result, Ok, Err}
+use Rattle.std.specs.Prelude.{◌≡◌, ℕ, ◌/◌, ◌==◌, nat_lt, not, Bool, false, List, [], ◌∷◌, length, slice_index, take, drop, Result, Ok, Err}
 use Rattle.std.specs.Int.{w32, w64, from_be_bytes}
 use Rattle.ike_values.specs.declared.header.Header.{Header}
 use Rattle.ike_values.specs.declared.header.Message.{Message}
@@ -10,32 +10,22 @@ use Rattle.ike_grammar.specs.declared.fault.Reason.TheVariants.{Short, Length, V
 use Rattle.ike_grammar.specs.Faults.{◌>>=◌, refuse, unless}
 use Rattle.ike_grammar.specs.Chain.{chain_at}
 
--- the numbers in the four and in the eight octets there, big-endian
-abbrev pub four_at : List ℕ → ℕ → ℕ
-four_at bytes i = from_be_bytes w32 (slice_index bytes i ∷ slice_index bytes (i + 1)
-    ∷ slice_index bytes (i + 2) ∷ slice_index bytes (i + 3) ∷ [])
-
-abbrev pub eight_at : List ℕ → ℕ → ℕ
-eight_at bytes i = from_be_bytes w64 (slice_index bytes i ∷ slice_index bytes (i + 1)
-    ∷ slice_index bytes (i + 2) ∷ slice_index bytes (i + 3) ∷ slice_index bytes (i + 4)
-    ∷ slice_index bytes (i + 5) ∷ slice_index bytes (i + 6) ∷ slice_index bytes (i + 7) ∷ [])
-
 abbrev pub header_tests : List ℕ → List (Bool × Bad)
 header_tests bytes =
     refuse (nat_lt (length bytes) 28) 0 Short
     ∷ refuse (not (slice_index bytes 17 / 16 == 2)) 17 Version
-    ∷ refuse (not (four_at bytes 24 == length bytes)) 24 Length
+    ∷ refuse (not (from_be_bytes w32 (take 4 (drop 24 bytes)) == length bytes)) 24 Length
     ∷ []
 
 abbrev pub header_read : List ℕ → Header
 header_read bytes =
     record {
-      spii = eight_at bytes 0;
-      spir = eight_at bytes 8;
+      spii = from_be_bytes w64 (take 8 bytes);
+      spir = from_be_bytes w64 (take 8 (drop 8 bytes));
       exchange = slice_index bytes 18;
       initiator = has_flag (slice_index bytes 19) 8;
       response = has_flag (slice_index bytes 19) 32;
-      id = four_at bytes 20;
+      id = from_be_bytes w32 (take 4 (drop 20 bytes));
     }
 
 unfoldable pub header_at : List ℕ → Result Header Bad

@@ -4,7 +4,7 @@ use Rattle.ike_values.specs.Values.{SelectorValue}
 use Rattle.ike_values.specs.Spelling.{address_len}
 use Rattle.ike_grammar.specs.declared.fault.Bad.{Bad}
 use Rattle.ike_grammar.specs.declared.fault.Reason.TheVariants.{Short, Length, Field, Trailing}
-use Rattle.ike_grammar.specs.Faults.{◌>>=◌, refuse, unless, two_at, counted}
+use Rattle.ike_grammar.specs.Faults.{◌>>=◌, refuse, unless, two_at, so_many}
 
 -- type, IP protocol, length, start port, end port, start address, end address
 abbrev pub selector_tests : ℕ → List ℕ → List (Bool × Bad)
@@ -49,5 +49,5 @@ traffic_made end selectors = unless (behind_tests end selectors.1) (Ok selectors
 
 unfoldable pub traffic_at : ℕ → List ℕ → Result (List SelectorValue) Bad
 traffic_at end body = unless (traffic_tests end body) (do
-  selectors ← counted (selector_at end) (slice_index body 0) (drop 4 body)
+  selectors ← so_many (selector_at end) (slice_index body 0) (drop 4 body)
   traffic_made end selectors)

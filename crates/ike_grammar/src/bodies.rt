@@ -7,7 +7,7 @@ ghost use Rattle.ike_grammar.specs.Bodies.{id_at, auth_at, nonce_at, notify_at, 
 
 use crate::fault::{Reason, Unread, bad_at};
 use crate::octets::{octets_of, place, two};
-use ha_base::Octets;
+use ha_base::{Octets, read_u64};
 use ike_values::{AuthBody, DeleteBody, IdBody, NotifyBody, SkBody};
 use std::alloc::Global;
 
@@ -109,7 +109,7 @@ pub(crate) fn sk_of(alloc: Global, end: usize, first: u8, body: &[u8]) -> Result
     icv.copy_from_slice(code);
     Ok(SkBody {
         first,
-        iv: u64::from_be_bytes([iv[0], iv[1], iv[2], iv[3], iv[4], iv[5], iv[6], iv[7]]),
+        iv: read_u64(iv),
         ciphertext: octets_of(alloc, ciphertext)?,
         icv,
     })

@@ -1,6 +1,8 @@
 ghost use Rattle.std.specs.Prelude.{◌≡◌};
 ghost use Rattle.ike_grammar.specs.Kinds.{payload_kind, is_sk, is_other};
 
+use ike_values::payload_types;
+
 /// The payload types of RFC 7296, section 3.2.
 #[derive(Clone, Copy)]
 pub(crate) enum Kind {
@@ -27,22 +29,22 @@ pub(crate) fn kind_of(number: u8) -> Kind
     ensures { result ≡ payload_kind number }
 {
     match number {
-        33 => Kind::Sa,
-        34 => Kind::Ke,
-        35 => Kind::IdI,
-        36 => Kind::IdR,
-        37 => Kind::Cert,
-        38 => Kind::CertReq,
-        39 => Kind::Auth,
-        40 => Kind::Nonce,
-        41 => Kind::Notify,
-        42 => Kind::Delete,
-        43 => Kind::Vendor,
-        44 => Kind::TsI,
-        45 => Kind::TsR,
-        46 => Kind::Sk,
-        47 => Kind::Cp,
-        48 => Kind::Eap,
+        payload_types::SA => Kind::Sa,
+        payload_types::KE => Kind::Ke,
+        payload_types::IDI => Kind::IdI,
+        payload_types::IDR => Kind::IdR,
+        payload_types::CERT => Kind::Cert,
+        payload_types::CERTREQ => Kind::CertReq,
+        payload_types::AUTH => Kind::Auth,
+        payload_types::NONCE => Kind::Nonce,
+        payload_types::NOTIFY => Kind::Notify,
+        payload_types::DELETE => Kind::Delete,
+        payload_types::VENDOR => Kind::Vendor,
+        payload_types::TSI => Kind::TsI,
+        payload_types::TSR => Kind::TsR,
+        payload_types::SK => Kind::Sk,
+        payload_types::CP => Kind::Cp,
+        payload_types::EAP => Kind::Eap,
         _ => Kind::Other,
     }
 }

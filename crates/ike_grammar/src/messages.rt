@@ -1,12 +1,13 @@
 //! Headers and whole messages.
 
-ghost use Rattle.std.specs.Prelude.{◌≡◌, ◌+◌, ◌<◌, ◌≤◌, length, IsOk};
+ghost use Rattle.std.specs.Prelude.{◌≡◌, ◌≤◌, length, IsOk};
 ghost use Rattle.ike_values.specs.Headers.{has_flag};
 ghost use Rattle.ike_grammar.specs.Faults.{Gives};
-ghost use Rattle.ike_grammar.specs.Messages.{four_at, eight_at, header_at, message_at};
+ghost use Rattle.ike_grammar.specs.Messages.{header_at, message_at};
 
 use crate::chain::chain_of;
 use crate::fault::{Bad, Reason, Unread};
+use ha_base::{read_u32, read_u64};
 use ike_values::{HEADER_OCTETS, Header, INITIATOR, Message, RESPONSE};
 use std::alloc::Global;
 
@@ -27,19 +28,19 @@ pub(crate) fn header_of(bytes: &[u8]) -> Result<Header, Bad>
             reason: Reason::Version,
         });
     }
-    if four(bytes, 24) as usize != bytes.len() {
+    if read_u32(&bytes[24..28]) as usize != bytes.len() {
         return Err(Bad {
             place: 24,
             reason: Reason::Length,
         });
     }
     Ok(Header {
-        spii: eight(bytes, 0),
-        spir: eight(bytes, 8),
+        spii: read_u64(&bytes[..8]),
+        spir: read_u64(&bytes[8..16]),
         exchange: bytes[18],
         initiator: has_flag(bytes[19], INITIATOR),
         response: has_flag(bytes[19], RESPONSE),
-        id: four(bytes, 20),
+        id: read_u32(&bytes[20..24]),
     })
 }
 
@@ -47,29 +48,6 @@ fn has_flag(flags: u8, flag: u8) -> bool
     ensures { result ≡ has_flag flags flag }
 {
     flags & flag != 0
-}
-
-fn four(bytes: &[u8], at: usize) -> u32
-    requires { at + 3 < length bytes.now }
-    ensures { result ≡ four_at bytes.now at }
-{
-    u32::from_be_bytes([bytes[at], bytes[at + 1], bytes[at + 2], bytes[at + 3]])
-}
-
-fn eight(bytes: &[u8], at: usize) -> u64
-    requires { at + 7 < length bytes.now }
-    ensures { result ≡ eight_at bytes.now at }
-{
-    u64::from_be_bytes([
-        bytes[at],
-        bytes[at + 1],
-        bytes[at + 2],
-        bytes[at + 3],
-        bytes[at + 4],
-        bytes[at + 5],
-        bytes[at + 6],
-        bytes[at + 7],
-    ])
 }
 
 #[tactic(auto, unfolding(crate::specs::Messages::message_at))]

@@ -1,15 +1,16 @@
 //! Proposals, their transforms, and the attributes of these.
 
-ghost use Rattle.std.specs.Prelude.{◌≡◌, ◌+◌, ◌-◌, ◌<◌, ◌≤◌, length, IfOk};
+ghost use Rattle.std.specs.Prelude.{◌≡◌, ◌+◌, ◌-◌, ◌<◌, ◌≤◌, length, IfOk, Ok};
 ghost use Rattle.ike_values.specs.AttributeView.{attribute_value};
 ghost use Rattle.ike_values.specs.TransformView.{transform_value};
 ghost use Rattle.ike_values.specs.ProposalView.{proposal_value};
-ghost use Rattle.ike_grammar.specs.Faults.{Gives, many};
-ghost use Rattle.ike_values.specs.Spelling.{last_mark};
-ghost use Rattle.ike_grammar.specs.Proposals.{attribute_at, transform_at, transforms_at, proposal_at, proposals_at};
+ghost use Rattle.ike_grammar.specs.Faults.{Gives, many, two_at, unless};
+ghost use Rattle.ike_grammar.specs.declared.proposals.TheConstants.{FIXED};
+ghost use Rattle.ike_grammar.specs.Proposals.{attribute_at, fixed_read, free_read, free_tests, transform_at, transforms_at, proposal_at, proposals_at};
 
 use crate::fault::{Reason, Unread, bad_at};
 use crate::octets::{octets_of, place, two};
+use ike_encoding::last_mark;
 use ike_values::{Attribute, Attributes, Proposal, Proposals, Transform, Transforms};
 use std::alloc::Global;
 
@@ -58,7 +59,7 @@ fn proposal_of(alloc: Global, end: usize, bytes: &[u8]) -> Result<(Proposal, &[u
         return Err(bad_at(place(end, bytes) + 2, Reason::Length));
     }
     let (item, behind) = bytes.split_at(len);
-    if bytes[0] != mark(2, behind.is_empty()) {
+    if bytes[0] != last_mark(2, behind.is_empty()) {
         return Err(bad_at(place(end, bytes), Reason::Field));
     }
     let (_, inside) = item.split_at(8);
@@ -75,13 +76,6 @@ fn proposal_of(alloc: Global, end: usize, bytes: &[u8]) -> Result<(Proposal, &[u
         transforms,
     };
     Ok((proposal, behind))
-}
-
-// What an item of a list begins with: 0 for the last.
-fn mark(more: u8, last: bool) -> u8
-    ensures { result ≡ last_mark more last }
-{
-    if last { 0 } else { more }
 }
 
 fn transforms_of(
@@ -124,7 +118,7 @@ fn transform_of(
     if len < 8 || bytes.len() < len {
         return Err(bad_at(place(end, bytes) + 2, Reason::Length));
     }
-    if bytes[0] != mark(3, last) {
+    if bytes[0] != last_mark(3, last) {
         return Err(bad_at(place(end, bytes), Reason::Field));
     }
     let (item, behind) = bytes.split_at(len);
@@ -159,23 +153,40 @@ fn attribute_of(alloc: Global, end: usize, bytes: &[u8]) -> Result<(Attribute, &
     if bytes.len() < 4 {
         return Err(bad_at(place(end, bytes), Reason::Short));
     }
-    let kind = two(bytes, 0);
-    let (_, rest) = bytes.split_at(4);
-    if kind >= FIXED {
-        let value = two(bytes, 2);
-        return Ok((
-            Attribute::Fixed {
-                kind: kind - FIXED,
-                value,
-            },
-            rest,
-        ));
+    if two(bytes, 0) >= FIXED {
+        return Ok(fixed_of(bytes));
     }
+    free_of(alloc, end, bytes)
+}
+
+/// An attribute whose value has two octets.
+fn fixed_of(bytes: &[u8]) -> (Attribute, &[u8])
+    requires long { 4 ≤ length bytes.now }
+    requires fixed { FIXED ≤ two_at bytes.now 0 }
+    ensures { (attribute_value result.0, result.1.now) ≡ fixed_read bytes.now }
+{
+    let (_, behind) = bytes.split_at(4);
+    let attribute = Attribute::Fixed {
+        kind: two(bytes, 0) - FIXED,
+        value: two(bytes, 2),
+    };
+    (attribute, behind)
+}
+
+/// An attribute whose value has as many octets as its length says.
+fn free_of(alloc: Global, end: usize, bytes: &[u8]) -> Result<(Attribute, &[u8]), Unread>
+    requires within { length bytes.now ≤ end }
+    requires long { 4 ≤ length bytes.now }
+    ensures { Gives (λ x. (attribute_value x.0, x.1.now)) result
+        (unless (free_tests end bytes.now) (Ok (free_read bytes.now))) }
+{
+    let (_, rest) = bytes.split_at(4);
     let len = two(bytes, 2) as usize;
     if rest.len() < len {
         return Err(bad_at(place(end, bytes) + 2, Reason::Length));
     }
     let (value, behind) = rest.split_at(len);
+    let kind = two(bytes, 0);
     let value = octets_of(alloc, value)?;
     Ok((Attribute::Free { kind, value }, behind))
 }

@@ -3,7 +3,7 @@
 ghost use Rattle.std.specs.Prelude.{◌≡◌, ◌+◌, ◌-◌, ◌≤◌, length, IfOk};
 ghost use Rattle.ike_values.specs.SelectorView.{selector_value};
 ghost use Rattle.ike_values.specs.Spelling.{address_len};
-ghost use Rattle.ike_grammar.specs.Faults.{Gives, counted};
+ghost use Rattle.ike_grammar.specs.Faults.{Gives, so_many};
 ghost use Rattle.ike_grammar.specs.Selectors.{selector_at, traffic_at};
 
 use crate::fault::{Reason, Unread, bad_at};
@@ -39,7 +39,7 @@ fn selectors_of(
     bytes: &[u8],
 ) -> Result<(Selectors, &[u8]), Unread>
     requires { length bytes.now ≤ end }
-    ensures given { Gives (λ x. (x.0, x.1.now)) result (counted (selector_at end) count bytes.now) }
+    ensures given { Gives (λ x. (x.0, x.1.now)) result (so_many (selector_at end) count bytes.now) }
     ensures within { IfOk result (λ x. length x.1.now ≤ length bytes.now) }
 {
     let mut selectors = Selectors::new(alloc);

@@ -1,15 +1,8 @@
 -- The length that stands before an identity says where it ends.
-use Rattle.std.proofs.Common.{◌≡◌, ℕ, List, ◌∷◌, ◌++◌, length, drop, slice_index_or, ◌∙◌, sym, ap, arith}
-use Rattle.std.proofs.Math.Seq.{take-append_seam, drop-append_seam}
+use Rattle.std.proofs.Common.{◌≡◌, ℕ, List, ◌∷◌, ◌++◌, length, drop, slice_index_or, ◌∙◌, sym, ap}
+use Rattle.ha_base.proofs.Fronts.{front_same, rest_same}
 use Rattle.ha_base.specs.declared.identities.GatewayId.{GatewayId}
 use Rattle.redirects.specs.Laws.{ReadingIsUnique}
-
--- of equal lists the fronts of equal length are equal, and so are the rests
-front_same : (xs ys behind other : List ℕ) → length xs ≡ length ys → xs ++ behind ≡ ys ++ other → xs ≡ ys
-front_same xs ys behind other long same = grind (arith, take-append_seam xs behind, take-append_seam ys other)
-
-rest_same : (xs ys behind other : List ℕ) → length xs ≡ length ys → xs ++ behind ≡ ys ++ other → behind ≡ other
-rest_same xs ys behind other long same = grind (arith, drop-append_seam xs behind, drop-append_seam ys other)
 
 abbrev as_gateway : ℕ → List ℕ → GatewayId
 as_gateway kind octets = record { kind = kind; octets = octets }

@@ -34,7 +34,7 @@ follows_redirects payloads =
     || is_some (first_notify REDIRECTED_FROM payloads)
 
 -- a request that has its form, and after which these half-open associations are left
-pub record HasForm
+pub record HasRequestForm
     (now : ℕ) (message : Message) (old : List HalfOpen)
     (nonce ticket : List ℕ) (new : List HalfOpen) : Type 0 where
   pub presented : IsPresented message.header message.payloads nonce ticket
@@ -52,17 +52,17 @@ IsJudged ticket_key is_steered now message old Form new =
     ((nonce ticket : List ℕ) → ¬ IsPresented message.header message.payloads nonce ticket)
     × (new ≡ old)
 IsJudged ticket_key is_steered now message old Full new =
-    ((nonce : List ℕ) × (ticket : List ℕ) × HasForm now message old nonce ticket new)
+    ((nonce : List ℕ) × (ticket : List ℕ) × HasRequestForm now message old nonce ticket new)
     × (length new ≡ MAX_HALF_OPENS)
 IsJudged ticket_key is_steered now message old Redirected new =
-    ((nonce : List ℕ) × (ticket : List ℕ) × HasForm now message old nonce ticket new)
+    ((nonce : List ℕ) × (ticket : List ℕ) × HasRequestForm now message old nonce ticket new)
     × (length new ≢ MAX_HALF_OPENS)
     × (is_steered ≡ true) × (follows_redirects message.payloads ≡ true)
 IsJudged ticket_key is_steered now message old Nack new =
-    (nonce : List ℕ) × (ticket : List ℕ) × HasForm now message old nonce ticket new
+    (nonce : List ℕ) × (ticket : List ℕ) × HasRequestForm now message old nonce ticket new
     × IsHeard is_steered message new
     × IsNotTaken ticket_key ticket now
 IsJudged ticket_key is_steered now message old (Presented number content) new =
-    (nonce : List ℕ) × (ticket : List ℕ) × HasForm now message old nonce ticket new
+    (nonce : List ℕ) × (ticket : List ℕ) × HasRequestForm now message old nonce ticket new
     × IsHeard is_steered message new
     × IsTaken ticket_key ticket now number content

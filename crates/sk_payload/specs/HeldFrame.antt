@@ -41,8 +41,8 @@ octets_before next payloads =
     replicate 28 0
     ++ (first_or next payloads ∷ replicate 11 0 ++ (chain_before next payloads ++ 0 ∷ []))
 
-abbrev pub framed : Inside → Framed
-framed f = record {
+abbrev pub frame_of : Inside → Framed
+frame_of f = record {
   payloads = payloads_in f.message.octets;
   room = DATAGRAM_OCTETS - CHECK_VALUE - length f.message.octets;
 }

@@ -33,9 +33,9 @@ impl Model for Frame {
 
     ghost Value = { Framed };
 
-    ghost use Rattle.sk_payload.specs.HeldFrame.{framed, IsFrame};
+    ghost use Rattle.sk_payload.specs.HeldFrame.{frame_of, IsFrame};
 
-    ghost view = { framed };
+    ghost view = { frame_of };
 
     ghost invariant = { IsFrame };
 }

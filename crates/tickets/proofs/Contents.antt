@@ -3,8 +3,8 @@ use Rattle.std.proofs.Common.{◌≡◌, ℕ, ◌+◌, ◌^◌, ◌<◌, ◌≤�
 use borrow.Rule.Slice.PartMut.{put_mid}
 use Rattle.std.proofs.lemmas.Slice.{take-put_mid}
 use Rattle.std.specs.Int.{w64, to_be_bytes, from_be_bytes}
-use Rattle.std.proofs.Math.Seq.{take-append_seam, drop-append_seam}
 use Rattle.std.proofs.lemmas.Nat.{from_be_bytes-to_be_bytes_8}
+use Rattle.ha_base.proofs.Fronts.{front_same, rest_same}
 use Rattle.ha_base.specs.declared.key_material.KeySize.{KeySize}
 use Rattle.ha_base.specs.declared.key_material.KeySize.TheVariants.{Bits128, Bits256}
 use Rattle.tickets.specs.declared.content.Content.{Content}
@@ -54,12 +54,6 @@ content_read plain content long spii spir sk_d size issued expiry kind octets =
     ∙ (λ i. sym spii i ++ (sym spir i ++ (sym sk_d i ++ (size i ∷ (sym issued i ++ (sym expiry i ++ (sym kind i ∷ sym octets i)))))))
 
 -- ---- octets are those of one content
-
-front_same : (xs ys behind other : List ℕ) → length xs ≡ length ys → xs ++ behind ≡ ys ++ other → xs ≡ ys
-front_same xs ys behind other long same = grind (arith, take-append_seam xs behind, take-append_seam ys other)
-
-rest_same : (xs ys behind other : List ℕ) → length xs ≡ length ys → xs ++ behind ≡ ys ++ other → behind ≡ other
-rest_same xs ys behind other long same = grind (arith, drop-append_seam xs behind, drop-append_seam ys other)
 
 size_same : (size other : KeySize) → size_octet size ≡ size_octet other → size ≡ other
 size_same Bits128 Bits128 e = refl
