@@ -7,7 +7,7 @@ use Rattle.events.specs.declared.turn.Turn.{Turn}
 use Rattle.keeper_book.specs.Book.{Book}
 use Rattle.turn_laws.proofs.All.{numbers-once}
 use Rattle.turn_laws.proofs.Listed.{turn-numbers}
-use Rattle.turn_laws.proofs.Lists.{all-each}
+use Rattle.turn_rules.proofs.SlotTies.{all-weaker}
 use Rattle.turn_laws.proofs.Names.{is_place-same}
 use Rattle.turn_laws.specs.Acts.{numbers_at}
 use Rattle.turn_laws.specs.FirstDelivery.{IsOtherPacket}
@@ -76,7 +76,7 @@ packets-apart (turn ∷ past) once = by_packet (accepted_in turn) refl (packets-
     by_packet (Some packet) is rest =
         let p : Place = place_of packet.name in
         let others : IsNotIn packet.number (numbers_at p (acts_of past)) = packet-listed (λ k. IsNotIn k (numbers_at p (acts_of past))) turn packet is (once-apart (listed_at p turn) (numbers_at p (acts_of past)) (both p)) in
-        (all-each (filter_map accepted_in past) (λ y other same. other (ap (λ (k : Packet). place_of k.name) same) (ap (λ (k : Packet). k.number) same)) (not-accepted p packet.number past others), rest)
+        (all-weaker (filter_map accepted_in past) (λ y other same. other (ap (λ (k : Packet). place_of k.name) same) (ap (λ (k : Packet). k.number) same)) (not-accepted p packet.number past others), rest)
 
 -- no packet is accepted twice
 pub packets-once : (boxes : ℕ) (past : List Turn) (book : Book) → Explained boxes past → Stands past book → IsEachOnce (filter_map accepted_in past)

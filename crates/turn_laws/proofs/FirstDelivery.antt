@@ -26,7 +26,7 @@ use Rattle.turn_laws.proofs.Outcomes.{Idle, Ours_used, Outcome, Over, Theirs_use
 use Rattle.turn_laws.proofs.Records.{deed-of}
 use Rattle.turn_laws.proofs.Theirs.{not-both, no-packet}
 use Rattle.turn_laws.proofs.Told.{is_end-true}
-use Rattle.turn_laws.specs.FirstDelivery.{IsFirst, IsOtherPacket, MemberAcceptsFirst, PeerAcceptsFirst}
+use Rattle.turn_laws.specs.FirstDelivery.{IsUnaccepted, IsOtherPacket, MemberAcceptsFirst, PeerAcceptsFirst}
 use Rattle.turn_laws.specs.Holdings.{IsNotIn}
 use Rattle.turn_laws.specs.Places.{Ours, Place, Theirs, place_of}
 use Rattle.turn_laws.proofs.Lists.{all-both, all-filter}
@@ -100,7 +100,7 @@ ReceivesOther spir n turn = received_of spir turn ≢ Some n
 module _ (spir n : ℕ) (p : Place) (test : Turn → Bool)
     (took_here : (boxes : ℕ) (past : List Turn) (turn : Turn) (explained : Explained boxes (turn ∷ past)) → test turn ≡ true → (is : received_of spir turn ≡ Some n)
     → place_of (received-took spir n turn.event turn.step.verdict is).packet.name ≡ p) where
-  none-received : (boxes : ℕ) (past : List Turn) → Explained boxes past → IsFirst p n past → AllByRecursion (ReceivesOther spir n) (filter test past)
+  none-received : (boxes : ℕ) (past : List Turn) → Explained boxes past → IsUnaccepted p n past → AllByRecursion (ReceivesOther spir n) (filter test past)
   none-received boxes [] explained first = tt
   none-received boxes (turn ∷ past) explained first = by_test (none-received boxes past explained.1 (fewer-others (IsOtherPacket p n) (accepted_in turn) (filter_map accepted_in past) first)) (test turn) refl
     where
@@ -138,7 +138,7 @@ since_entered-all P spir (turn ∷ turns) all = by_test (is_entered spir (entere
     by_test false rest = (all.0, rest)
 
 module _ (boxes : ℕ) (past : List Turn) (explained : Explained boxes past) where
-  held-fresh : (member spir n : ℕ) (held : Held) → held_by (window_by past) (own (Member member) past) spir ≡ Some held → WindowCovers held.window n → IsFirst (Ours spir counter.EspIn) n past → judged held.window n ≡ Fresh
+  held-fresh : (member spir n : ℕ) (held : Held) → held_by (window_by past) (own (Member member) past) spir ≡ Some held → WindowCovers held.window n → IsUnaccepted (Ours spir counter.EspIn) n past → judged held.window n ≡ Fresh
   held-fresh member spir n held is covers first = go (found (grant_of spir) (own (Member member) past)) is
     where
       mine : List Turn
@@ -158,7 +158,7 @@ module _ (boxes : ℕ) (past : List Turn) (explained : Explained boxes past) whe
           subst (λ window. judged window n ≡ Fresh) window
           (covered-fresh (window_by past) taken.bases.esp_in n (filter_map (received_of spir) (since spir mine)) (subst (λ window. WindowCovers window n) (sym window) covers) none)
 
-  slot-fresh : (test : Slot → Bool) (slot : Slot) (n : ℕ) → first_slot test (slots_by (window_by past) (own Peer past)) ≡ Some slot → WindowCovers slot.window n → IsFirst (Theirs (peer_counter slot.sa counter.EspIn)) n past → judged slot.window n ≡ Fresh
+  slot-fresh : (test : Slot → Bool) (slot : Slot) (n : ℕ) → first_slot test (slots_by (window_by past) (own Peer past)) ≡ Some slot → WindowCovers slot.window n → IsUnaccepted (Theirs (peer_counter slot.sa counter.EspIn)) n past → judged slot.window n ≡ Fresh
   slot-fresh test slot n is covers first =
       let window = ap (λ (s : Slot). s.window) (slot-told (window_by past) (own Peer past) test slot is) in
       subst (λ window. judged window n ≡ Fresh) (sym window)
@@ -178,7 +178,7 @@ module _ (boxes : ℕ) (past : List Turn) (explained : Explained boxes past) whe
       OtherPacket : Turn → Type 0
       OtherPacket turn = (packet : Packet) → accepted_in turn ≡ Some packet → IsOtherPacket p n packet
 
-      packets-other : (past : List Turn) → IsFirst p n past → AllByRecursion OtherPacket past
+      packets-other : (past : List Turn) → IsUnaccepted p n past → AllByRecursion OtherPacket past
       packets-other [] first = tt
       packets-other (turn ∷ past) first = ((λ packet is. first-other (IsOtherPacket p n) (accepted_in turn) packet (filter_map accepted_in past) is first), packets-other past (fewer-others (IsOtherPacket p n) (accepted_in turn) (filter_map accepted_in past) first))
 

@@ -8,6 +8,9 @@ mod BookRecords
 mod Pools
 mod Lots
 mod Holdings
+mod Firsts
+mod Begun
+mod Keeping
 mod Safety
 mod Halves
 mod Runs

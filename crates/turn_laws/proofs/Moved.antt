@@ -12,7 +12,8 @@ use Rattle.turn_laws.proofs.Acting.{moves_onto}
 use Rattle.turn_laws.proofs.Deeds.{rest_of}
 use Rattle.turn_laws.proofs.Holdings.{is_actor-same}
 use Rattle.turn_laws.proofs.Listed.{moved, moved-calls, number_moved, turn-listed}
-use Rattle.turn_laws.proofs.Lists.{all-append, all-each}
+use Rattle.turn_laws.proofs.Lists.{all-append}
+use Rattle.turn_rules.proofs.SlotTies.{all-weaker}
 use Rattle.turn_laws.proofs.Moves.{IsUseOrEnd, are-uses}
 use Rattle.turn_laws.specs.Acts.{Act, Calls, Ends, Leaps, Leases, Move, Opens, Seals, Starts, Uses, act_by, effect_of_use, holding_at}
 use Rattle.turn_laws.specs.Holdings.{Actor, Draws, Holding, Nothing, holding_after, is_actor}
@@ -91,7 +92,7 @@ seals-using [] = tt
 seals-using (seal ∷ seals) = (tt, seals-using seals)
 
 pub rest-using : (event : Event) (step : Step) → AllByRecursion IsUsing (rest_of event step)
-rest-using event step = all-append IsUsing (uses_of event step.verdict) (map (λ seal. Seals (key_iv seal)) step.seals) (all-each (uses_of event step.verdict) use-using (are-uses event step.verdict)) (seals-using step.seals)
+rest-using event step = all-append IsUsing (uses_of event step.verdict) (map (λ seal. Seals (key_iv seal)) step.seals) (all-weaker (uses_of event step.verdict) use-using (are-uses event step.verdict)) (seals-using step.seals)
 
 -- the numbers of a turn are those of its moves beside its calls
 pub rest-listed : (p : Place) (turn : Turn) → reverse (moved p (rest_of turn.event turn.step)) ≡ listed_at p turn

@@ -12,7 +12,8 @@ use Rattle.keeper_book.specs.declared.records.Taken.{Taken}
 use Rattle.turn_laws.proofs.Covers.{are_ready-calls}
 use Rattle.turn_laws.proofs.Deeds.{Asked, Deed, Ended, HasItsRecord, MemberUses, Rested, Rests, Used, Used_theirs, UsesIt, spent_by}
 use Rattle.turn_laws.proofs.Explained.{fits-deed}
-use Rattle.turn_laws.proofs.Lists.{all-each, all-filter}
+use Rattle.turn_laws.proofs.Lists.{all-filter}
+use Rattle.turn_rules.proofs.SlotTies.{all-weaker}
 use Rattle.turn_rules.proofs.StateLaws.{does-told}
 use Rattle.turn_rules.specs.Ends.{Member, is_by, own}
 use Rattle.turn_rules.specs.Held.{Held, first_some, found, grant_of, granted, held_by, holding, window_by}
@@ -33,7 +34,7 @@ found-holds {X} {Y} P f (x ∷ xs) y all is = go (found-holds P f xs y all.1) (f
 -- the record of what was granted last, in some of the turns
 granted-spir : (test : Turn → Bool) (past : List Turn) → HaveTheirRecords past → (spir : ℕ) (taken : Taken) → found (grant_of spir) (filter test past) ≡ Some taken → taken.sa.spir ≡ spir
 granted-spir test past records spir taken is = found-holds (λ t. t.sa.spir ≡ spir) (grant_of spir) (filter test past) taken
-    (all-each (filter test past) (λ turn calls z e. found-holds (λ t. t.sa.spir ≡ spir) (λ call. granted spir call.asked (seen call)) turn.calls z (all-each turn.calls (λ call has w g. has spir w g) calls) e)
+    (all-weaker (filter test past) (λ turn calls z e. found-holds (λ t. t.sa.spir ≡ spir) (λ call. granted spir call.asked (seen call)) turn.calls z (all-weaker turn.calls (λ call has w g. has spir w g) calls) e)
     (all-filter (λ (turn : Turn). AllByRecursion HasItsRecord turn.calls) test past records)) is
 
 -- what a member holds of an association is the association's

@@ -14,7 +14,7 @@ use Rattle.turn_laws.proofs.Holdings.{differ, is_actor-same}
 use Rattle.turn_laws.specs.Acts.{Act, Calls, Ends, IsNotBy, Leaps, Leases, Move, Opens, Seals, Spares, Starts, Uses, act_by, acts_onto, begun_at, begun_by, begun_leased, begun_open, begun_started, effect_begun, effect_of, effect_of_call, effect_of_open, effect_of_use, effect_ours, entered_as, holding_at, holding_begun}
 use Rattle.turn_laws.specs.Columns.{Column}
 use Rattle.turn_laws.specs.Holdings.{Actor, Begins, Draws, Effect, End, Half, Holding, Jumps, Nothing, Passes, Rises, Run, holding_after, is_actor, raised_to}
-use Rattle.turn_laws.specs.Owned.{Lawful, Writes}
+use Rattle.turn_laws.specs.Owned.{Lawful, WritesBook}
 use Rattle.turn_laws.specs.Places.{NonceNumbers, Ours, Place, Pooled, Theirs, is_place, place_of}
 use Rattle.turn_rules.specs.Ends.{Member, Peer, Performer, is_performer}
 use Rattle.turn_rules.specs.Held.{covered, covers_in, first_some, grant_in, granted, greatest}
@@ -129,7 +129,7 @@ lawful-calls w (call ∷ calls) acts old new lawful enters may =
 
 -- a move that is no call leaves the book
 abbrev pub LeavesBook : Move → Type 0
-LeavesBook move = (book : Book) → Writes book move book
+LeavesBook move = (book : Book) → WritesBook book move book
 
 pub lawful-quiet : (w : Actor) (moves : List Move) (acts : List Act) (book : Book) → AllByRecursion LeavesBook moves → Lawful acts book → MayDoMoves acts w moves → Lawful (moves_onto w moves acts) book
 lawful-quiet w [] acts book leaves lawful may = lawful

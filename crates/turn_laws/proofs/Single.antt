@@ -10,7 +10,7 @@ use Rattle.keeper_book.specs.declared.counters.Counter.{Counter}
 use Rattle.keeper_book.specs.declared.counters.Counter.TheVariants as counter
 use Rattle.turn_laws.proofs.Covers.{ready-as}
 use Rattle.turn_laws.proofs.Deeds.{Deed, IsOpen, Last, Rests, Used, UsesIt, UsesOne}
-use Rattle.turn_laws.proofs.Safety.{is_place-true}
+use Rattle.turn_laws.proofs.Begun.{is_place-true}
 use Rattle.turn_laws.proofs.Uses.{number_at, spent_of}
 use Rattle.turn_laws.specs.Places.{Ours, Place, is_place}
 use Rattle.turn_rules.specs.Draws.{reach_of}

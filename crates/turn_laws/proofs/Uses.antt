@@ -4,7 +4,7 @@ use Rattle.std.specs.List.{AllByRecursion, cons_option, filter_map}
 use Rattle.turn_laws.proofs.Acting.{MayDoMoves}
 use Rattle.turn_laws.proofs.Listed.{moved, number_moved}
 use Rattle.turn_laws.proofs.Lists.{all-both}
-use Rattle.turn_laws.proofs.Safety.{is_place-true}
+use Rattle.turn_laws.proofs.Begun.{is_place-true}
 use Rattle.turn_laws.specs.Acts.{Act, HoldsFor, MayDo, Move, Seals, Uses, act_by, effect_of_use, holding_at}
 use Rattle.turn_laws.specs.Holdings.{Actor, Draws, Nothing, holding_after}
 use Rattle.turn_laws.specs.Places.{Place, is_place, place_of}

@@ -23,7 +23,7 @@ use Rattle.turn_laws.proofs.Covers.{IsCover}
 use Rattle.turn_laws.proofs.Deeds.{AreReady, Asked, Deed, Ended, IsOpenTo, Last, Need, NoneStarted, Rested, Rests, Used, Used_theirs, UsesIt, rest_of, spent_by}
 use Rattle.turn_laws.proofs.Entries.{is_counter-same}
 use Rattle.turn_laws.proofs.Holdings.{is_actor-same}
-use Rattle.turn_laws.proofs.Lists.{all-each}
+use Rattle.turn_rules.proofs.SlotTies.{all-weaker}
 use Rattle.turn_laws.proofs.Names.{counter-named}
 use Rattle.turn_laws.proofs.Outcomes.{over-rest, rests-rest}
 use Rattle.turn_laws.proofs.Tells.{Tells, tells}
@@ -148,7 +148,7 @@ module _ (past : List Turn) (member : ℕ) (event : Event) (step : Step) where
           → Answered answered (λ why. Last rest stops) (AreReady needs rest stops goes) → MayMake (act_by w (Calls call) ∷ acts) rest
       answered-well call asked below answer.Done rest sees a =
           let cover : IsCover call = is-cover need acts kept call asked in
-          rec (act_by w (Calls call) ∷ acts) (later acts call cover p, covered-usable need acts kept call asked below sees) (all-each needs (λ n k. kept-later acts call cover n k) others) rest a
+          rec (act_by w (Calls call) ∷ acts) (later acts call cover p, covered-usable need acts kept call asked below sees) (all-weaker needs (λ n k. kept-later acts call cover n k) others) rest a
       answered-well call asked below (answer.Taken taken) rest sees a = absurd a
       answered-well call asked below (answer.Refused why) rest sees a = go (stop_of why) a
         where
