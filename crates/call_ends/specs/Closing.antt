@@ -5,15 +5,14 @@ use Rattle.std.specs.Prelude.{ℕ, ◌≡◌, ◌+◌, ◌≤◌, ◌⊎◌, Lis
 use Rattle.std.specs.Io.KnownBytes.{Consumes}
 use Rattle.input_lines.specs.Faults.{fault_line}
 use Rattle.input_lines.specs.declared.fault.InputFault.{InputFault}
-use Rattle.call_ends.specs.Outside.{AnyFault, NoneFailed, Stream, Writes, WritesFront}
+use Rattle.call_ends.specs.Outside.{AnyFault, NoneFailed, Says, Stream, WritesAll, WritesFront}
 use Rattle.call_ends.specs.declared.status.Status.{Status}
 use Rattle.call_ends.specs.declared.status.Status.TheVariants as status
 
 -- how the fault of an input is named
 abbrev pub Names : InputFault → (errors now_errors : Stream) → Status → Type 0
-Names fault errors now_errors status.FaultyLine = Writes (fault_line fault) errors now_errors
-Names fault errors now_errors status.Memory = WritesFront
-    (codes "ha: want of memory\n") errors now_errors
+Names fault errors now_errors status.FaultyLine = WritesAll (fault_line fault) errors now_errors
+Names fault errors now_errors status.Memory = Says (codes "ha: want of memory\n") errors now_errors
 Names fault errors now_errors status.WriteFault =
     AnyFault errors now_errors × WritesFront (fault_line fault) errors now_errors
 Names fault errors now_errors other = ⊥
@@ -22,18 +21,18 @@ Names fault errors now_errors other = ⊥
 abbrev pub Closes : List ℕ → Option InputFault → (out now_out errors now_errors : Stream) → Status
     → Type 0
 Closes text None out now_out errors now_errors status.Done =
-    Writes text out now_out × (now_errors ≡ errors)
+    WritesAll text out now_out × (now_errors ≡ errors)
 Closes text fault out now_out errors now_errors status.Done = ⊥
 Closes text None out now_out errors now_errors status.WriteFault =
     WritesFront text out now_out × AnyFault out now_out
-    × WritesFront (codes "ha: write fault\n") errors now_errors
+    × Says (codes "ha: write fault\n") errors now_errors
 Closes text None out now_out errors now_errors other = ⊥
 Closes text (Some fault) out now_out errors now_errors status.WriteFault =
     (WritesFront text out now_out × AnyFault out now_out
-    × WritesFront (codes "ha: write fault\n") errors now_errors)
-    ⊎ (Writes text out now_out × Names fault errors now_errors status.WriteFault)
+    × Says (codes "ha: write fault\n") errors now_errors)
+    ⊎ (WritesAll text out now_out × Names fault errors now_errors status.WriteFault)
 Closes text (Some fault) out now_out errors now_errors status =
-    Writes text out now_out × Names fault errors now_errors status
+    WritesAll text out now_out × Names fault errors now_errors status
 
 -- some octets were read, not more than an input may have and a piece
 abbrev pub ReadsSome : Option (List ℕ) → Option (List ℕ) → Type 0
@@ -44,8 +43,8 @@ ReadsSome left still_left = (input : List ℕ) × Consumes left still_left input
 abbrev pub Unreads : (input now_input errors now_errors : Stream) → Status → Type 0
 Unreads input now_input errors now_errors status.Memory =
     ReadsSome input.octets now_input.octets × NoneFailed input now_input
-    × WritesFront (codes "ha: want of memory\n") errors now_errors
+    × Says (codes "ha: want of memory\n") errors now_errors
 Unreads input now_input errors now_errors status.ReadFault =
     ReadsSome input.octets now_input.octets × AnyFault input now_input
-    × WritesFront (codes "ha: read fault\n") errors now_errors
+    × Says (codes "ha: read fault\n") errors now_errors
 Unreads input now_input errors now_errors other = ⊥

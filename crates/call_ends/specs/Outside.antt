@@ -1,5 +1,5 @@
 -- What is told of the outside of a call: its input, its output, and its error output.
-use Rattle.std.specs.Prelude.{ℕ, ◌≡◌, List, [], Option, Some, None, take}
+use Rattle.std.specs.Prelude.{ℕ, ◌≡◌, ◌⊎◌, List, [], Option, Some, None, take}
 use Rattle.std.specs.Io.KnownBytes.{Appends, Consumes}
 use Rattle.ha_base.specs.Faults.{AppendsFront, Rose}
 use Rattle.ha_base.specs.declared.streams.Source as source
@@ -45,13 +45,17 @@ abbrev pub AnyFault : Stream → Stream → Type 0
 AnyFault old new = Rose old.faults new.faults
 
 -- octets were read, and no read failed
-abbrev pub Reads : List ℕ → Stream → Stream → Type 0
-Reads octets old new = Consumes old.octets new.octets octets × NoneFailed old new
+abbrev pub ReadsAll : List ℕ → Stream → Stream → Type 0
+ReadsAll octets old new = Consumes old.octets new.octets octets × NoneFailed old new
 
 -- octets were written, and no write failed
-abbrev pub Writes : List ℕ → Stream → Stream → Type 0
-Writes octets old new = Appends old.octets new.octets octets × NoneFailed old new
+abbrev pub WritesAll : List ℕ → Stream → Stream → Type 0
+WritesAll octets old new = Appends old.octets new.octets octets × NoneFailed old new
 
 -- some of the octets were written, from the front
 abbrev pub WritesFront : List ℕ → Stream → Stream → Type 0
 WritesFront octets old new = AppendsFront old.octets new.octets octets
+
+-- the octets were written, or a front of them, and then a write failed
+abbrev pub Says : List ℕ → Stream → Stream → Type 0
+Says octets old new = WritesAll octets old new ⊎ (AnyFault old new × WritesFront octets old new)

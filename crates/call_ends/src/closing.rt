@@ -2,17 +2,18 @@
 
 ghost use Rattle.std.specs.Prelude.{◌≡◌, codes};
 ghost use Rattle.call_ends.specs.Closing.{Closes, Names};
-ghost use Rattle.call_ends.specs.Outside.{WritesFront, sink_told};
+ghost use Rattle.call_ends.specs.Outside.{Says, sink_told};
 
 use crate::status::Status;
 use ha_base::{Failed, Octets, Sink, write_all};
 use input_lines::{InputFault, write_fault};
 use std::alloc::Global;
 
-/// Says why a call ends; where that can't be written, it ends so all the same.
+/// Says why a call ends: the line is written whole, or a front of it before a fault of the error
+/// output. The call ends so all the same.
 pub fn complain<D: Sink>(diag: &mut D, line: &[u8], status: Status) -> Status
     ensures status { result ≡ status }
-    ensures says { WritesFront line.now (sink_told D.Sink diag.old) (sink_told D.Sink diag.new) }
+    ensures says { Says line.now (sink_told D.Sink diag.old) (sink_told D.Sink diag.new) }
 {
     let _ = write_all(diag, line);
     status

@@ -5,16 +5,12 @@ ghost use Rattle.std.specs.Prelude.{◌≡◌, ◌+◌, ◌<◌, ◌≤◌, ◌^
 ghost use Rattle.std.specs.Io.KnownBytes.{Consumes, IsAtEnd, Keeps};
 ghost use Rattle.ha_base.specs.Faults.{Rose};
 ghost use Rattle.call_ends.specs.Closing.{ReadsSome, Unreads};
-ghost use Rattle.call_ends.specs.Outside.{Reads, sink_told, source_told};
+ghost use Rattle.call_ends.specs.Outside.{ReadsAll, sink_told, source_told};
 
 use crate::closing::complain;
 use crate::status::Status;
-use ha_base::{Memory, Octets, Sink, Source};
-use input_lines::INPUT_OCTETS;
+use ha_base::{INPUT_OCTETS, Memory, Octets, PIECE_OCTETS, Sink, Source};
 use std::alloc::Global;
-
-/// How many octets a read asks for.
-const PIECE: usize = 65_536;
 
 /// Why an input was not read to its end.
 #[derive(Clone, Copy, Debug, PartialEq, Eq)]
@@ -46,7 +42,7 @@ fn read_input<S: Source>(alloc: Global, source: &mut S) -> Result<Octets, Unread
     ensures fault { result ≡ Err Unread.Fault → Rose (S.faults source.old) (S.faults source.new) }
 {
     let mut input = Octets::new(alloc);
-    let mut piece = [0; PIECE];
+    let mut piece = [0; PIECE_OCTETS];
     while input.as_slice().len() <= INPUT_OCTETS {
         match source.read(&mut piece) {
             Ok(0) => return Ok(input),
@@ -63,7 +59,7 @@ pub fn input_of<S: Source, D: Sink>(
     source: &mut S,
     diag: &mut D,
 ) -> Result<Octets, Status>
-    ensures reads { IfOk result (λ input. Reads input.octets (source_told S.Source source.old)
+    ensures reads { IfOk result (λ input. ReadsAll input.octets (source_told S.Source source.old)
         (source_told S.Source source.new)) }
     ensures whole { IfOk result (λ input. IsAtEnd (S.left source.new)
         ⊎ (INPUT_OCTETS < length input.octets)) }

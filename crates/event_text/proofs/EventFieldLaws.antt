@@ -19,10 +19,10 @@ use Rattle.events.specs.declared.event.Which.{Which}
 use Rattle.events.specs.declared.event.Which.TheVariants as whiches
 use Rattle.events.specs.declared.turn.Medium.{Medium}
 use Rattle.events.specs.declared.turn.Medium.TheVariants as mediums
-use Rattle.event_text.specs.EventFields.{is_ticket_key_size, is_window_size, medium_of, member_in, member_in_word, numbered_in, party_of, ticket_key_in, ticket_key_of, which_of, window_field_in, window_in_word}
+use Rattle.events.specs.EventFields.{is_ticket_key_size, is_window_size, medium_of, member_in, member_in_word, numbered_in, party_of, ticket_key_in, ticket_key_of, which_of, window_field_in, window_in_word}
 use Rattle.replay_set.specs.Window.{IsWindowSize}
-use Rattle.event_text.specs.Grammar.{medium_word, party_text, which_text}
-use Rattle.events.specs.Ranges.{IsParty, IsTicketKey, IsWhich}
+use Rattle.events.specs.FieldWords.{medium_word, party_text, which_text}
+use Rattle.events.specs.FieldRanges.{IsParty, IsTicketKey, IsWhich}
 
 -- ---- numbers
 

@@ -19,7 +19,7 @@ use Rattle.event_text.specs.Grammar.{EventLine}
 use Rattle.event_text.specs.Input.{behind_line, contents_at, contents_in, contents_of, event_in, on_line, on_version, second_line, some_event, version_in}
 use Rattle.input_lines.specs.Limits.{overlong, unless_fault}
 use Rattle.event_text.specs.EventFile.{EventText, SayEvents}
-use Rattle.event_text.proofs.EventLaws.{line_again, line_takes}
+use Rattle.event_text.proofs.LineLaws.{line_again, line_takes}
 use Rattle.line_fields.proofs.FieldLaws.{pick}
 use Rattle.event_text.proofs.FrontLaws.{read_within, version_within}
 use Rattle.input_lines.proofs.LimitLaws.{short_line as short_read, unless_ok}

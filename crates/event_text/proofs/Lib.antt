@@ -1,5 +1,6 @@
 pub mod EventFieldLaws
-pub mod SpacelessLaws
+pub mod KeyLaws
+pub mod KindLaws
 pub mod EventLaws
 pub mod LineLaws
 pub mod InputLaws

@@ -1,8 +1,4 @@
-pub mod EventFields
-pub mod KeyFields
 pub mod Grammar
-pub mod FieldKinds
-pub mod EventTable
 pub mod Reading
 pub mod Input
 pub mod InMemory

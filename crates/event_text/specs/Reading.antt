@@ -8,7 +8,7 @@ use Rattle.line_fields.specs.Words.{Cursor, words_of}
 use Rattle.line_fields.specs.Numbers.{number_in_word}
 use Rattle.line_fields.specs.Fields.{◌>>=◌, ended_at, fault_at, field, word_at}
 use Rattle.events.specs.Events.{PlainEvent}
-use Rattle.event_text.specs.EventTable.{event_table, read_row}
+use Rattle.events.specs.EventTable.{event_table, read_row}
 
 unfoldable pub event_at : Cursor → Result (PlainEvent × Cursor) LineFault
 event_at s = do

@@ -5,7 +5,7 @@ ghost use Rattle.ha_base.specs.declared.limits.TheConstants.{DATAGRAM_OCTETS};
 ghost use Rattle.line_fields.specs.Octets.{sized};
 ghost use Rattle.line_fields.specs.Fields.{Reads, field};
 ghost use Rattle.event_text.specs.InMemory.{GivesInLine};
-ghost use Rattle.event_text.specs.EventFields.{is_ticket_key_size, is_window_size, medium_of, party_of, ticket_key_of, which_of, window_in_word};
+ghost use Rattle.events.specs.EventFields.{is_ticket_key_size, is_window_size, medium_of, party_of, ticket_key_of, which_of, window_in_word};
 
 use crate::read_fault::ReadFault;
 use events::{Medium, Party, Which};

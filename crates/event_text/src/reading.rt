@@ -9,8 +9,8 @@ ghost use Rattle.events.specs.Ranges.{Fits};
 ghost use Rattle.ha_base.specs.declared.outside.Moment.{Moment};
 ghost use Rattle.line_fields.specs.Fields.{Reads};
 ghost use Rattle.event_text.specs.InMemory.{FailsInLine, GivesInLine};
-ghost use Rattle.event_text.specs.KeyFields.{sa_keys_at, child_keys_at, starts_at};
-ghost use Rattle.event_text.specs.EventTable.{alter_row, cluster_row, crash_row, cut_row, deliver_row, draw_row, event_table, import_row, inject_row, join_row, own_row, read_fields, read_row, send_row};
+ghost use Rattle.events.specs.KeyFields.{sa_keys_at, child_keys_at, starts_at};
+ghost use Rattle.events.specs.EventTable.{alter_row, cluster_row, crash_row, cut_row, deliver_row, draw_row, event_table, import_row, inject_row, join_row, own_row, read_fields, read_row, send_row};
 ghost use Rattle.event_text.specs.Reading.{event_at, line_at, moment_at, moment_and_event_at};
 
 use crate::event_fields::{medium, octets_in_memory, party, ticket_key, which, window};
@@ -28,7 +28,7 @@ use line_fields::{
 };
 use std::alloc::Global;
 
-#[tactic(auto, unfolding(crate::specs::KeyFields::sa_keys_at))]
+#[tactic(auto, unfolding(events::specs::KeyFields::sa_keys_at))]
 fn sa_keys(words: &mut Words<'_>, size: KeySize) -> Result<SaKeys, LineFault>
     ensures value { Reads (λ x. x) result words.new (sa_keys_at size words.old) }
     ensures initiator { IfOk result (λ keys. length keys.sk_ei ≡ sealing_octets size) }
@@ -48,7 +48,7 @@ fn sa_keys(words: &mut Words<'_>, size: KeySize) -> Result<SaKeys, LineFault>
     })
 }
 
-#[tactic(auto, unfolding(crate::specs::KeyFields::child_keys_at))]
+#[tactic(auto, unfolding(events::specs::KeyFields::child_keys_at))]
 fn child_keys(words: &mut Words<'_>, size: KeySize) -> Result<ChildKeys, LineFault>
     ensures value { Reads (λ x. x) result words.new (child_keys_at size words.old) }
     ensures cluster { IfOk result (λ keys. length keys.to_cluster ≡ sealing_octets size) }
@@ -62,7 +62,7 @@ fn child_keys(words: &mut Words<'_>, size: KeySize) -> Result<ChildKeys, LineFau
     })
 }
 
-#[tactic(auto, unfolding(crate::specs::KeyFields::starts_at))]
+#[tactic(auto, unfolding(events::specs::KeyFields::starts_at))]
 fn starts(words: &mut Words<'_>) -> Result<Five, LineFault>
     ensures value { Reads (λ x. x) result words.new (starts_at words.old) }
     ensures within { IfOk result AreWithinEnds }

@@ -1,2 +1,9 @@
 pub mod Events
+pub mod FieldRanges
+pub mod FieldWords
+pub mod EventFields
+pub mod KeyFields
+pub mod FieldKinds
+pub mod EventTable
+pub mod FilledRows
 pub mod Ranges

@@ -1,4 +1,5 @@
 -- The lines of a text.
+use Rattle.ha_base.specs.declared.limits.TheConstants.{LINE_OCTETS}
 use Rattle.std.specs.Prelude.{◌≡◌, ℕ, ◌≤◌, ◌==◌, not, Bool, true, false, List, [], ◌∷◌, ◌++◌, length, ◌⊎◌, if◌then◌else◌}
 use Rattle.std.specs.List.{list_all}
 use Rattle.line_fields.specs.Words.{onto}
@@ -30,7 +31,7 @@ no_feed c = not (c == 10)
 -- A line of a file: it has no line feed in it, and is not too long.
 pub record IsLine (line : List ℕ) : Type 0 where
   pub whole : list_all no_feed line ≡ true
-  pub short : length line ≤ 16384
+  pub short : length line ≤ LINE_OCTETS
 
 -- A line that is passed over: it is empty, or a comment, which begins with `#`.
 abbrev pub is_passed : List ℕ → Bool

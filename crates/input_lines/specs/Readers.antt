@@ -17,8 +17,9 @@ pub record Reading : Type 0 where
   pub before : ℕ
   pub unfed : Bool
 
--- a line with its line feed was taken
+-- a line with its line feed was taken, and none before it lacked its own
 pub record TakesLine (old new : Reading) (left still_left : Option (List ℕ)) : Type 0 where
+  pub going : old.unfed ≡ false
   pub takes : TakesFrom old.limits old.before old.kept new.line (10 ∷ new.kept) left still_left
   pub before : new.before ≡ old.before + length new.line + 1
   pub within : new.before ≤ old.limits.file
@@ -26,6 +27,7 @@ pub record TakesLine (old new : Reading) (left still_left : Option (List ℕ)) :
 
 -- the last line was taken, which is not empty and lacks its line feed
 pub record TakesLast (old new : Reading) (left still_left : Option (List ℕ)) : Type 0 where
+  pub going : old.unfed ≡ false
   pub takes : TakesFrom old.limits old.before old.kept new.line [] left still_left
   pub end_reached : IsAtEnd still_left
   pub nothing : new.kept ≡ []
@@ -35,6 +37,7 @@ pub record TakesLast (old new : Reading) (left still_left : Option (List ℕ)) :
 
 -- only the front of a line was taken, and no octet is lost
 pub record TakesFront (old new : Reading) (left still_left : Option (List ℕ)) : Type 0 where
+  pub going : old.unfed ≡ false
   pub takes : TakesFrom old.limits old.before old.kept new.line new.kept left still_left
   pub before : new.before ≡ old.before
 

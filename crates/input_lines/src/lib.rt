@@ -11,8 +11,7 @@ mod taking;
 
 pub use fault::{InputFault, write_fault};
 pub use front::{Front, front_of, is_passed};
-pub use limits::{INPUT_OCTETS, LINE_OCTETS, overlong};
-pub use pieces::PIECE_OCTETS;
+pub use limits::overlong;
 pub use reader::{LineReader, Took};
 pub use taking::Limits;
 

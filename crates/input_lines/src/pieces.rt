@@ -1,16 +1,13 @@
 //! Octets that were read and are not taken yet.
 
+ghost use Rattle.ha_base.specs.declared.limits.TheConstants.{PIECE_OCTETS};
 ghost use Rattle.std.specs.Prelude.{◌≡◌, ◌≤◌, [], ◌∷◌, drop, length, Ok, IfOk, IfNone, IfSome, OnErr, OnOk};
 ghost use Rattle.std.specs.Io.KnownBytes.{Consumes, IsAtEnd};
 ghost use Rattle.ha_base.specs.Faults.{Rose};
-ghost use Rattle.input_lines.specs.declared.pieces.TheConstants.{PIECE_OCTETS};
 
-use ha_base::{Failed, Memory, Source};
+use ha_base::{Failed, Memory, PIECE_OCTETS, Source};
 use std::alloc::Global;
 use std::marker::Model;
-
-/// How many octets a read asks for.
-pub const PIECE_OCTETS: usize = 65_536;
 
 /// What a read gave, but for what was taken of it.
 #[derive(Drop)]
@@ -21,8 +18,8 @@ pub(crate) struct Piece {
 }
 
 impl Model for Piece {
+    ghost use Rattle.ha_base.specs.declared.limits.TheConstants.{PIECE_OCTETS};
     ghost use Rattle.std.specs.Prelude.{ℕ, ◌-◌, ◌≡◌, ◌≤◌, List, drop, length, take};
-    ghost use Rattle.input_lines.specs.declared.pieces.TheConstants.{PIECE_OCTETS};
 
     ghost Value = { List ℕ };
 
@@ -68,7 +65,6 @@ impl Piece {
     }
 
     /// Takes octets from the front.
-
     pub(crate) fn advance(&mut self, count: usize)
         requires { count ≤ length self.old }
         ensures { self.new ≡ drop count self.old }

@@ -1,15 +1,13 @@
 //! A reader that takes the lines of an input one by one, in pieces of whatever size, and takes no
 //! memory for it.
 
+ghost use Rattle.ha_base.specs.declared.limits.TheConstants.{INPUT_OCTETS, LINE_OCTETS, PIECE_OCTETS};
 ghost use Rattle.std.specs.Prelude.{◌≡◌, ◌≤◌, ◌+◌, [], false, length, IfOk};
 ghost use Rattle.input_lines.specs.Readers.{TakesAs};
-ghost use Rattle.input_lines.specs.declared.limits.TheConstants.{INPUT_OCTETS, LINE_OCTETS};
-ghost use Rattle.input_lines.specs.declared.pieces.TheConstants.{PIECE_OCTETS};
 
-use crate::limits::{INPUT_OCTETS, LINE_OCTETS};
 use crate::pieces::Piece;
 use crate::taking::{Found, Limits, take_line};
-use ha_base::{Memory, Source};
+use ha_base::{INPUT_OCTETS, LINE_OCTETS, Memory, Source};
 use std::alloc::Global;
 use std::marker::Model;
 

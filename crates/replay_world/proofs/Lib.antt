@@ -1,3 +1,4 @@
 mod AskedLaws
 mod OwnedLaws
 pub mod PlayedLaws
+mod ReadLaws

@@ -3,9 +3,6 @@ use Rattle.std.proofs.Common.{◌≡◌, ℕ, ◌+◌, List, [], ◌∷◌, ◌+
 use Rattle.std.specs.Prelude.{option_to_list, slice_get, unwrap_or}
 use Rattle.std.specs.Option.{option_map}
 use Rattle.std.specs.List.{AllByRecursion}
-use Rattle.std.proofs.Math.Seq.{take-length}
-use Rattle.std.specs.Io.KnownBytes.{Appends}
-use Rattle.ha_base.specs.Faults.{AppendsFront}
 use Rattle.events.specs.Events.{PlainEvent}
 use Rattle.event_text.specs.Input.{Contents, with_event}
 use Rattle.report_text.specs.Report.{datagrams_given, given_in, turn_text, turns_text}
@@ -87,7 +84,3 @@ none_given gives service (turn ∷ past) none = (rw none.0 tt, none_given gives 
 
 pub none_caused : (faults : ℕ) → CausedSince faults faults []
 none_caused faults = record { later = omega arith; failed = λ none. absurd none }
-
--- what was written whole was written from the front
-pub appends_front : (old new : Option (List ℕ)) (text : List ℕ) → Appends old new text → AppendsFront old new text
-appends_front old new text wrote = (length text, subst (λ xs. Appends old new xs) (sym (take-length text)) wrote)

@@ -2,7 +2,6 @@
 //! plays an event file.
 #![tactic(auto)]
 
-mod input;
 mod play;
 mod services;
 pub mod top;

@@ -1,12 +1,11 @@
-ghost use Rattle.std.specs.Prelude.{◌≡◌, ℕ, Some, List, [], ◌++◌, vec_len, IfOk, OnOk};
+ghost use Rattle.std.specs.Prelude.{◌≡◌, ℕ, Some, List, [], ◌++◌, IfOk, OnOk};
 ghost use Rattle.event_text.specs.Input.{contents_of, left_contents};
 ghost use Rattle.keeper_book.specs.Gates.{told_calls};
 ghost use Rattle.report_text.specs.Report.{report, turns_text};
-ghost use Rattle.replay_world.specs.Played.{IsPlayed, prefixed, titles};
+ghost use Rattle.replay_world.specs.Played.{IsPlayed, handed, prefixed, titles};
 ghost use Rattle.run_ends.specs.Asked.{AsksAsSeen};
 ghost use Rattle.run_ends.specs.Runs.{CausedSince, StandsTold};
 ghost use Rattle.turn_rules.specs.Local.{Local, calls_of};
-ghost use Rattle.turn_rules.specs.Services.{AreGiven, service_of};
 
 use crate::world::World;
 use event_text::{EventFault, EventReader, InputFault};
@@ -139,11 +138,8 @@ fn play_run<K: Keeper>(
     requires told { told_calls keeper.old ≡ Some [] }
     ensures held { K.held keeper.new.keeper ≡ K.held keeper.old.keeper }
     ensures played { IfOk result (λ played. IsPlayed
-        (AreGiven gives (service_of peer_service services.items))
-        (λ calls. AsksAsSeen K.Keeper keeper.old.keeper calls keeper.new.keeper)
-        (vec_len services) input.now played.fault played.report.octets
-        (K.book keeper.old.keeper) (K.book keeper.new.keeper) (K.faults keeper.old.keeper)
-        (K.faults keeper.new.keeper)) }
+        (handed K.Keeper keeper.old.keeper keeper.new.keeper gives peer_service services)
+        input.now played.fault played.report.octets) }
 {
     nothing_is_executed();
     runs_are_safe();
@@ -162,10 +158,8 @@ pub(crate) fn play_file<K: Keeper>(
 ) -> Result<Played, Memory>
     ensures held { K.held keeper.new ≡ K.held keeper.old }
     ensures played { IfOk result (λ played. IsPlayed
-        (AreGiven gives (service_of peer_service services.items))
-        (λ calls. AsksAsSeen K.Keeper keeper.old calls keeper.new) (vec_len services)
-        input.now.octets played.fault played.report.octets
-        (K.book keeper.old) (K.book keeper.new) (K.faults keeper.old) (K.faults keeper.new)) }
+        (handed K.Keeper keeper.old keeper.new gives peer_service services)
+        input.now.octets played.fault played.report.octets) }
 {
     let mut gate = Gate::new(keeper);
     let played = play_run(alloc, input.as_slice(), &mut gate, peer_service, services);

@@ -1,2 +1,6 @@
+pub mod WordReading
+pub mod OriginReading
+pub mod CallReading
+pub mod VerdictReading
 pub mod LineReading
 pub mod WritingLaws

@@ -9,7 +9,8 @@ use Rattle.keeper_book.specs.declared.counters.Counter.{Counter}
 use Rattle.keeper_book.specs.declared.counters.Counter.TheVariants as counters
 use Rattle.events.specs.declared.verdict.Refusal.{Refusal}
 use Rattle.events.specs.declared.verdict.Refusal.TheVariants as refusals
-use Rattle.event_text.specs.Grammar.{five_words, line_words, medium_word}
+use Rattle.events.specs.FieldWords.{five_words, medium_word}
+use Rattle.event_text.specs.Grammar.{line_words}
 use Rattle.line_fields.specs.Octets.{octets_text, spi_text}
 use Rattle.line_fields.specs.Writing.{line_text}
 use Rattle.report_text.specs.Lines.{PlainVerdict, ReportLine, Configured, Entered, Down, Member, Owned, Number, Sent, Accepted, DroppedEsp, Refused, TurnLine, KeepLine, ServeLine, SealLine, GivesLine, OutLine, EndLine}

@@ -2,9 +2,10 @@
 
 ghost use Rattle.std.specs.Prelude.{◌≡◌, ◌∷◌, ◌++◌, OnOk};
 ghost use Rattle.line_fields.specs.Identities.{identity_text};
-ghost use Rattle.events.specs.Events.{association, plain};
+ghost use Rattle.events.specs.Events.{Import, association, plain};
+ghost use Rattle.events.specs.FieldWords.{child_key_words, five_words, medium_word, party_text, sa_key_words, which_text};
+ghost use Rattle.events.specs.FilledRows.{event_words};
 ghost use Rattle.line_fields.specs.Fields.{size_text};
-ghost use Rattle.event_text.specs.Grammar.{association_words, child_key_words, event_words, five_words, medium_word, party_text, sa_key_words, which_text};
 ghost use Rattle.line_fields.specs.Writing.{with_words};
 
 use events::{Event, Medium, Party, Which};
@@ -56,10 +57,11 @@ pub(crate) fn put_five(alloc: Global, out: &mut Octets, five: &Five) -> Result<(
     put_number(alloc, out, five.answer)
 }
 
-fn put_association(alloc: Global, out: &mut Octets, sa: &Record) -> Result<(), Memory>
+fn put_import(alloc: Global, out: &mut Octets, sa: &Record) -> Result<(), Memory>
     ensures { OnOk result (out.new.octets
-        ≡ with_words out.old.octets (association_words (association sa.now))) }
+        ≡ with_words out.old.octets (event_words (Import (association sa.now)))) }
 {
+    put_word(out, b"import")?;
     put_spi(alloc, out, sa.spii)?;
     put_spi(alloc, out, sa.spir)?;
     put_word(out, size_text(sa.size))?;
@@ -115,10 +117,7 @@ pub(crate) fn put_event(alloc: Global, out: &mut Octets, event: &Event) -> Resul
             put_number(alloc, out, u64::from(*window))?;
             put_octets(alloc, out, ticket_key.as_slice())
         }
-        Event::Import { sa } => {
-            put_word(out, b"import")?;
-            put_association(alloc, out, sa)
-        }
+        Event::Import { sa } => put_import(alloc, out, sa),
         Event::Join { fresh } => {
             put_word(out, b"join")?;
             put_octets(alloc, out, fresh)

@@ -4,7 +4,7 @@
 
 ghost use Rattle.std.specs.Prelude.{◌≡◌, [], ◌∷◌, ◌++◌, OnOk};
 ghost use Rattle.std.specs.Fmt.{decimal};
-ghost use Rattle.event_text.specs.Grammar.{five_words};
+ghost use Rattle.events.specs.FieldWords.{five_words};
 ghost use Rattle.line_fields.specs.Writing.{with_words};
 ghost use Rattle.report_text.specs.Lines.{plain_verdict};
 ghost use Rattle.report_text.specs.Spelling.{verdict_words};

@@ -30,13 +30,13 @@ use Rattle.turn_rules.specs.Packets.{Outbound, SendsEsp}
 use Rattle.run_ends.specs.Parties.{IsShort}
 
 pub fits_send : (from : Party) (spir : ℕ) (payload : WithRoom) → Fits (plain (event.Send from spir payload)) → length payload.octets ≤ 1400
-fits_send from spir payload fits = fits.2.most_size
+fits_send from spir payload fits = fits.ranges.1.1.0.most_size
 
 pub fits_inject : (to : Party) (medium : Medium) (octets : WithRoom) → Fits (plain (event.Inject to medium octets)) → length octets.octets ≤ 2048
-fits_inject to medium octets fits = fits.1.most_size
+fits_inject to medium octets fits = fits.ranges.1.1.0.most_size
 
 pub fits_cluster : (identity : Identity) (lifetime window : ℕ) (ticket_key : List ℕ) → Fits (plain (event.Cluster identity lifetime window ticket_key)) → IsWindowSize window
-fits_cluster identity lifetime window ticket_key fits = fits.window
+fits_cluster identity lifetime window ticket_key fits = fits.ranges.1.1.0
 
 -- what stands in a list of short datagrams is short
 short_at : (datagrams : List PlainDatagram) (place : ℕ) (datagram : PlainDatagram) → AllByRecursion IsShort datagrams → slice_get datagrams place ≡ Some datagram → IsShort datagram

@@ -1,6 +1,7 @@
 -- What an input holds is told by as many of its octets as an input may have, and one more.
-use Rattle.std.proofs.Common.{◌≡◌, ℕ, zero, suc, ◌+◌, ◌≤◌, List, [], ◌∷◌, ◌++◌, length, Option, Some, None, Result, Ok, Err, refl, sym, ap, ◌∙◌, append_assoc, append-nil, arith, inl, inr}
+use Rattle.std.proofs.Common.{◌≡◌, Bool, true, false, cond, eqb, ℕ, zero, suc, ◌+◌, ◌≤◌, List, [], ◌∷◌, ◌++◌, length, Option, Some, None, Result, Ok, Err, refl, sym, ap, ◌∙◌, append_assoc, append-nil, arith, inl, inr}
 use Rattle.std.proofs.lemmas.List.{length-append}
+use Rattle.line_fields.specs.Words.{onto}
 use Rattle.line_fields.specs.declared.fault.LineFault.{LineFault}
 use Rattle.input_lines.specs.Lines.{lines_of, without_line_feed}
 use Rattle.input_lines.specs.Limits.{overlong}
@@ -60,3 +61,47 @@ at_front (suc n) (c ∷ cs) b p small within far_enough =
 
 pub messages_front : (front more : List ℕ) → 67108865 ≤ length front → messages_of (front ++ more) ≡ messages_of front
 messages_front front more far_enough = at_front (length front) front more (record { line = 1; before = 0; count = 0 }) (omega arith) (omega arith) (omega arith)
+
+-- ---- an input without a fault
+
+abbrev octets_in : List (List ℕ) → ℕ
+octets_in [] = 0
+octets_in (line ∷ lines) = length line + octets_in lines
+
+onto_octets : (c : ℕ) (lines : List (List ℕ)) → octets_in (onto c lines) ≡ 1 + octets_in lines
+onto_octets c [] = refl
+onto_octets c (line ∷ lines) = omega arith
+
+-- the lines of an input have its octets
+lines_octets : (octets : List ℕ) → octets_in (lines_of octets) ≡ length octets
+unfolding lines_of
+lines_octets [] = refl
+lines_octets (c ∷ cs) = by_case (eqb c 10) (lines_octets cs)
+  where
+    by_case : (b : Bool) → octets_in (lines_of cs) ≡ length cs → octets_in (cond b ((c ∷ []) ∷ lines_of cs) (onto c (lines_of cs))) ≡ suc (length cs)
+    by_case true rest = omega (arith, rest)
+    by_case false rest = let more = onto_octets c (lines_of cs) in omega (arith, rest, more)
+
+-- lines without a fault end within the octets that an input may have
+within_at : (lines : List (List ℕ)) (p : Place) → p.before ≤ 67108864 → (messages_at lines p).fault ≡ None → p.before + octets_in lines ≤ 67108864
+unfolding messages_at
+within_at [] p within none = omega arith
+within_at (line ∷ lines) p within none =
+    on_read (within_at lines) (line_in p (length line) (without_line_feed line)) refl none
+  where
+    on_read : ((q : Place) → q.before ≤ 67108864 → (messages_at lines q).fault ≡ None → q.before + octets_in lines ≤ 67108864)
+        → (r : Result (Option (List ℕ)) LineFault) → line_in p (length line) (without_line_feed line) ≡ r
+        → (on_message_line p r (λ count. messages_at lines (behind_message_line p (length line) count))).fault ≡ None → p.before + (length line + octets_in lines) ≤ 67108864
+    on_read go (Err f) is e = absurd cc
+    on_read go (Ok None) is e =
+        let rest = go (behind_message_line p (length line) p.count) (read_within p (length line) (without_line_feed line) None is) e in
+        omega (arith, rest)
+    on_read go (Ok (Some message)) is e =
+        let rest = go (behind_message_line p (length line) (p.count + 1)) (read_within p (length line) (without_line_feed line) (Some message) is) e in
+        omega (arith, rest)
+
+pub messages_short : (input : List ℕ) → (messages_of input).fault ≡ None → length input ≤ 67108864
+messages_short input none =
+    let within = within_at (lines_of input) (record { line = 1; before = 0; count = 0 }) (omega arith) none in
+    let size = lines_octets input in
+    omega (arith, within, size)

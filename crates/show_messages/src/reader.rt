@@ -1,5 +1,6 @@
 //! An input, line by line.
 
+ghost use Rattle.ha_base.specs.declared.limits.TheConstants.{ALLOCATION_END, INPUT_OCTETS, LINE_OCTETS};
 ghost use Rattle.std.specs.Prelude.{◌≡◌, ◌≢◌, ◌≤◌, ◌<◌, ◌+◌, ◌^◌, [], length, true, false, IfErr, IfOk, IfNone, IfSome, OnErr, OnOk, OnSome, None, Some, Ok, Err};
 ghost use Rattle.line_fields.specs.Octets.{decoded, is_hex};
 ghost use Rattle.show_messages.specs.Messages.{left_messages, line_in, messages_of, with_message};
@@ -25,8 +26,8 @@ pub struct Place {
 /// The digits of a line at a place, where it is not passed over.
 #[tactic(auto, unfolding(crate::specs::Messages::line_in), using(input_lines::proofs::LimitLaws::short_line))]
 fn digits_in<'a>(place: Place, octets: usize, line: &'a [u8]) -> Result<Option<&'a [u8]>, LineFault>
-    requires file { place.before ≤ 67108864 }
-    requires line { octets < 2 ^ 63 }
+    requires file { place.before ≤ INPUT_OCTETS }
+    requires line { octets < ALLOCATION_END }
     requires line_within { length line.now ≤ octets }
     ensures fault { IfErr result (λ f. line_in place octets line.now ≡ Err f) }
     ensures passed { IfOk result (λ digits. IfNone digits
@@ -34,8 +35,8 @@ fn digits_in<'a>(place: Place, octets: usize, line: &'a [u8]) -> Result<Option<&
     ensures message { IfOk result (λ digits. IfSome digits
         (λ d. line_in place octets line.now ≡ Ok (Some (decoded d.now)))) }
     ensures hex { IfOk result (λ digits. IfSome digits (λ d. is_hex d.now ≡ true)) }
-    ensures short { IfOk result (λ digits. IfSome digits (λ d. length d.now ≤ 16384)) }
-    ensures within { OnOk result (place.before + octets ≤ 67108864) }
+    ensures short { IfOk result (λ digits. IfSome digits (λ d. length d.now ≤ LINE_OCTETS)) }
+    ensures within { OnOk result (place.before + octets ≤ INPUT_OCTETS) }
     ensures few { IfOk result (λ digits. OnSome digits (place.count ≢ 100000)) }
 {
     if let Some(fault) = overlong(place.before, octets, line.len()) {
@@ -67,6 +68,7 @@ pub(crate) struct MessageReader<'a> {
 }
 
 impl<'a> Model for MessageReader<'a> {
+    ghost use Rattle.ha_base.specs.declared.limits.TheConstants.{INPUT_OCTETS};
     ghost use Rattle.std.specs.Prelude.{◌+◌, ◌≤◌};
     ghost use Rattle.input_lines.specs.Lines.{lines_of};
     ghost use Rattle.input_lines.specs.Limits.{Left};
@@ -76,7 +78,7 @@ impl<'a> Model for MessageReader<'a> {
 
     ghost view = { λ reader. record { lines = lines_of reader.rest.now; place = reader.place } };
 
-    ghost invariant = { λ reader. (reader.place.before ≤ 67108864)
+    ghost invariant = { λ reader. (reader.place.before ≤ INPUT_OCTETS)
         × (reader.place.line ≤ reader.place.before + 1) × (reader.place.count ≤ 100000) };
 }
 
@@ -123,7 +125,7 @@ impl<'a> MessageReader<'a> {
         ensures counted { IfOk result (λ line. OnSome line
             (self.new.place.count ≡ self.old.place.count + 1)) }
         ensures hex { IfOk result (λ line. IfSome line (λ digits. is_hex digits.now ≡ true)) }
-        ensures short { IfOk result (λ line. IfSome line (λ digits. length digits.now ≤ 16384)) }
+        ensures short { IfOk result (λ line. IfSome line (λ digits. length digits.now ≤ LINE_OCTETS)) }
         ensures passed { IfOk result (λ line. IfNone line
             (left_messages self.old ≡ left_messages self.new)) }
         ensures uncounted { IfOk result (λ line. IfNone line

@@ -1,5 +1,6 @@
 //! The text of an input's messages.
 
+ghost use Rattle.ha_base.specs.declared.limits.TheConstants.{LINE_OCTETS};
 ghost use Rattle.std.specs.Prelude.{◌≡◌, ◌≤◌, ◌+◌, ◌++◌, true, length, IfOk, OnOk};
 ghost use Rattle.std.specs.List.{flat_map};
 ghost use Rattle.line_fields.specs.Octets.{decoded, is_hex};
@@ -8,7 +9,7 @@ ghost use Rattle.show_messages.specs.Messages.{left_messages, messages_of};
 ghost use Rattle.show_messages.specs.Shows.{shown_all};
 
 use crate::reader::MessageReader;
-use ha_base::{Memory, Octets};
+use ha_base::{LINE_OCTETS, Memory, Octets};
 use input_lines::InputFault;
 use line_fields::fill_hex;
 use message_text::write_message;
@@ -16,7 +17,7 @@ use std::alloc::Global;
 use word_text::write_end;
 
 /// How many octets a message may have, whose digits are one line.
-const MESSAGE_OCTETS: usize = 8_192;
+const MESSAGE_OCTETS: usize = LINE_OCTETS / 2;
 
 /// The text of the messages of an input, and the fault of the input at which it ends, if there is
 /// one.
@@ -29,7 +30,7 @@ pub struct Shown {
 // Appends the text of the message of some digits.
 fn show_message(alloc: Global, digits: &[u8], text: &mut Octets) -> Result<(), Memory>
     requires hex { is_hex digits.now ≡ true }
-    requires short { length digits.now ≤ 16384 }
+    requires short { length digits.now ≤ LINE_OCTETS }
     ensures { OnOk result (text.new.octets ≡ text.old.octets ++ shown (decoded digits.now)) }
 {
     let mut octets = [0; MESSAGE_OCTETS];

@@ -1,6 +1,9 @@
--- Whatever the call answered, a front of the line was written.
-use Rattle.call_ends.proofs.WriteLaws.{either_front}
+-- Whatever the write answered, the line was written, or a front of it before a fault.
+use Rattle.call_ends.proofs.WriteLaws.{says_either}
+use Rattle.call_ends.specs.Outside.{sink_told}
 use Rattle.call_ends.proofs.closing.complain.Goals as goal
 
 pub returns-clause-says : goal.returns-clause-says
-returns-clause-says g c = either_front c.write_all.result _ _ _ c.write_all.ensures.ok c.write_all.ensures.err
+returns-clause-says g c =
+    let wrote = c.write_all.ensures in
+    says_either c.write_all.result (sink_told g.D.Sink c.args.diag.now) (sink_told g.D.Sink c.write_all.new.out) _ wrote.ok wrote.none wrote.err wrote.failed

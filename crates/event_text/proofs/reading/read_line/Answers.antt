@@ -1,5 +1,4 @@
-use Rattle.event_text.proofs.EventLaws.{line_takes}
-use Rattle.event_text.proofs.LineLaws.{no_fault, one_event}
+use Rattle.event_text.proofs.LineLaws.{line_takes, no_fault, one_event}
 use Rattle.event_text.proofs.reading.read_line.Goals as goal
 
 pub returns-in-Ok-clause-found : goal.returns-in-Ok-clause-found

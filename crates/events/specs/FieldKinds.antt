@@ -15,13 +15,13 @@ use Rattle.line_fields.specs.Octets.{IsOctetField, esp_spi_of, esp_spi_text, oct
 use Rattle.line_fields.specs.Identities.{IsDomainName, IsIdentity, domain_name_of, identity_of, identity_text}
 use Rattle.line_fields.specs.Fields.{field, key_size_of, size_text}
 use Rattle.replay_set.specs.Window.{IsWindowSize}
-use Rattle.events.specs.Ranges.{AreChildKeys, AreSaKeys, AreStarts, IsParty, IsTicketKey, IsWhich}
+use Rattle.events.specs.FieldRanges.{AreChildKeys, AreSaKeys, AreStarts, IsParty, IsTicketKey, IsWhich}
 use Rattle.events.specs.declared.event.Party.{Party}
 use Rattle.events.specs.declared.event.Which.{Which}
 use Rattle.events.specs.declared.turn.Medium.{Medium}
-use Rattle.event_text.specs.EventFields.{medium_of, member_in_word, party_of, ticket_key_of, which_of, window_in_word}
-use Rattle.event_text.specs.KeyFields.{child_keys_at, sa_keys_at, starts_at}
-use Rattle.event_text.specs.Grammar.{child_key_words, five_words, medium_word, party_text, sa_key_words, which_text}
+use Rattle.events.specs.EventFields.{medium_of, member_in_word, party_of, ticket_key_of, which_of, window_in_word}
+use Rattle.events.specs.KeyFields.{child_keys_at, sa_keys_at, starts_at}
+use Rattle.events.specs.FieldWords.{child_key_words, five_words, medium_word, party_text, sa_key_words, which_text}
 
 -- a kind of field, of one word or several: its words, its range, and how it is read
 pub record FieldKind (A : Type 0) : Type 1 where

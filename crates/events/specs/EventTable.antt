@@ -8,7 +8,7 @@ use Rattle.line_fields.specs.declared.fault.LineFault.{LineFault}
 use Rattle.line_fields.specs.Words.{Cursor}
 use Rattle.line_fields.specs.Fields.{◌>>=◌, fault_at}
 use Rattle.events.specs.Events.{PlainEvent, Cluster, Import, Join, Own, Draw, Crash, Send, Deliver, Alter, Cut, Inject}
-use Rattle.event_text.specs.FieldKinds.{FieldKind, a_datagram, a_medium, an_end, any_identity, datagram_place, domain_name, esp_keys, esp_spi, five_starts, ike_keys, ike_spi, key_size, lifetime_seconds, member_number, octets_from, one_octet, ticket_key, window_size}
+use Rattle.events.specs.FieldKinds.{FieldKind, a_datagram, a_medium, an_end, any_identity, datagram_place, domain_name, esp_keys, esp_spi, five_starts, ike_keys, ike_spi, key_size, lifetime_seconds, member_number, octets_from, one_octet, ticket_key, window_size}
 
 -- the kinds of an event's fields in their order, and the event that their values make
 pub data EventFields : Type 1 where

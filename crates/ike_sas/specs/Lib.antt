@@ -1,0 +1,5 @@
+pub mod Answers
+pub mod Arrivals
+pub mod Drafts
+pub mod Held
+pub mod Sending

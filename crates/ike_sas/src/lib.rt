@@ -1,0 +1,27 @@
+//! What an end does with the IKE messages of the associations that it holds (RFC 7296, sections
+//! 2.1 to 2.3 and 3.14), by values alone: it asks no keeper, and draws no number itself.
+//!
+//! [`receive`] tells what octets that came are to an end, and changes nothing. [`IkeSa`] is what an
+//! end holds of one association: its keys, the requests that wait for their responses, and the
+//! responses that may be asked for again. What is sent is put together in a [`Draft`], which takes
+//! all the memory that its sealing, its copies and its storing will need.
+#![tactic(auto)]
+
+mod answers;
+mod arrival;
+mod draft;
+mod exchanges;
+mod keys;
+mod receiving;
+mod requests;
+mod responses;
+mod sa;
+mod synchronisation;
+
+pub use answers::{ANSWER_OCTETS, RequestError, error_of, execute};
+pub use arrival::{Arrival, IkeDrop};
+pub use draft::{Draft, SentMessage};
+pub use exchanges::{CREATE_CHILD_SA, IKE_AUTH, IKE_SESSION_RESUME, INFORMATIONAL};
+pub use keys::IkeKeys;
+pub use receiving::{Associations, receive};
+pub use sa::IkeSa;

@@ -1,0 +1,76 @@
+ghost use Rattle.std.specs.Prelude.{◌≡◌, ◌≤◌, [], length};
+ghost use Rattle.ike_sas.specs.Answers.{answer_payloads};
+ghost use Rattle.ike_sas.specs.Held.{StoresResponse, response_header};
+ghost use Rattle.ike_sas.specs.Sending.{SendsIke};
+ghost use Rattle.ike_sas.specs.declared.answers.TheConstants.{ANSWER_OCTETS, LONGEST_REPLY};
+ghost use Rattle.ike_window.specs.Requests.{IsNewRequest};
+ghost use Rattle.ike_window.specs.Windows.{IsAnswered};
+
+use crate::draft::{Draft, Sealed, SentMessage};
+use crate::keys::IkeKeys;
+use crate::sa::IkeSa;
+use ha_base::End;
+use ike_values::Header;
+use sk_payload::Opened;
+use spend_once::Number;
+
+impl IkeKeys {
+    /// The header of the response to a request.
+    pub(crate) fn response_header(&self, request: &Header) -> Header
+        ensures { result ≡ response_header self.now request.now }
+    {
+        Header {
+            spii: self.spii,
+            spir: self.spir,
+            exchange: request.exchange,
+            initiator: self.end == End::Peer,
+            response: true,
+            id: request.id,
+        }
+    }
+}
+
+impl IkeSa {
+    /// Responds to a new request, whose header this is, with the payloads of the draft, sealed with
+    /// the number as the IV. The number is spent, and the response is stored under the Message ID
+    /// of the request. No memory is taken.
+    pub fn respond(&mut self, draft: Draft, request: &Header, number: Number) -> SentMessage
+        requires named { number.name ≡ self.old.keys.sending.name }
+        requires new { IsNewRequest self.old.answered.low (IsAnswered self.old.answered)
+            request.now.id }
+        ensures sends { SendsIke self.old.keys.sending number.value
+            (response_header self.old.keys request.now) draft.payloads result }
+        ensures held { StoresResponse request.now.id result.datagram.octets.octets
+            self.old self.new }
+    {
+        let header = self.keys.response_header(request);
+        let Sealed { sent, kept } = draft.seal(&self.keys.sending, number, &header);
+        self.answering.store(request.id, kept);
+        sent
+    }
+
+    /// Answers a new request: with the error that refuses it, or else with the reply of the service
+    /// that executed it. The draft is empty. The rest is as with `respond`.
+    pub fn answer(
+        &mut self,
+        mut draft: Draft,
+        request: &Opened,
+        reply: &[u8],
+        number: Number,
+    ) -> SentMessage
+        requires named { number.name ≡ self.old.keys.sending.name }
+        requires new { IsNewRequest self.old.answered.low (IsAnswered self.old.answered)
+            request.now.header.id }
+        requires empty { draft.payloads ≡ [] }
+        requires room { ANSWER_OCTETS ≤ draft.room }
+        requires short { length reply.now ≤ LONGEST_REPLY }
+        ensures sends { SendsIke self.old.keys.sending number.value
+            (response_header self.old.keys request.now.header)
+            (answer_payloads request.now reply.now) result }
+        ensures held { StoresResponse request.now.header.id result.datagram.octets.octets
+            self.old self.new }
+    {
+        draft.put_answer(request, reply);
+        self.respond(draft, &request.header, number)
+    }
+}

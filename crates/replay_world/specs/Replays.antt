@@ -1,0 +1,28 @@
+-- What a call does, by what its words ask for.
+use Rattle.std.specs.Prelude.{◌≡◌, ℕ, List, Option, Some, None}
+use Rattle.call_ends.specs.Endings.{Declines, Ends}
+use Rattle.call_ends.specs.Jobs.{Job, by_lines}
+use Rattle.call_ends.specs.Outside.{Outside}
+use Rattle.call_ends.specs.declared.status.Status.{Status}
+use Rattle.input_lines.specs.declared.fault.InputFault.{InputFault}
+use Rattle.replay_world.specs.Played.{Handed, IsPlayed}
+use Rattle.replay_world.specs.declared.top.Command.{Command}
+use Rattle.replay_world.specs.declared.top.Command.TheVariants.{Run, Show}
+use Rattle.show_messages.specs.Messages.{messages_of}
+use Rattle.show_messages.specs.Shows.{shown_all}
+
+-- the text is that of an input's messages up to its first fault, where it has one, and the line of
+-- their number
+pub record IsShown (input : List ℕ) (fault : Option InputFault) (text : List ℕ) : Type 0 where
+  pub first_fault : (messages_of input).fault ≡ fault
+  pub written : text ≡ shown_all (messages_of input).messages
+
+-- what each command makes of its input
+abbrev pub job_of : Handed → Command → Job
+job_of run Run = by_lines (IsPlayed run)
+job_of run Show = by_lines IsShown
+
+-- how a call ends: its words ask for a command, or for none
+abbrev pub Replays : Option Command → Handed → Outside → Outside → Status → Type 0
+Replays None run old new status = Declines old new status
+Replays (Some command) run old new status = Ends (job_of run command) old new status

@@ -1,0 +1,92 @@
+-- How an event came out is read back from its words.
+use Rattle.std.proofs.Common.{◌≡◌, ℕ, List, [], ◌∷◌, Ok, Err, refl, codes, if◌then◌else◌}
+use Rattle.std.specs.Str.{bytes_eq}
+use Rattle.events.specs.declared.verdict.Refusal.{Refusal}
+use Rattle.events.specs.declared.verdict.Refusal.TheVariants as refusals
+use Rattle.line_fields.specs.declared.fault.LineReason.TheVariants.{Word}
+use Rattle.report_text.specs.LineRanges.{FitsRefusal, FitsVerdict}
+use Rattle.report_text.specs.Lines.{PlainVerdict, Configured, Entered, Down, Member, Owned, Number, Sent, Accepted, DroppedEsp, Refused}
+use Rattle.report_text.specs.Spelling.{refusal_words, verdict_words}
+use Rattle.report_text.proofs.WordReading.{◌>>=◌, Reading, drop_again, drop_in, five_again, five_in, named, number_again, number_in, numbered, octets_again, octets_in}
+
+abbrev refusal_in : List (List ℕ) → Reading Refusal
+refusal_in (w ∷ []) =
+    named (
+      (codes "not-owner", refusals.NotOwner)
+      ∷ (codes "exhausted", refusals.Exhausted)
+      ∷ (codes "keeper-fault", refusals.KeeperFault)
+      ∷ (codes "closed", refusals.Closed)
+      ∷ (codes "unknown", refusals.Unknown)
+      ∷ (codes "spi-in-use", refusals.SpiInUse)
+      ∷ (codes "no-member", refusals.NoMember)
+      ∷ (codes "down", refusals.Down)
+      ∷ (codes "no-datagram", refusals.NoDatagram)
+      ∷ (codes "no-octet", refusals.NoOctet)
+      ∷ (codes "datagrams-full", refusals.DatagramsFull)
+      ∷ (codes "late", refusals.Late)
+      ∷ (codes "spi-range", refusals.SpiRange)
+      ∷ (codes "not-built", refusals.NotBuilt)
+      ∷ []
+    ) w
+refusal_in (w ∷ n ∷ []) = numbered ((codes "replaced", refusals.Replaced) ∷ (codes "full", refusals.Full) ∷ (codes "no-room", refusals.NoRoom) ∷ []) w n
+refusal_in other = Err Word
+
+refusal_again : (refusal : Refusal) → FitsRefusal refusal → refusal_in (refusal_words refusal) ≡ Ok refusal
+refusal_again refusals.NotOwner fits = refl
+refusal_again (refusals.Replaced epoch) fits = rw (number_again epoch fits) refl
+refusal_again refusals.Exhausted fits = refl
+refusal_again refusals.KeeperFault fits = refl
+refusal_again refusals.Closed fits = refl
+refusal_again refusals.Unknown fits = refl
+refusal_again (refusals.Full limit) fits = rw (number_again limit fits) refl
+refusal_again refusals.SpiInUse fits = refl
+refusal_again refusals.NoMember fits = refl
+refusal_again refusals.Down fits = refl
+refusal_again refusals.NoDatagram fits = refl
+refusal_again refusals.NoOctet fits = refl
+refusal_again refusals.DatagramsFull fits = refl
+refusal_again refusals.Late fits = refl
+refusal_again (refusals.NoRoom members) fits = rw (number_again members fits) refl
+refusal_again refusals.SpiRange fits = refl
+refusal_again refusals.NotBuilt fits = refl
+
+abbrev accepted_in : List (List ℕ) → Reading PlainVerdict
+accepted_in (n ∷ h ∷ p ∷ []) = do
+  number ← number_in n
+  next_header ← number_in h
+  payload ← octets_in p
+  Ok (Accepted number next_header payload)
+accepted_in other = Err Word
+
+abbrev owned_in : List (List ℕ) → Reading PlainVerdict
+owned_in (n ∷ ws) = number_in n >>= (λ epoch. five_in ws >>= (λ five. Ok (Owned epoch five)))
+owned_in other = Err Word
+
+abbrev dropped_in : List (List ℕ) → Reading PlainVerdict
+dropped_in (w ∷ []) = drop_in w >>= (λ why. Ok (DroppedEsp why))
+dropped_in other = Err Word
+
+abbrev other_in : List ℕ → List (List ℕ) → Reading PlainVerdict
+other_in w [] = named ((codes "configured", Configured) ∷ (codes "entered", Entered) ∷ (codes "down", Down) ∷ []) w
+other_in w (n ∷ ws) = numbered ((codes "member", Member) ∷ (codes "number", Number) ∷ (codes "sent", Sent) ∷ []) w n
+
+abbrev pub verdict_in : List (List ℕ) → Reading PlainVerdict
+verdict_in [] = Err Word
+verdict_in (w ∷ ws) =
+    if bytes_eq w (codes "owned") then owned_in ws
+    else if bytes_eq w (codes "accepted") then accepted_in ws
+    else if bytes_eq w (codes "dropped") then dropped_in ws
+    else if bytes_eq w (codes "refused") then refusal_in ws >>= (λ refusal. Ok (Refused refusal))
+    else other_in w ws
+
+pub verdict_again : (verdict : PlainVerdict) → FitsVerdict verdict → verdict_in (verdict_words verdict) ≡ Ok verdict
+verdict_again Configured fits = refl
+verdict_again Entered fits = refl
+verdict_again Down fits = refl
+verdict_again (Member number) fits = rw (number_again number fits) refl
+verdict_again (Owned epoch bases) fits = rw (number_again epoch fits.0, five_again bases fits.1) refl
+verdict_again (Number number) fits = rw (number_again number fits) refl
+verdict_again (Sent number) fits = rw (number_again number fits) refl
+verdict_again (Accepted number next_header payload) fits = rw (number_again number fits.0, number_again next_header fits.1, octets_again payload fits.2) refl
+verdict_again (DroppedEsp why) fits = rw (drop_again why) refl
+verdict_again (Refused refusal) fits = rw (refusal_again refusal fits) refl
