@@ -246,7 +246,8 @@ pub fn no_number_past_its_end()
         → AllByRecursion (λ u. u.number < u.end) (uses_at p (acts_of past)) }
     ensures places { (boxes : ℕ) (past : List Turn) (book : Book) → Explained boxes past
         → Stands past book
-        → (p : Place) → AllByRecursion (λ n. n < end_at p (acts_of past) book) (numbers_at p (acts_of past)) }
+        → (p : Place) → AllByRecursion (λ n. n < end_at p (acts_of past) book)
+        (numbers_at p (acts_of past)) }
     ensures counters { (boxes : ℕ) (past : List Turn) (book : Book) → Explained boxes past
         → Stands past book
         → (spir : ℕ) (c : Counter)
