@@ -14,7 +14,7 @@ use Rattle.keeper_book.specs.declared.pools.Pool.TheVariants as pool
 use Rattle.keeper_book.specs.declared.pools.PoolNumbers.{PoolNumbers}
 use Rattle.keeper_book.specs.declared.records.Record.{Record}
 use Rattle.keeper_book.specs.Book.{Answers, Book, Entry, book_entered, closed, edit_at, entry_of, is_spent, lease_refusal, pool_next, refusal, settle_refusal, shares_spi, when, with_pool_next}
-use Rattle.keeper_book.specs.Pools.{ArePoolNumbers, IsRangeOf, number_of, pool_end}
+use Rattle.keeper_book.specs.Pools.{ArePoolNumbers, IsRangeOf, pool_number, pool_end}
 use Rattle.keeper_book.specs.Told.{IsFailed, IsRefusalOf}
 use Rattle.keeper_book.proofs.BookAnswers.{granted, refused_by_name}
 use Rattle.keeper_book.proofs.EntryLemmas.{edit_at-there, entry_of-there, not_here}
@@ -27,7 +27,7 @@ edit_none spir edit (e ∷ es) n =
     edit_at-there spir edit e es other ∙ ap (λ xs. e ∷ xs) (edit_none spir edit es (sym (entry_of-there spir e es other) ∙ n))
 
 -- the next number of a pool lies in it, or is its end
-pub number_within : (numbers : PoolNumbers) → ArePoolNumbers numbers → (pool : Pool) → IsRangeOf pool 0 (number_of pool numbers)
+pub number_within : (numbers : PoolNumbers) → ArePoolNumbers numbers → (pool : Pool) → IsRangeOf pool 0 (pool_number pool numbers)
 number_within numbers are pool.Ticket = are.ticket
 number_within numbers are pool.Nonce = are.nonce
 
@@ -40,14 +40,14 @@ module _ (old : Book) (pool : Pool) (count : ℕ) where
   no_memory true r = cc
   no_memory false r = cc
 
-  pub lease_full : pool_end pool < number_of pool old.next + count → Answers old (ask.Lease pool count) (answer.Refused (fault.Full (pool_end pool))) old
+  pub lease_full : pool_end pool < pool_number pool old.next + count → Answers old (ask.Lease pool count) (answer.Refused (fault.Full (pool_end pool))) old
   lease_full past =
-      let full : nat_lt (pool_end pool) (number_of pool old.next + count) ≡ true = lt-ltb _ _ past in
+      let full : nat_lt (pool_end pool) (pool_number pool old.next + count) ≡ true = lt-ltb _ _ past in
       refused_by_name old (ask.Lease pool count) (fault.Full (pool_end pool)) (λ m. no_memory _ m) (ap (λ b. when b (fault.Full (pool_end pool)) None) full)
 
-  pub lease_first : (first : ℕ) (new : Book) → number_of pool old.next + count ≤ pool_end pool → first ≡ pool_next pool old → new ≡ with_pool_next pool (first + count) old → Answers old (ask.Lease pool count) (answer.First first) new
+  pub lease_first : (first : ℕ) (new : Book) → pool_number pool old.next + count ≤ pool_end pool → first ≡ pool_next pool old → new ≡ with_pool_next pool (first + count) old → Answers old (ask.Lease pool count) (answer.First first) new
   lease_first first new below is_next is =
-      let room : nat_lt (pool_end pool) (number_of pool old.next + count) ≡ false = le-ltb _ _ below in
+      let room : nat_lt (pool_end pool) (pool_number pool old.next + count) ≡ false = le-ltb _ _ below in
       granted old (ask.Lease pool count) (answer.First first) new (ap (λ b. when b (fault.Full (pool_end pool)) None) room) (ap answer.First is_next) (is ∙ ap (λ n. with_pool_next pool (n + count) old) is_next)
 
 -- whether a ticket is spent

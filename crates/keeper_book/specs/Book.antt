@@ -18,7 +18,7 @@ use Rattle.keeper_book.specs.declared.pools.TheConstants.{FIRST_POOL_NUMBER}
 use Rattle.keeper_book.specs.declared.records.Record.{Record}
 use Rattle.keeper_book.specs.CounterEnds.{end_of}
 use Rattle.keeper_book.specs.Counters.{counter_named, five_at, with_five}
-use Rattle.keeper_book.specs.Pools.{number_of, pool_end, with_number}
+use Rattle.keeper_book.specs.Pools.{pool_number, pool_end, with_number}
 
 -- An association in the book. Its epoch is the number of its bases: each epoch begins at the highs
 -- of its time.
@@ -45,7 +45,7 @@ empty = record {
 
 -- the next number of a pool, by the book
 abbrev pub pool_next : Pool → Book → ℕ
-pool_next pool book = number_of pool book.next
+pool_next pool book = pool_number pool book.next
 
 abbrev pub with_pool_next : Pool → ℕ → Book → Book
 with_pool_next pool n book = record book { next = with_number pool n book.next }
@@ -133,7 +133,7 @@ cover_refusal (Some e) (Some c) epoch =
 
 abbrev pub lease_refusal : Pool → ℕ → PoolNumbers → Option KeeperFault
 lease_refusal pool count next =
-    when (nat_lt (pool_end pool) (number_of pool next + count)) (fault.Full (pool_end pool)) None
+    when (nat_lt (pool_end pool) (pool_number pool next + count)) (fault.Full (pool_end pool)) None
 
 abbrev pub settle_refusal : ℕ → Record → List ℕ → List Entry → Option KeeperFault
 settle_refusal ticket sa spent entries =

@@ -11,9 +11,9 @@ pool_end pool.Ticket = TICKET_NUMBERS_END
 pool_end pool.Nonce = NONCE_NUMBERS_END
 
 -- the number of a pool
-abbrev pub number_of : Pool → PoolNumbers → ℕ
-number_of pool.Ticket numbers = numbers.ticket
-number_of pool.Nonce numbers = numbers.nonce
+abbrev pub pool_number : Pool → PoolNumbers → ℕ
+pool_number pool.Ticket numbers = numbers.ticket
+pool_number pool.Nonce numbers = numbers.nonce
 
 -- the same numbers but for the one of this pool
 abbrev pub with_number : Pool → ℕ → PoolNumbers → PoolNumbers

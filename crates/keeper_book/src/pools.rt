@@ -1,5 +1,5 @@
 ghost use Rattle.std.specs.Prelude.{◌≡◌};
-ghost use Rattle.keeper_book.specs.Pools.{number_of, pool_end, with_number};
+ghost use Rattle.keeper_book.specs.Pools.{pool_number, pool_end, with_number};
 
 /// The first number of each pool.
 pub const FIRST_POOL_NUMBER: u64 = 1;
@@ -43,7 +43,7 @@ impl Pool {
 impl PoolNumbers {
     /// The next number of a pool.
     pub fn at(&self, pool: Pool) -> u64
-        ensures { result ≡ number_of pool self.now }
+        ensures { result ≡ pool_number pool self.now }
     {
         match pool {
             Pool::Ticket => self.ticket,

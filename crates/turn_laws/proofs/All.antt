@@ -10,7 +10,8 @@ use Rattle.keeper_book.specs.declared.counters.Counter.{Counter}
 use Rattle.keeper_book.specs.declared.counters.Counter.TheVariants as counter
 use Rattle.turn_laws.proofs.Acting.{MayDoMoves, moves-all, moves_onto}
 use Rattle.turn_laws.proofs.Deeds.{NoneStarted}
-use Rattle.turn_laws.proofs.Lists.{all-append, all-each}
+use Rattle.turn_laws.proofs.Lists.{all-append}
+use Rattle.turn_rules.proofs.SlotTies.{all-weaker}
 use Rattle.turn_laws.proofs.Moves.{IsUseOrEnd, are-uses}
 use Rattle.turn_laws.proofs.Numbers.{counters-hold}
 use Rattle.turn_laws.proofs.Records.{deed-of}
@@ -36,7 +37,7 @@ none-started : (past : List Turn) → NoneStarted (acts_of past)
 none-started [] name = tt
 none-started (turn ∷ past) name = moves-all (λ move. starts_name name move ≡ false) (actor_of turn) (moves_of turn) (acts_of past)
     (of_calls turn.calls (uses_of turn.event turn.step.verdict ++ map (λ seal. Seals (key_iv seal)) turn.step.seals)
-    (all-append (λ move. starts_name name move ≡ false) (uses_of turn.event turn.step.verdict) (map (λ seal. Seals (key_iv seal)) turn.step.seals) (all-each (uses_of turn.event turn.step.verdict) of_use (are-uses turn.event turn.step.verdict)) (of_seals turn.step.seals)))
+    (all-append (λ move. starts_name name move ≡ false) (uses_of turn.event turn.step.verdict) (map (λ seal. Seals (key_iv seal)) turn.step.seals) (all-weaker (uses_of turn.event turn.step.verdict) of_use (are-uses turn.event turn.step.verdict)) (of_seals turn.step.seals)))
     (none-started past name)
   where
     of_use : (move : Move) → IsUseOrEnd move → starts_name name move ≡ false
@@ -85,7 +86,7 @@ lawful-run boxes (turn ∷ past) book local stands =
     may_do-append (actor_of turn) (map Calls turn.calls) rest (acts_of past) (turn-well boxes past turn local.0 local.1) in
     subst (λ acts. Lawful acts book) (sym (onto-append (actor_of turn) (map Calls turn.calls) rest (acts_of past)))
     (lawful-quiet (actor_of turn) rest (moves_onto (actor_of turn) (map Calls turn.calls) (acts_of past)) book
-    (all-append LeavesBook (uses_of turn.event turn.step.verdict) (map (λ seal. Seals (key_iv seal)) turn.step.seals) (all-each (uses_of turn.event turn.step.verdict) use-leaves (are-uses turn.event turn.step.verdict)) (seals-leave turn.step.seals))
+    (all-append LeavesBook (uses_of turn.event turn.step.verdict) (map (λ seal. Seals (key_iv seal)) turn.step.seals) (all-weaker (uses_of turn.event turn.step.verdict) use-leaves (are-uses turn.event turn.step.verdict)) (seals-leave turn.step.seals))
     (lawful-calls (actor_of turn) turn.calls (acts_of past) parts.0 book (lawful-run boxes past parts.0 local.1 parts.1) parts.2 may.0)
     may.1)
 

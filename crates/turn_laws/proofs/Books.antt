@@ -5,10 +5,9 @@ use Rattle.std.proofs.lemmas.Bool.{eqb-true, or_parts, eq-eqb}
 use Rattle.std.proofs.lemmas.List.{length-map}
 use Rattle.std.specs.List.{list_any}
 use Rattle.std.specs.Option.{option_map}
-use Rattle.keeper_book.specs.Book.{Answers, Book, Entry, book_after, book_entered, cover_refusal, enter_refusal, entry_of, entry_raised, fresh, pool_next, raised_at, refusal, shares_spi, taken_over, takeover_answer, unless_refused, when}
+use Rattle.keeper_book.specs.Book.{pool_next, Answers, Book, Entry, book_after, cover_refusal, enter_refusal, book_entered, entry_of, entry_raised, raised_at, refusal, shares_spi, takeover_answer, taken_over, unless_refused, when}
 use Rattle.keeper_book.specs.CounterEnds.{end_of}
 use Rattle.keeper_book.specs.Counters.{five_at}
-use Rattle.keeper_book.specs.Pools.{pool_end}
 use Rattle.keeper_book.specs.declared.TheConstants.{MAX_ASSOCIATIONS}
 use Rattle.keeper_book.specs.declared.calls.KeeperAnswer.{KeeperAnswer}
 use Rattle.keeper_book.specs.declared.calls.KeeperAnswer.TheVariants as answer
@@ -26,7 +25,6 @@ use Rattle.turn_laws.specs.Columns.{Column, ColumnGoesOn, IsRising, column_mark}
 use Rattle.turn_laws.specs.Holdings.{IsNew}
 use Rattle.turn_laws.proofs.Pools.{pool-entered}
 use Rattle.turn_laws.specs.Places.{Ours, Place, Pooled, Theirs, column, column_ours}
-use Rattle.turn_rules.specs.Held.{first_some}
 
 -- the book is as it was, or has the entry of a call that is not refused
 pub record HasEntry (old : Book) (asked : KeeperAsk) (new : Book) : Type 0 where

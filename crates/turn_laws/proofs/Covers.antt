@@ -11,6 +11,10 @@ use Rattle.keeper_book.specs.declared.calls.Call.{Call}
 use Rattle.keeper_book.specs.declared.calls.KeeperAnswer.{KeeperAnswer}
 use Rattle.keeper_book.specs.declared.calls.KeeperAnswer.TheVariants as answer
 use Rattle.keeper_book.specs.declared.calls.KeeperAsk.TheVariants as ask
+use Rattle.events.specs.declared.turn.Turn.{Turn}
+use Rattle.ha_base.specs.declared.counter_names.Kind.{Kind}
+use Rattle.turn_laws.proofs.Deeds.{AreReady, Last, Need}
+use Rattle.turn_rules.specs.Draws.{reach_of}
 
 -- what holds of the calls of such a turn
 module _ (R : List Call → Type 0) (r : Reach) (at : ℕ) (stops : Stop → List Call → Type 0) (goes : ℕ → List Call → Type 0)
@@ -63,3 +67,25 @@ module _ (r : Reach) (at : ℕ) (stops now : Stop → List Call → Type 0) (goe
     ended = λ high end. stopped stop.Exhausted calls (ready.ended high end);
     asked = λ high low. covers-as calls (ready.asked high low);
   }
+
+-- a call that asks for a cover
+pub record IsCover (call : Call) : Type 0 where
+  pub spir : ℕ
+  pub kind : Kind
+  pub child : ℕ
+  pub epoch : ℕ
+  pub upto : ℕ
+  pub asked : call.asked ≡ ask.Cover spir kind child epoch upto
+
+-- what holds of the calls of a turn in which several numbers get ready
+module _ {past : List Turn} {member : ℕ} (R : List Call → Type 0) (stops goes : Type 0)
+    (step : (call : Call) (rest : List Call) → IsCover call → R rest → R (call ∷ rest))
+    (stopped : (rest : List Call) → Last rest stops → R rest)
+    (gone : (rest : List Call) → Last rest goes → R rest) where
+  pub are_ready-calls : (needs : List (Need past member)) (calls : List Call) → AreReady needs calls stops goes → R calls
+  are_ready-calls [] calls last = gone calls last
+  are_ready-calls (need ∷ needs) calls ready = ready-calls R (reach_of need.held need.c) need.number (λ why rest. Last rest stops) (λ high rest. AreReady needs rest stops goes)
+      (λ call rest asked more. step call rest (record { spir = _; kind = _; child = _; epoch = _; upto = _; asked = asked }) more)
+      (λ why rest last. stopped rest last)
+      (λ high rest more. are_ready-calls needs rest more)
+      calls ready

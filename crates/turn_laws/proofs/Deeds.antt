@@ -1,5 +1,5 @@
 -- What a turn may be: it makes no call or one, a member ends, or a number of a member or of the peer is used.
-use Rattle.std.proofs.Common.{◌≡◌, ℕ, ◌<◌, Bool, Option, Some, None, List, [], ◌∷◌, ◌++◌, map, sym, subst}
+use Rattle.std.proofs.Common.{[], ◌++◌, ◌<◌, ◌∷◌, ◌≡◌, Bool, List, None, Option, Some, map, option_to_list, subst, sym, ℕ}
 use Rattle.events.specs.declared.event.Event.{Event}
 use Rattle.events.specs.declared.turn.Step.{Step}
 use Rattle.events.specs.declared.turn.Turn.{Turn}
@@ -16,7 +16,7 @@ use Rattle.keeper_book.specs.declared.counters.Counter.TheVariants as counter
 use Rattle.keeper_book.specs.declared.records.Taken.{Taken}
 use Rattle.replay_set.specs.Window.{judged}
 use Rattle.replay_set.specs.declared.judgement.Judgement.TheVariants.{Fresh}
-use Rattle.turn_laws.proofs.Uses.{IsUse, number_at}
+use Rattle.turn_laws.proofs.Uses.{AreElsewhere, AreUses, Spent, number_at, spent_at, spent_of}
 use Rattle.turn_laws.specs.Acts.{Act, IsUnstarted, MayAsk, Move, Seals, entered_as}
 use Rattle.turn_laws.specs.Holdings.{Actor}
 use Rattle.turn_laws.specs.Places.{Ours, Place, Theirs, place_of}
@@ -81,26 +81,52 @@ IsOpenTo slot c n = ⊥
 -- a number of a place is used, and nothing executed; a packet that was accepted has this number
 pub record Spends (place : Place) (n : ℕ) (event : Event) (step : Step) : Type 0 where
   pub served : step.served ≡ None
-  pub uses_it : IsUse place n (rest_of event step)
+  pub uses_it : AreUses (spent_of place n ∷ []) (rest_of event step)
   pub of_packet : (packet : Packet) → accepted_as step.verdict ≡ Some packet → (place_of packet.name ≡ place) × (packet.number ≡ n)
 
 -- a number of the association is used, and own turns tell it
-pub record UsesIt (spir : ℕ) (c : Counter) (n : ℕ) (event : Event) (step : Step) : Type 0 where
+pub record UsesOne (spir : ℕ) (c : Counter) (n : ℕ) (event : Event) (step : Step) : Type 0 where
   pub spends : Spends (Ours spir c) n event step
   pub told : (other : ℕ) (d : Counter) → number_taken other d event step.verdict ≡ number_at (Ours other d) (Ours spir c) n
 
--- a member that holds an association uses a number of it, once that is ready
-pub record MemberUses (past : List Turn) (event : Event) (calls : List Call) (step : Step) : Type 0 where
-  pub member : ℕ
+-- Numbers of different counters are used, and own turns tell them. A packet that was received is of the association's counter.
+pub record UsesIt (ss : List Spent) (event : Event) (step : Step) : Type 0 where
+  pub served : step.served ≡ None
+  pub uses_them : AreUses ss (rest_of event step)
+  pub apart : AreElsewhere ss
+  pub told : (other : ℕ) (d : Counter) → spent_at (Ours other d) ss ≡ option_to_list (number_taken other d event step.verdict)
+  pub not_theirs : (name : CounterName) → spent_at (Theirs name) ss ≡ []
+  pub named : (packet : Packet) → accepted_as step.verdict ≡ Some packet → (other n : ℕ) → received other event step.verdict ≡ Some n → place_of packet.name ≡ Ours other counter.EspIn
+
+-- a number that a member needs of what it holds
+pub record Need (past : List Turn) (member : ℕ) : Type 0 where
   pub held : Held
   pub c : Counter
   pub number : ℕ
-  pub by_it : performer_at event step.verdict ≡ Some (Member member)
   pub is_held : held_by (window_by past) (own (Member member) past) held.sa.spir ≡ Some held
   pub is_open : IsOpen held c number
-  pub ready : Ready (reach_of held c) number calls
-      (λ why rest. (rest ≡ []) × Rests step)
-      (λ high rest. (rest ≡ []) × UsesIt held.sa.spir c number event step)
+
+abbrev pub spent_by : {past : List Turn} {member : ℕ} → Need past member → Spent
+spent_by need = spent_of (Ours need.held.sa.spir need.c) need.number
+
+-- the turn ends here
+pub record Last (rest : List Call) (so : Type 0) : Type 0 where
+  pub ended : rest ≡ []
+  pub is : so
+
+-- the numbers get ready one after another, up to the first that does not, and then the turn ends
+abbrev pub AreReady : {past : List Turn} {member : ℕ} → List (Need past member) → List Call → Type 0 → Type 0 → Type 0
+AreReady [] calls stops goes = Last calls goes
+AreReady (need ∷ needs) calls stops goes = Ready (reach_of need.held need.c) need.number calls
+    (λ why rest. Last rest stops)
+    (λ high rest. AreReady needs rest stops goes)
+
+-- a member that holds associations uses numbers of them, once all are ready
+pub record MemberUses (past : List Turn) (event : Event) (calls : List Call) (step : Step) : Type 0 where
+  pub member : ℕ
+  pub needs : List (Need past member)
+  pub by_it : performer_at event step.verdict ≡ Some (Member member)
+  pub ready : AreReady needs calls (Rests step) (UsesIt (map spent_by needs) event step)
 
 -- the peer uses a number of an association
 pub record PeerUses (past : List Turn) (event : Event) (calls : List Call) (step : Step) : Type 0 where

@@ -9,11 +9,13 @@ use Rattle.keeper_book.specs.Counters.{five_at}
 use Rattle.keeper_book.specs.declared.calls.Call.{Call}
 use Rattle.keeper_book.specs.declared.counters.Counter.{Counter}
 use Rattle.keeper_book.specs.declared.counters.Counter.TheVariants as counter
+use Rattle.turn_laws.specs.Acts.{Uses}
 use Rattle.turn_laws.proofs.Covers.{ready-as, ready-calls}
-use Rattle.turn_laws.proofs.Deeds.{Deed, IsIdle, Rests, Spends, Used, UsesIt}
+use Rattle.turn_laws.proofs.Single.{one-used}
+use Rattle.turn_laws.proofs.Deeds.{Deed, IsIdle, Rests, Spends, UsesOne, rest_of}
 use Rattle.turn_laws.proofs.Members.{member-performs, stop-of_member}
 use Rattle.turn_laws.proofs.Names.{number-failed, number-passed}
-use Rattle.turn_laws.proofs.Uses.{Counts, number_at}
+use Rattle.turn_laws.proofs.Uses.{Counts, number_at, used-alone}
 use Rattle.turn_laws.specs.Places.{Ours}
 use Rattle.turn_laws.specs.Turns.{number_taken}
 use Rattle.turn_rules.specs.Draws.{Concludes, Draws, reach_of, refusal_of_stop}
@@ -52,21 +54,21 @@ module _ (past : List Turn) (step : Step) (member spir : ℕ) (held : Held) (own
   draw-spends : step.verdict ≡ out.Number next → Spends (Ours spir counter.EspOut) next (event.Draw member spir) step
   draw-spends said = record {
     served = quietly.quiet.served;
-    uses_it = Counts (let none : _ = quietly.quiet.seals in rw (said, none));
+    uses_it = used-alone (Ours spir counter.EspOut) next (Uses (Ours spir counter.EspOut) next) (rest_of (event.Draw member spir) step) (Counts refl) (let none : _ = quietly.quiet.seals in rw (said, none));
     of_packet = λ packet is. absurd (no_packet packet (ap accepted_as (sym said) ∙ is));
   }
     where
       no_packet : (packet : Packet) → accepted_as (out.Number next) ≡ Some packet → ⊥
       no_packet packet is = absurd (cc)
 
-  draw-uses : step.verdict ≡ out.Number next → UsesIt spir counter.EspOut next (event.Draw member spir) step
+  draw-uses : step.verdict ≡ out.Number next → UsesOne spir counter.EspOut next (event.Draw member spir) step
   draw-uses said = record {
     spends = draw-spends said;
     told = λ other d. ap (number_taken other d (event.Draw member spir)) said ∙ drawn-told member spir next other d;
   }
 
   pub draws-deed : Deed past (event.Draw member spir) calls step
-  draws-deed = Used (record {
+  draws-deed = one-used (record {
     member = member;
     held = held;
     c = counter.EspOut;
@@ -74,8 +76,8 @@ module _ (past : List Turn) (step : Step) (member spir : ℕ) (held : Held) (own
     by_it = member-performs (event.Draw member spir) step.verdict member refl draw-not_run;
     is_held = subst (λ n. held_by (window_by past) (own (Member member) past) n ≡ Some held) (sym own_spir) is_held;
     is_open = refl;
-    ready = ready-as (reach_of held counter.EspOut) next Stopped (λ why rest. (rest ≡ []) × Rests step) Drew (λ high rest. (rest ≡ []) × UsesIt held.sa.spir counter.EspOut next (event.Draw member spir) step)
+    ready = ready-as (reach_of held counter.EspOut) next Stopped (λ why rest. (rest ≡ []) × Rests step) Drew (λ high rest. (rest ≡ []) × UsesOne held.sa.spir counter.EspOut next (event.Draw member spir) step)
         (λ why rest c. (c.no_more, record { idle = subst (λ v. IsIdle v) (sym c.said) tt; quiet = quietly.quiet }))
-        (λ high rest c. (c.no_more, subst (λ n. UsesIt n counter.EspOut next (event.Draw member spir) step) (sym own_spir) (draw-uses c.said)))
+        (λ high rest c. (c.no_more, subst (λ n. UsesOne n counter.EspOut next (event.Draw member spir) step) (sym own_spir) (draw-uses c.said)))
         calls quietly.follows;
   })

@@ -27,10 +27,11 @@ use Rattle.keeper_book.specs.declared.records.Taken.{Taken}
 use Rattle.turn_laws.proofs.Acting.{MayDoMoves, moves_onto}
 use Rattle.turn_laws.proofs.All.{owned-run, turn-well}
 use Rattle.turn_laws.proofs.Holdings.{is_actor-true}
-use Rattle.turn_laws.proofs.Lists.{all-append, all-both, all-each}
+use Rattle.turn_laws.proofs.Lists.{all-append, all-both}
+use Rattle.turn_rules.proofs.SlotTies.{all-weaker}
 use Rattle.turn_laws.proofs.Moves.{IsUseOrEnd, are-uses}
 use Rattle.turn_laws.proofs.Numbers.{counters-hold}
-use Rattle.turn_laws.proofs.Safety.{begun-is, failed_effect, is_place-true, named-counter, opened-is}
+use Rattle.turn_laws.proofs.Begun.{begun-is, failed_effect, is_place-true, named-counter, opened-is}
 use Rattle.turn_laws.specs.Acts.{Act, Calls, Ends, HoldsFor, Leaps, Leases, MayAsk, MayCover, MayDo, Move, Opens, Seals, Starts, Uses, act_by, begun_at, begun_leased, begun_named, begun_open, begun_started, effect_begun, effect_of, effect_of_call, effect_of_open, effect_of_use, effect_ours, end_at, half_begun, holding_at, lot_begun, numbers_at, uses_at}
 use Rattle.turn_laws.specs.Columns.{Column}
 use Rattle.turn_laws.specs.Holdings.{Passes, Actor, Begins, Draws, Effect, Half, Holding, Jumps, Nothing, Rises, Use, drawn, holding_after, is_actor, jumped_to, raised_to, use_end, uses_after}
@@ -251,7 +252,7 @@ within-run boxes (turn ∷ past) local p = moves-within p (actor_of turn) (moves
     (turn-well boxes past turn local.0 local.1)
     (calls-answered turn.calls (uses_of turn.event turn.step.verdict ++ map (λ seal. Seals (key_iv seal)) turn.step.seals) local.0.answers
     (all-append IsAnswered (uses_of turn.event turn.step.verdict) (map (λ seal. Seals (key_iv seal)) turn.step.seals)
-    (all-each (uses_of turn.event turn.step.verdict) use-answered (are-uses turn.event turn.step.verdict)) (seals-answered turn.step.seals)))
+    (all-weaker (uses_of turn.event turn.step.verdict) use-answered (are-uses turn.event turn.step.verdict)) (seals-answered turn.step.seals)))
     (within-run boxes past local.1 p)
 
 -- no number reaches its counter's end, as the record gives it under which the number was used

@@ -14,7 +14,7 @@ use Rattle.keeper_book.specs.declared.counters.Counter.TheVariants as counter
 use Rattle.keeper_book.specs.declared.counters.Five.{Five}
 use Rattle.keeper_book.specs.declared.records.Record.{Record}
 use Rattle.turn_laws.proofs.Columns.{goes_on-epoch, goes_on-first, goes_on-higher, goes_on-refl, length-append_one, mark-high, mark-with_epoch, rising-none, with_epoch}
-use Rattle.turn_laws.proofs.Holdings.{IsFirstHolding}
+use Rattle.turn_laws.proofs.Firsts.{IsFirstHolding}
 use Rattle.turn_laws.specs.Acts.{begun_theirs, holding_begun}
 use Rattle.turn_laws.specs.Columns.{Column, ColumnGoesOn, IsRising, column_mark, nothing}
 use Rattle.turn_laws.specs.Holdings.{IsNew}

@@ -20,19 +20,15 @@ use Rattle.keeper_book.specs.declared.records.Taken.{Taken}
 use Rattle.replay_set.proofs.Numbers.{judging_by}
 use Rattle.replay_set.specs.Window.{judged, window_of}
 use Rattle.replay_set.specs.declared.judgement.Judgement.TheVariants.{Fresh}
-use Rattle.turn_laws.proofs.Accepted.{no-packet}
-use Rattle.turn_laws.proofs.Deeds.{Spends}
 use Rattle.turn_laws.proofs.Genuine.{member-accepts-it, peer-accepts-it}
 use Rattle.turn_laws.proofs.Opened.{IsNamed, its-told, slot-told}
 use Rattle.turn_laws.proofs.Outcomes.{Idle, Ours_used, Outcome, Over, Theirs_used, idle-received, outcome-of, over-received}
 use Rattle.turn_laws.proofs.Records.{deed-of}
-use Rattle.turn_laws.proofs.Safety.{is_place-true}
-use Rattle.turn_laws.proofs.Theirs.{not-both}
+use Rattle.turn_laws.proofs.Theirs.{not-both, no-packet}
 use Rattle.turn_laws.proofs.Told.{is_end-true}
-use Rattle.turn_laws.proofs.Uses.{number_at}
-use Rattle.turn_laws.specs.FirstDelivery.{IsFirst, IsOtherPacket, MemberAcceptsFirst, PeerAcceptsFirst}
+use Rattle.turn_laws.specs.FirstDelivery.{IsUnaccepted, IsOtherPacket, MemberAcceptsFirst, PeerAcceptsFirst}
 use Rattle.turn_laws.specs.Holdings.{IsNotIn}
-use Rattle.turn_laws.specs.Places.{Ours, Place, Theirs, is_place, place_of}
+use Rattle.turn_laws.specs.Places.{Ours, Place, Theirs, place_of}
 use Rattle.turn_laws.proofs.Lists.{all-both, all-filter}
 use Rattle.turn_rules.proofs.SlotTies.{DoesTold, first-passes}
 use Rattle.turn_rules.proofs.StateLaws.{does-told}
@@ -74,28 +70,18 @@ received-took spir n event verdict is = go (delivery_of event) is
     go None is = absurd (cc)
     go (Some delivery) is = accepted-took spir n verdict is
 
-number-here : (p q : Place) (k n : ℕ) → number_at p q k ≡ Some n → q ≡ p
-number-here p q k n is = by_test (is_place q p) refl is
-  where
-    by_test : (b : Bool) → is_place q p ≡ b → (if b then Some k else None) ≡ Some n → q ≡ p
-    by_test true t is = is_place-true q p t
-    by_test false t is = absurd (cc)
-
 module _ (spir n : ℕ) (past : List Turn) (event : Event) (calls : List Call) (step : Step) (o : Outcome past event calls step) (is : received spir event step.verdict ≡ Some n) where
   abbrev took : Took spir n step.verdict
   took = received-took spir n event step.verdict is
 
   -- of the counter that received it
-  spent-here : (p q : Place) (k : ℕ) → Spends q k event step → number_at p q k ≡ Some n → place_of took.packet.name ≡ p
-  spent-here p q k spends here = (spends.of_packet took.packet took.accepted_it).0 ∙ number-here p q k n here
-
   member-took : (member : ℕ) → performer_at event step.verdict ≡ Some (Member member) → place_of took.packet.name ≡ Ours spir counter.EspIn
   member-took member by = go o
     where
       go : Outcome past event calls step → place_of took.packet.name ≡ Ours spir counter.EspIn
       go (Idle rests) = absurd (no-packet n (sym (idle-received spir event step.verdict rests.idle) ∙ is))
       go (Over ended said ends quiet) = absurd (no-packet n (sym (ap (received spir event) said ∙ over-received spir event) ∙ is))
-      go (Ours_used u it) = spent-here (Ours spir counter.EspIn) (Ours u.held.sa.spir u.c) u.number it.spends (sym (it.told spir counter.EspIn) ∙ is)
+      go (Ours_used u it) = it.named took.packet took.accepted_it spir n is
       go (Theirs_used u) = not-both member (performer_at event step.verdict) by u.by_it
 
 -- what holds of more packets holds of the others
@@ -114,7 +100,7 @@ ReceivesOther spir n turn = received_of spir turn ≢ Some n
 module _ (spir n : ℕ) (p : Place) (test : Turn → Bool)
     (took_here : (boxes : ℕ) (past : List Turn) (turn : Turn) (explained : Explained boxes (turn ∷ past)) → test turn ≡ true → (is : received_of spir turn ≡ Some n)
     → place_of (received-took spir n turn.event turn.step.verdict is).packet.name ≡ p) where
-  none-received : (boxes : ℕ) (past : List Turn) → Explained boxes past → IsFirst p n past → AllByRecursion (ReceivesOther spir n) (filter test past)
+  none-received : (boxes : ℕ) (past : List Turn) → Explained boxes past → IsUnaccepted p n past → AllByRecursion (ReceivesOther spir n) (filter test past)
   none-received boxes [] explained first = tt
   none-received boxes (turn ∷ past) explained first = by_test (none-received boxes past explained.1 (fewer-others (IsOtherPacket p n) (accepted_in turn) (filter_map accepted_in past) first)) (test turn) refl
     where
@@ -152,7 +138,7 @@ since_entered-all P spir (turn ∷ turns) all = by_test (is_entered spir (entere
     by_test false rest = (all.0, rest)
 
 module _ (boxes : ℕ) (past : List Turn) (explained : Explained boxes past) where
-  held-fresh : (member spir n : ℕ) (held : Held) → held_by (window_by past) (own (Member member) past) spir ≡ Some held → WindowCovers held.window n → IsFirst (Ours spir counter.EspIn) n past → judged held.window n ≡ Fresh
+  held-fresh : (member spir n : ℕ) (held : Held) → held_by (window_by past) (own (Member member) past) spir ≡ Some held → WindowCovers held.window n → IsUnaccepted (Ours spir counter.EspIn) n past → judged held.window n ≡ Fresh
   held-fresh member spir n held is covers first = go (found (grant_of spir) (own (Member member) past)) is
     where
       mine : List Turn
@@ -172,7 +158,7 @@ module _ (boxes : ℕ) (past : List Turn) (explained : Explained boxes past) whe
           subst (λ window. judged window n ≡ Fresh) window
           (covered-fresh (window_by past) taken.bases.esp_in n (filter_map (received_of spir) (since spir mine)) (subst (λ window. WindowCovers window n) (sym window) covers) none)
 
-  slot-fresh : (test : Slot → Bool) (slot : Slot) (n : ℕ) → first_slot test (slots_by (window_by past) (own Peer past)) ≡ Some slot → WindowCovers slot.window n → IsFirst (Theirs (peer_counter slot.sa counter.EspIn)) n past → judged slot.window n ≡ Fresh
+  slot-fresh : (test : Slot → Bool) (slot : Slot) (n : ℕ) → first_slot test (slots_by (window_by past) (own Peer past)) ≡ Some slot → WindowCovers slot.window n → IsUnaccepted (Theirs (peer_counter slot.sa counter.EspIn)) n past → judged slot.window n ≡ Fresh
   slot-fresh test slot n is covers first =
       let window = ap (λ (s : Slot). s.window) (slot-told (window_by past) (own Peer past) test slot is) in
       subst (λ window. judged window n ≡ Fresh) (sym window)
@@ -192,7 +178,7 @@ module _ (boxes : ℕ) (past : List Turn) (explained : Explained boxes past) whe
       OtherPacket : Turn → Type 0
       OtherPacket turn = (packet : Packet) → accepted_in turn ≡ Some packet → IsOtherPacket p n packet
 
-      packets-other : (past : List Turn) → IsFirst p n past → AllByRecursion OtherPacket past
+      packets-other : (past : List Turn) → IsUnaccepted p n past → AllByRecursion OtherPacket past
       packets-other [] first = tt
       packets-other (turn ∷ past) first = ((λ packet is. first-other (IsOtherPacket p n) (accepted_in turn) packet (filter_map accepted_in past) is first), packets-other past (fewer-others (IsOtherPacket p n) (accepted_in turn) (filter_map accepted_in past) first))
 

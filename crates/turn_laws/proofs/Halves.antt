@@ -1,5 +1,5 @@
 -- What is half open holds numbers that nobody else has.
-use Rattle.std.proofs.Common.{◌≡◌, ◌≢◌, ◌⊎◌, inl, inr, ℕ, zero, suc, ◌+◌, ◌<◌, ◌≤◌, Option, Some, None, List, [], ◌∷◌, length, ⊎_elim, refl, sym, subst, arith}
+use Rattle.std.proofs.Common.{◌≡◌, ◌≢◌, ◌⊎◌, inl, inr, ℕ, zero, suc, ◌<◌, Option, Some, None, List, [], ◌∷◌, length, ⊎_elim, refl, sym, subst, arith}
 use Rattle.std.proofs.lemmas.Bool.Decides.{eqb_tells}
 use Rattle.std.specs.List.{AllByRecursion, Contains}
 use Rattle.keeper_book.specs.Book.{Book, Entry, entry_of}
@@ -8,8 +8,9 @@ use Rattle.keeper_book.specs.declared.pools.Pool.{Pool}
 use Rattle.keeper_book.specs.declared.pools.Pool.TheVariants as pools
 use Rattle.keeper_book.specs.declared.records.Record.{Record}
 use Rattle.turn_laws.proofs.Columns.{goes_on-first, goes_on-refl}
-use Rattle.turn_laws.proofs.Lists.{all-each}
-use Rattle.turn_laws.proofs.Safety.{entry-spir, free-import}
+use Rattle.turn_rules.proofs.SlotTies.{all-weaker}
+use Rattle.turn_laws.proofs.Begun.{entry-spir}
+use Rattle.turn_laws.proofs.Keeping.{free-import}
 use Rattle.turn_laws.specs.Acts.{Act, HoldsFor, IsHalfOpen, begun_at, column_at, half_begun, holding_at, numbers_at, uses_at}
 use Rattle.turn_laws.specs.Columns.{Column, ColumnGoesOn, nothing}
 use Rattle.turn_laws.specs.Holdings.{Actor, Half, Holding, IsNotIn, IsOwned, MayUse, Run, Use}
@@ -22,7 +23,7 @@ pub next-may : (held : Actor → Option Holding) (uses : List Use) (column : Col
 next-may held uses column w h owned holds below = record {
   from_base = (owned.holdings w h holds).from_base;
   below_high = below;
-  unused = all-each h.numbers (λ k less same. absurd (let a : k < h.next = less in omega arith)) (owned.holdings w h holds).above_used;
+  unused = all-weaker h.numbers (λ k less same. absurd (let a : k < h.next = less in omega arith)) (owned.holdings w h holds).above_used;
 }
 
 -- a failure is sealed under the first IV

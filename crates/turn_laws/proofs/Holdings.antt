@@ -4,11 +4,10 @@ use Rattle.std.proofs.lemmas.Bool.{cases_order, eqb-true, eq-eqb}
 use Rattle.std.proofs.lemmas.Option.{same_Some}
 use Rattle.std.specs.List.{AllByRecursion}
 use Rattle.std.specs.Option.{option_map}
-use Rattle.turn_laws.proofs.Columns.{goes_on-first, goes_on-refl, mark-goes_on, mark-high, rising-one}
-use Rattle.turn_laws.proofs.Lists.{all-each}
-use Rattle.turn_laws.specs.Acts.{effect_begun, with_begun}
-use Rattle.turn_laws.specs.Columns.{Column, ColumnGoesOn, IsRising, column_mark, nothing}
-use Rattle.turn_laws.specs.Holdings.{Actor, Begins, Draws, Effect, End, Half, Jumps, Passes, Holding, IsHoldingOf, IsNew, IsNotIn, IsOwned, IsUseOf, MayUse, Nothing, Rises, Run, Use, column_begun, drawn, epoch_of, use_end, holding_after, is_actor, jumped_to, raised_to, uses_after}
+use Rattle.turn_laws.proofs.Columns.{mark-goes_on}
+use Rattle.turn_rules.proofs.SlotTies.{all-weaker}
+use Rattle.turn_laws.specs.Columns.{Column, ColumnGoesOn, column_mark}
+use Rattle.turn_laws.specs.Holdings.{Actor, Begins, Draws, Effect, End, Half, Jumps, Passes, Holding, IsHoldingOf, IsNew, IsNotIn, IsOwned, IsUseOf, MayUse, Nothing, Rises, Run, Use, drawn, epoch_of, use_end, holding_after, is_actor, jumped_to, raised_to, uses_after}
 use Rattle.turn_rules.specs.Ends.{Member, Peer, Performer, is_performer}
 
 pub is_performer-same : (a : Performer) → is_performer a a ≡ true
@@ -72,7 +71,7 @@ owned-goes_on held uses old new owned goes = record {
   rising = goes.rising;
   holdings = λ w h e. holding-goes_on old new h goes (owned.holdings w h e);
   alone = owned.alone;
-  within = all-each uses (λ u. use-goes_on old new u goes) owned.within;
+  within = all-weaker uses (λ u. use-goes_on old new u goes) owned.within;
   known = owned.known;
   once = owned.once;
 }
@@ -91,7 +90,7 @@ owned-agrees held now uses column owned same = record {
 module _ (held : Actor → Option Holding) (uses : List Use) (column : Column) (owned : IsOwned held uses column) where
   -- no number of an epoch to come was used
   none_used : (epoch : ℕ) → length column.bases < epoch → (n : ℕ) → AllByRecursion (λ u. u.epoch ≡ epoch → u.number ≢ n) uses
-  none_used epoch later n = all-each uses (λ u of same. absurd (let a : u.epoch ≤ length column.bases = of.begun in omega arith)) owned.within
+  none_used epoch later n = all-weaker uses (λ u of same. absurd (let a : u.epoch ≤ length column.bases = of.begun in omega arith)) owned.within
 
   module _ (w : Actor) (to : Option Holding) where
     -- the holding of one end changes
@@ -119,7 +118,7 @@ owned-begins held uses old new w h owned goes fresh = record {
       (λ wasg. changed_cases held uses old owned w (Some h) u k ek
       (λ wu isk. absurd (later v g wasg (same ∙ sym (ap (λ (x : Holding). x.epoch) (same_Some h k isk)))))
       (λ wask. owned.alone v u g k wasg wask same));
-  within = all-each uses (λ u. use-goes_on old new u goes) owned.within;
+  within = all-weaker uses (λ u. use-goes_on old new u goes) owned.within;
   known = λ v g e n none. changed_cases held uses old owned w (Some h) v g e
       (λ same is. subst (λ (x : Holding). AllByRecursion (λ u. u.epoch ≡ x.epoch → u.number ≢ n) uses) (same_Some h g is) (none_used held uses old owned h.epoch is_later n))
       (λ was. owned.known v g was n none);
@@ -192,7 +191,7 @@ module _ (held : Actor → Option Holding) (uses : List Use) (column : Column) (
       high = was.high;
       end = was.end;
       from_base = let a : h.base ≤ h.next = was.from_base in omega arith;
-      above_used = all-each h.numbers (λ k below. let a : k < h.next = below in let b : k < max n h.next = omega arith in b) was.above_used;
+      above_used = all-weaker h.numbers (λ k below. let a : k < h.next = below in let b : k < max n h.next = omega arith in b) was.above_used;
     });
     alone = alone-changed (jumped_to n h) refl;
     within = owned.within;
@@ -219,7 +218,7 @@ module _ (held : Actor → Option Holding) (uses : List Use) (column : Column) (
       high = was.high;
       end = was.end;
       from_base = let a : h.base ≤ h.next = was.from_base in omega arith;
-      above_used = (omega arith, all-each h.numbers (λ k below. let a : k < h.next = below in let b : k < max (n + 1) h.next = omega arith in b) was.above_used);
+      above_used = (omega arith, all-weaker h.numbers (λ k below. let a : k < h.next = below in let b : k < max (n + 1) h.next = omega arith in b) was.above_used);
     });
     alone = alone-changed (drawn n h) refl;
     within = (of, owned.within);
@@ -369,34 +368,3 @@ owned-after held uses old new (Draws w n) owned keeps =
   where
     later : IsOwned held uses new
     later = owned-goes_on held uses old new owned keeps.0
-
--- a holding of a first epoch
-pub record IsFirstHolding (h : Holding) : Type 0 where
-  pub epoch : h.epoch ≡ 1
-  pub rising : h.base ≤ h.high
-  pub from_base : h.base ≤ h.next
-  pub unused : h.numbers ≡ []
-
--- where no epoch began, the first one begins
-pub keeps-first : (held : Actor → Option Holding) (w : Actor) (h : Holding) → IsFirstHolding h → Keeps (Begins w h) held nothing (column_begun h nothing)
-keeps-first held w h first = (
-  goes_on-first (column_begun h nothing) (rising-one h.base h.high h.end first.rising),
-  record {
-    next_epoch = first.epoch;
-    of_column = record {
-      some = let e : h.epoch ≡ 1 = first.epoch in omega arith;
-      begun = let e : h.epoch ≡ 1 = first.epoch in omega arith;
-      base = ap (λ n. column_mark (column_begun h nothing) (n - 1)) first.epoch;
-      high = let e : column_mark (column_begun h nothing) h.epoch ≡ h.high = mark-high (column_begun h nothing) h.epoch (let e : h.epoch ≡ 1 = first.epoch in omega arith) in omega arith;
-      end = refl;
-      from_base = first.from_base;
-      above_used = subst (λ ns. AllByRecursion (λ n. n < h.next) ns) (sym first.unused) tt;
-    };
-    unused = first.unused;
-  },
-)
-
--- Where something begins, no epoch began.
-pub keeps-begun : (held : Actor → Option Holding) (w : Actor) (x : Option Holding) (begun : Column) → IsRising begun → ((h : Holding) → x ≡ Some h → (begun ≡ nothing) × IsFirstHolding h) → Keeps (effect_begun w x) held begun (with_begun x begun)
-keeps-begun held w None begun rising first = goes_on-refl begun rising
-keeps-begun held w (Some h) begun rising first = subst (λ column. Keeps (Begins w h) held column (column_begun h column)) (sym (first h refl).0) (keeps-first held w h (first h refl).1)

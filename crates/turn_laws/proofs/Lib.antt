@@ -8,11 +8,16 @@ mod BookRecords
 mod Pools
 mod Lots
 mod Holdings
+mod Firsts
+mod Begun
+mod Keeping
 mod Safety
 mod Halves
 mod Runs
 mod Names
 mod Uses
+mod Moved
+mod Single
 mod Covers
 mod Deeds
 mod Members

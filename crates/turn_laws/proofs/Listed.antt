@@ -10,18 +10,36 @@ use Rattle.events.specs.declared.turn.Turn.{Turn}
 use Rattle.events.specs.declared.verdict.Verdict.{Verdict}
 use Rattle.events.specs.declared.verdict.Verdict.TheVariants as out
 use Rattle.keeper_book.specs.declared.calls.Call.{Call}
-use Rattle.keeper_book.specs.declared.pools.Pool.{Pool}
-use Rattle.keeper_book.specs.declared.pools.Pool.TheVariants as pools
+use Rattle.keeper_book.specs.Told.{seen}
+use Rattle.keeper_book.specs.declared.counters.Counter.{Counter}
 use Rattle.keeper_book.specs.declared.records.Record.{Record}
+use Rattle.keeper_book.specs.declared.records.Taken.{Taken}
 use Rattle.turn_laws.proofs.Acting.{moves_onto}
-use Rattle.turn_laws.proofs.Numbers.{begun-uses, call-uses}
-use Rattle.turn_laws.specs.Acts.{Act, Calls, Ends, Leaps, Leases, Move, Opens, Seals, Starts, Uses, act_by, begun_at, begun_leased, begun_open, begun_started, effect_of_open, effect_of_use, holding_at, numbers_at, uses_at}
+use Rattle.turn_laws.specs.Acts.{Act, begun_by, effect_begun, effect_of_call, effect_ours, entered_as, Calls, Ends, Leaps, Leases, Move, Opens, Seals, Starts, Uses, act_by, begun_at, begun_leased, begun_open, begun_started, effect_of_open, effect_of_use, holding_at, numbers_at, uses_at}
 use Rattle.turn_laws.specs.Holdings.{Actor, Draws, Half, Holding, Jumps, Nothing, Use, uses_after}
 use Rattle.turn_laws.specs.Listed.{drawn_at, drew, ivs_at, listed_at, number_where, packet_at}
 use Rattle.turn_laws.specs.Places.{Ours, Place, Pooled, Theirs, is_place, place_of}
 use Rattle.turn_laws.specs.Turns.{actor_of, acts_of, drawn_by, end_moves, key_iv, moves_of, uses_of}
+use Rattle.turn_rules.specs.Held.{covered, granted}
 use Rattle.turn_rules.specs.Safe.{accepted_as, accepted_in}
 use Rattle.turn_rules.specs.States.{ended_by}
+use Rattle.keeper_book.specs.declared.pools.Pool.TheVariants as pools
+
+-- a call uses no number
+module _ (w : Actor) (held : Actor → Option Holding) (us : List Use) where
+  ours-uses : (c : Counter) (grant : Option Taken) (upto : Option ℕ) → uses_after (effect_ours w c grant upto) held us ≡ us
+  ours-uses c (Some taken) upto = refl
+  ours-uses c None (Some n) = refl
+  ours-uses c None None = refl
+
+  pub begun-uses : (x : Option Holding) → uses_after (effect_begun w x) held us ≡ us
+  begun-uses None = refl
+  begun-uses (Some h) = refl
+
+  pub call-uses : (p : Place) (call : Call) → uses_after (effect_of_call p w call.asked (seen call)) held us ≡ us
+  call-uses (Ours spir c) call = ours-uses c (granted spir call.asked (seen call)) (covered spir c call.asked (seen call))
+  call-uses (Pooled q) call = refl
+  call-uses (Theirs name) call = begun-uses (begun_by name (entered_as call.asked (seen call)))
 
 -- what gets half open uses a number of the nonces' pool
 abbrev number_opened : Place → Record → Option ℕ
@@ -127,10 +145,11 @@ module _ (p : Place) where
       ∙ (append_assoc used taken (moved seals)
       ∙ ap (λ ns. used ++ (taken ++ ns)) (moved-seals turn.step.seals)))))
 
+  -- the numbers of a place after one more turn
+  pub turn-numbers : (turn : Turn) (past : List Turn) → numbers_at p (acts_of (turn ∷ past)) ≡ listed_at p turn ++ numbers_at p (acts_of past)
+  turn-numbers turn past = moves-numbers (actor_of turn) (moves_of turn) (acts_of past) ∙ ap (λ ns. ns ++ numbers_at p (acts_of past)) (turn-listed turn)
+
   -- the numbers of a place are those that the turns have
   pub numbers-listed : (past : List Turn) → numbers_at p (acts_of past) ≡ flat_map (listed_at p) past
   numbers-listed [] = refl
-  numbers-listed (turn ∷ past) =
-      moves-numbers (actor_of turn) (moves_of turn) (acts_of past)
-      ∙ (ap (λ ns. ns ++ numbers_at p (acts_of past)) (turn-listed turn)
-      ∙ ap (λ ns. listed_at p turn ++ ns) (numbers-listed past))
+  numbers-listed (turn ∷ past) = turn-numbers turn past ∙ ap (λ ns. listed_at p turn ++ ns) (numbers-listed past)

@@ -2,10 +2,6 @@
 use Rattle.std.proofs.Common.{Bool, true, false, List, [], ◌∷◌, ◌++◌, if◌then◌else◌}
 use Rattle.std.specs.List.{AllByRecursion, filter}
 
-pub all-each : {X : Type 0} {P Q : X → Type 0} (xs : List X) → ((x : X) → P x → Q x) → AllByRecursion P xs → AllByRecursion Q xs
-all-each [] f all = tt
-all-each (x ∷ xs) f all = (f x all.0, all-each xs f all.1)
-
 pub all-filter : {X : Type 0} (P : X → Type 0) (p : X → Bool) (xs : List X) → AllByRecursion P xs → AllByRecursion P (filter p xs)
 all-filter P p [] all = tt
 all-filter {X} P p (x ∷ xs) all = by_test (p x) (all-filter P p xs all.1)

@@ -1,5 +1,5 @@
 -- Lots of a pool do not meet, and each number is drawn of one lot, once.
-use Rattle.std.proofs.Common.{◌≡◌, ℕ, ◌+◌, ◌-◌, ◌<◌, ◌≤◌, Bool, Some, List, [], ◌∷◌, length, map, arith}
+use Rattle.std.proofs.Common.{◌≡◌, ◌-◌, ◌<◌, ◌≤◌, Some, List, [], ◌∷◌, map, arith}
 use Rattle.std.specs.List.{AllByRecursion}
 use Rattle.keeper_book.specs.Book.{Book, pool_next}
 use Rattle.keeper_book.specs.declared.pools.Pool.{Pool}

@@ -14,18 +14,19 @@ use Rattle.keeper_book.specs.declared.counters.Counter.TheVariants as counter
 use Rattle.keeper_book.specs.declared.records.Record.{Record}
 use Rattle.replay_set.specs.Window.{judged}
 use Rattle.replay_set.specs.declared.judgement.Judgement.TheVariants as judgement
+use Rattle.turn_laws.proofs.Moved.{rest-listed}
 use Rattle.turn_laws.proofs.Deeds.{Asked, Deed, Ended, PeerUses, Rested, Rests, Used, Used_theirs, number_theirs_of, rest_of}
 use Rattle.turn_laws.proofs.Listed.{moved}
-use Rattle.turn_laws.proofs.Lists.{all-append, all-both, all-each}
+use Rattle.turn_laws.proofs.Lists.{all-append, all-both}
 use Rattle.turn_laws.proofs.Names.{begun-same}
 use Rattle.turn_laws.proofs.Outcomes.{idle-received, idle-theirs, rests-rest}
 use Rattle.turn_laws.proofs.Records.{deed-of}
-use Rattle.turn_laws.proofs.Safety.{begun-spir}
+use Rattle.turn_laws.proofs.Begun.{begun-spir}
 use Rattle.turn_laws.proofs.Same.{is_name-true, is_origin-same}
-use Rattle.turn_laws.proofs.Theirs.{no-packet, not-both, rest-listed, told_theirs-held, use-moved}
+use Rattle.turn_laws.proofs.Theirs.{no-packet, not-both, told_theirs-held}
 use Rattle.turn_laws.proofs.Told.{is_end-true}
 use Rattle.turn_laws.proofs.Unused.{fresh-unused, next-unused}
-use Rattle.turn_laws.proofs.Uses.{number_at}
+use Rattle.turn_laws.proofs.Uses.{number_at, spent_of, uses-moved}
 use Rattle.turn_laws.proofs.Well.{PeerMayUse}
 use Rattle.turn_laws.specs.Acts.{HoldsFor, begun_by, begun_theirs, holding_at}
 use Rattle.turn_laws.specs.Holdings.{End, Holding, IsNotIn}
@@ -34,7 +35,7 @@ use Rattle.turn_laws.specs.Names.{is_kind, is_name, is_origin}
 use Rattle.turn_laws.specs.PeerTurns.{begun_in, having_used, since_begun}
 use Rattle.turn_laws.specs.Places.{Theirs, place_of, start_of}
 use Rattle.turn_laws.specs.Turns.{acts_of}
-use Rattle.turn_rules.proofs.SlotTies.{first-has, records-slots_by}
+use Rattle.turn_rules.proofs.SlotTies.{all-weaker, first-has, records-slots_by}
 use Rattle.turn_rules.proofs.StateLaws.{associations-apart}
 use Rattle.turn_rules.specs.Draws.{child_of, counter_kind}
 use Rattle.turn_rules.specs.Ends.{Peer, is_by, own, performer}
@@ -66,7 +67,7 @@ SameBySpir a b = a.spir ≡ b.spir → a ≡ b
 distinct-same : (xs : List Record) → AreDistinct xs → AllByRecursion (λ a. AllByRecursion (SameBySpir a) xs) xs
 distinct-same [] apart = tt
 distinct-same (x ∷ xs) apart = (
-  ((λ same. refl), all-each xs (λ y differ same. absurd (differ.spir same)) apart.0),
+  ((λ same. refl), all-weaker xs (λ y differ same. absurd (differ.spir same)) apart.0),
   all-both xs (λ a differ rest. ((λ same. absurd (differ.spir (sym same))), rest)) apart.0 (distinct-same xs apart.1),
 )
 
@@ -123,7 +124,7 @@ module _ (past : List Turn) (turn : Turn) (c : Counter) (sa : Record) where
   used-both : (u : PeerUses past turn.event turn.calls turn.step) → SameBySpir u.slot.sa sa → TellsBoth c turn sa
   used-both u by_spir = record {
     numbers = sym (rest-listed (Theirs (peer_counter sa c)) turn)
-        ∙ (ap reverse (use-moved (Theirs (peer_counter sa c)) (Theirs (peer_counter u.slot.sa u.c)) u.number (rest_of turn.event turn.step) u.spends.uses_it)
+        ∙ (ap reverse (uses-moved (Theirs (peer_counter sa c)) (spent_of (Theirs (peer_counter u.slot.sa u.c)) u.number ∷ []) (rest_of turn.event turn.step) u.spends.uses_it)
         ∙ (reverse-option (number_at (Theirs (peer_counter sa c)) (Theirs (peer_counter u.slot.sa u.c)) u.number)
         ∙ ap option_to_list (ap (λ b. if b then Some u.number else None) (names-same sa u.slot.sa c u.c by_spir) ∙ sym (u.told sa.spir c))));
     named = λ n packet is accepted.
@@ -152,7 +153,7 @@ peer-both boxes past turn local deed by c = go deed
     go (Asked asks) = each (λ sa. idle-both past turn c sa asks.rests) (associations_by (own Peer past))
     go (Ended member by_it none said ends quiet) = not-both member (performer turn) by_it by
     go (Used u) = not-both u.member (performer turn) u.by_it by
-    go (Used_theirs u) = all-each (associations_by (own Peer past)) (λ sa. used-both past turn c sa u)
+    go (Used_theirs u) = all-weaker (associations_by (own Peer past)) (λ sa. used-both past turn c sa u)
         (first-has (λ a. AllByRecursion (SameBySpir a) (associations_by (own Peer past))) u.test (slots_by (window_by past) (own Peer past)) u.slot
         (subst (λ list. AllByRecursion (λ a. AllByRecursion (SameBySpir a) (associations_by (own Peer past))) list) (sym (records-slots_by (window_by past) (own Peer past))) (distinct-same (associations_by (own Peer past)) (associations-apart boxes past local)))
         u.is_first)

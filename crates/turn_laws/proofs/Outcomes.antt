@@ -1,5 +1,5 @@
 -- What a turn does beside its calls: nothing, or a member ends, or one number is used.
-use Rattle.std.proofs.Common.{◌≡◌, ℕ, ◌⊎◌, inl, inr, Option, None, Some, List, [], ◌∷◌, ⊎_elim, refl, ap}
+use Rattle.std.proofs.Common.{◌≡◌, ℕ, ◌⊎◌, inl, inr, Option, None, Some, List, [], ◌∷◌, ⊎_elim, refl, ap, map}
 use Rattle.events.specs.declared.event.Event.{Event}
 use Rattle.events.specs.declared.event.Event.TheVariants as event
 use Rattle.events.specs.declared.event.Party.TheVariants as parties
@@ -10,11 +10,10 @@ use Rattle.events.specs.declared.verdict.Verdict.TheVariants as out
 use Rattle.keeper_book.specs.declared.calls.Call.{Call}
 use Rattle.keeper_book.specs.declared.counters.Counter.{Counter}
 use Rattle.keeper_book.specs.declared.counters.Counter.TheVariants as counter
-use Rattle.turn_laws.proofs.Covers.{ready-calls}
-use Rattle.turn_laws.proofs.Deeds.{number_theirs, Asked, Deed, Ended, IsIdle, MemberUses, PeerUses, Rested, Rests, Used, Used_theirs, UsesIt, rest_of}
+use Rattle.turn_laws.proofs.Covers.{are_ready-calls}
+use Rattle.turn_laws.proofs.Deeds.{number_theirs, Asked, Deed, Ended, IsIdle, MemberUses, PeerUses, Rested, Rests, Used, Used_theirs, UsesIt, rest_of, spent_by}
 use Rattle.turn_laws.specs.Acts.{Ends}
 use Rattle.turn_laws.specs.Turns.{end_moves, number_taken, uses_of}
-use Rattle.turn_rules.specs.Draws.{reach_of}
 use Rattle.turn_rules.specs.Datagrams.{Delivery, delivery_of}
 use Rattle.turn_rules.specs.Held.{accepted, received, used, received_in}
 use Rattle.turn_rules.specs.Slots.{sent}
@@ -25,18 +24,16 @@ use Rattle.turn_rules.specs.Steps.{IsQuiet}
 pub data Outcome (past : List Turn) (event : Event) (calls : List Call) (step : Step) : Type 0 where
   Idle : Rests step → Outcome past event calls step
   Over : (member : ℕ) → step.verdict ≡ out.Down → ended_by event out.Down ≡ Some member → IsQuiet step → Outcome past event calls step
-  Ours_used : (u : MemberUses past event calls step) → UsesIt u.held.sa.spir u.c u.number event step → Outcome past event calls step
+  Ours_used : (u : MemberUses past event calls step) → UsesIt (map spent_by u.needs) event step → Outcome past event calls step
   Theirs_used : PeerUses past event calls step → Outcome past event calls step
 
 module _ (past : List Turn) (event : Event) (calls : List Call) (step : Step) where
-  used-outcome : (u : MemberUses past event calls step) → Rests step ⊎ UsesIt u.held.sa.spir u.c u.number event step
-  used-outcome u = ready-calls (λ calls. Rests step ⊎ UsesIt u.held.sa.spir u.c u.number event step) (reach_of u.held u.c) u.number
-      (λ why rest. (rest ≡ []) × Rests step)
-      (λ high rest. (rest ≡ []) × UsesIt u.held.sa.spir u.c u.number event step)
-      (λ call rest asked is. is)
-      (λ why rest s. inl s.1)
-      (λ high rest s. inr s.1)
-      calls u.ready
+  used-outcome : (u : MemberUses past event calls step) → Rests step ⊎ UsesIt (map spent_by u.needs) event step
+  used-outcome u = are_ready-calls (λ calls. Rests step ⊎ UsesIt (map spent_by u.needs) event step) (Rests step) (UsesIt (map spent_by u.needs) event step)
+      (λ call rest cover is. is)
+      (λ rest last. inl last.is)
+      (λ rest last. inr last.is)
+      u.needs calls u.ready
 
   pub outcome-of : Deed past event calls step → Outcome past event calls step
   outcome-of (Rested none rests no_entry) = Idle rests
@@ -49,7 +46,7 @@ module _ (past : List Turn) (event : Event) (calls : List Call) (step : Step) wh
   pub outcome-served : Outcome past event calls step → step.served ≡ None
   outcome-served (Idle rests) = rests.quiet.served
   outcome-served (Over member said ends quiet) = quiet.served
-  outcome-served (Ours_used u it) = it.spends.served
+  outcome-served (Ours_used u it) = it.served
   outcome-served (Theirs_used u) = u.spends.served
 
 -- a verdict that uses nothing, and ends no member

@@ -1,10 +1,13 @@
 -- A range that is leased keeps the numbers of its pool apart, whether or not its caller saw it.
 use Rattle.std.proofs.Common.{◌≡◌, ℕ, ◌+◌, ◌-◌, ◌<◌, ◌≤◌, Bool, true, false, Option, Some, None, List, [], ◌∷◌, ◌++◌, length, refl, ap, sym, ◌∙◌, subst, arith, if◌then◌else◌}
-use Rattle.keeper_book.specs.Book.{Book, Entry, book_entered, pool_next, with_pool_next}
-use Rattle.keeper_book.specs.Pools.{pool_end}
+use Rattle.std.specs.Prelude.{nat_lt}
+use Rattle.keeper_book.specs.Book.{Book, Entry, book_entered, lease_refusal, pool_next, when, with_pool_next}
+use Rattle.keeper_book.specs.Pools.{pool_end, pool_number}
 use Rattle.keeper_book.specs.declared.calls.KeeperAsk.{KeeperAsk}
 use Rattle.keeper_book.specs.declared.calls.KeeperAsk.TheVariants as ask
+use Rattle.keeper_book.specs.declared.faults.KeeperFault.TheVariants as fault
 use Rattle.keeper_book.specs.declared.pools.Pool.{Pool}
+use Rattle.keeper_book.specs.declared.pools.PoolNumbers.{PoolNumbers}
 use Rattle.keeper_book.specs.declared.pools.Pool.TheVariants as pools
 use Rattle.turn_laws.proofs.Columns.{goes_on-epoch, goes_on-higher, goes_on-refl, length-append_one, mark-high, mark-with_epoch, with_epoch}
 use Rattle.turn_laws.proofs.Holdings.{Keeps}
@@ -138,6 +141,14 @@ module _ (held : Actor → Option Holding) (w : Actor) (begun : Column) (old new
       by_test true t =
           subst (λ r. IsRising (column (Pooled r) begun old) → Keeps (Begins w (lot_begun (length begun.bases) pool first count)) held (column (Pooled r) begun old) (column (Pooled r) (column_begun (lot_begun (length begun.bases) pool first count) begun) new)) (is_pool-true pool q t) lot-begins rising
       by_test false t = goes-higher q rising (no-lower q)
+
+-- a lease that is granted has its range in the pool
+pub shows-leased : (pool : Pool) (count : ℕ) (next : PoolNumbers) → lease_refusal pool count next ≡ None → pool_number pool next + count ≤ pool_end pool
+shows-leased pool count next none = by_test (nat_lt (pool_end pool) (pool_number pool next + count)) refl none
+  where
+    by_test : (b : Bool) → nat_lt (pool_end pool) (pool_number pool next + count) ≡ b → when b (fault.Full (pool_end pool)) None ≡ None → pool_number pool next + count ≤ pool_end pool
+    by_test true t none = absurd (cc)
+    by_test false t none = omega (arith, t)
 
 -- a lease gets no pool beyond its end
 pub lease-within : (old new : Book) (pool : Pool) (first count : ℕ) → first + count ≤ pool_end pool → new ≡ with_pool_next pool (first + count) old → (q : Pool) → pool_next q old ≤ pool_end q → pool_next q new ≤ pool_end q

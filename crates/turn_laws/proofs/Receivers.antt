@@ -22,11 +22,12 @@ use Rattle.turn_laws.proofs.All.{lawful-run}
 use Rattle.turn_laws.proofs.BookRecords.{IsNow, IsRecordOf, Was, entered-is, record_after, record_in, record_of, records-after, records-kept}
 use Rattle.turn_laws.proofs.Books.{ShowsTaken, answers-entry, shows-taken}
 use Rattle.turn_laws.proofs.Called.{HoldOfCalls, IfCall, calls-hold}
-use Rattle.turn_laws.proofs.Lists.{all-each, all-filter}
+use Rattle.turn_laws.proofs.Lists.{all-filter}
+use Rattle.turn_rules.proofs.SlotTies.{all-weaker}
 use Rattle.turn_laws.proofs.Records.{found-holds}
 use Rattle.turn_laws.proofs.Pools.{lease-entries}
 use Rattle.turn_laws.specs.Acts.{Act, Calls, Ends, Leaps, Leases, Move, Opens, Seals, Starts, Uses}
-use Rattle.turn_laws.specs.Owned.{Lawful, Writes}
+use Rattle.turn_laws.specs.Owned.{Lawful, WritesBook}
 use Rattle.turn_laws.specs.Turns.{acts_of}
 use Rattle.turn_rules.specs.Ends.{Member, is_by, own}
 use Rattle.turn_rules.specs.Held.{Held, first_some, found, grant_of, granted, held_by, holding, window_by}
@@ -142,7 +143,7 @@ lawful-recorded [] book is = record { apart = subst (λ (b : Book). AreApart (re
 lawful-recorded (act ∷ acts) book lawful = by_move act.move refl lawful.3 (lawful-recorded acts lawful.0 lawful.1)
   where
     kept : ((spir : ℕ) (r : Record) → record_of lawful.0 spir ≡ Some r → record_of book spir ≡ Some r) → HoldOfCalls (IsInBook lawful.0) acts → HoldOfCalls (IsInBook book) acts
-    kept keeps grants = all-each acts (λ act holds. by_act act.move holds) grants
+    kept keeps grants = all-weaker acts (λ act holds. by_act act.move holds) grants
       where
         by_act : (move : Move) → IfCall (IsInBook lawful.0) move → IfCall (IsInBook book) move
         by_act (Calls call) has = λ spir taken is. keeps spir taken.sa (has spir taken is)
@@ -160,9 +161,9 @@ lawful-recorded (act ∷ acts) book lawful = by_move act.move refl lawful.3 (law
       grants = (subst (λ move. IfCall (IsInBook book) move) (sym is) one, kept (λ spir r has. same spir ∙ has) before.grants);
     }
 
-    by_move : (move : Move) → act.move ≡ move → Writes lawful.0 act.move book → Recorded acts lawful.0 → Recorded (act ∷ acts) book
+    by_move : (move : Move) → act.move ≡ move → WritesBook lawful.0 act.move book → Recorded acts lawful.0 → Recorded (act ∷ acts) book
     by_move (Calls call) is writes before =
-        let enters : Enters lawful.0 call book = subst (λ move. Writes lawful.0 move book) is writes in
+        let enters : Enters lawful.0 call book = subst (λ move. WritesBook lawful.0 move book) is writes in
         record {
           apart = records-apart lawful.0 book call.asked call.answer enters before.apart;
           grants = (
@@ -170,15 +171,15 @@ lawful-recorded (act ∷ acts) book lawful = by_move act.move refl lawful.3 (law
             kept (records-kept lawful.0 book call.asked call.answer enters) before.grants,
           );
         }
-    by_move (Uses q n) is writes before = still (Uses q n) is tt (λ spir. ap (λ (b : Book). record_of b spir) (subst (λ move. Writes lawful.0 move book) is writes)) before
-    by_move (Seals key) is writes before = still (Seals key) is tt (λ spir. ap (λ (b : Book). record_of b spir) (subst (λ move. Writes lawful.0 move book) is writes)) before
+    by_move (Uses q n) is writes before = still (Uses q n) is tt (λ spir. ap (λ (b : Book). record_of b spir) (subst (λ move. WritesBook lawful.0 move book) is writes)) before
+    by_move (Seals key) is writes before = still (Seals key) is tt (λ spir. ap (λ (b : Book). record_of b spir) (subst (λ move. WritesBook lawful.0 move book) is writes)) before
     by_move (Leases pool first count seen) is writes before =
-        let leases : Writes lawful.0 (Leases pool first count seen) book = subst (λ move. Writes lawful.0 move book) is writes in
+        let leases : WritesBook lawful.0 (Leases pool first count seen) book = subst (λ move. WritesBook lawful.0 move book) is writes in
         still (Leases pool first count seen) is tt (λ spir. ap (λ es. record_in (entry_of spir es)) (ap (λ (b : Book). b.entries) leases.1 ∙ lease-entries pool (first + count) lawful.0)) before
-    by_move (Leaps q n) is writes before = still (Leaps q n) is tt (λ spir. ap (λ (b : Book). record_of b spir) (subst (λ move. Writes lawful.0 move book) is writes)) before
-    by_move (Opens sa) is writes before = still (Opens sa) is tt (λ spir. ap (λ (b : Book). record_of b spir) (subst (λ move. Writes lawful.0 move book) is writes)) before
-    by_move (Starts sa) is writes before = still (Starts sa) is tt (λ spir. ap (λ (b : Book). record_of b spir) (subst (λ move. Writes lawful.0 move book) is writes)) before
-    by_move Ends is writes before = still Ends is tt (λ spir. ap (λ (b : Book). record_of b spir) (subst (λ move. Writes lawful.0 move book) is writes)) before
+    by_move (Leaps q n) is writes before = still (Leaps q n) is tt (λ spir. ap (λ (b : Book). record_of b spir) (subst (λ move. WritesBook lawful.0 move book) is writes)) before
+    by_move (Opens sa) is writes before = still (Opens sa) is tt (λ spir. ap (λ (b : Book). record_of b spir) (subst (λ move. WritesBook lawful.0 move book) is writes)) before
+    by_move (Starts sa) is writes before = still (Starts sa) is tt (λ spir. ap (λ (b : Book). record_of b spir) (subst (λ move. WritesBook lawful.0 move book) is writes)) before
+    by_move Ends is writes before = still Ends is tt (λ spir. ap (λ (b : Book). record_of b spir) (subst (λ move. WritesBook lawful.0 move book) is writes)) before
 
 module _ (boxes : ℕ) (past : List Turn) (book : Book) (local : Explained boxes past) (stands : Stands past book) where
   recorded : Recorded (acts_of past) book
@@ -187,7 +188,7 @@ module _ (boxes : ℕ) (past : List Turn) (book : Book) (local : Explained boxes
   -- what a member holds is a record of the book
   grant-recorded : (member spir : ℕ) (taken : Taken) → found (grant_of spir) (own (Member member) past) ≡ Some taken → record_of book spir ≡ Some taken.sa
   grant-recorded member spir taken is = found-holds (λ (t : Taken). record_of book spir ≡ Some t.sa) (grant_of spir) (own (Member member) past) taken
-      (all-each (own (Member member) past) (λ turn calls z e. found-holds (λ (t : Taken). record_of book spir ≡ Some t.sa) (λ call. granted spir call.asked (seen call)) turn.calls z (all-each turn.calls (λ call has w g. has spir w g) calls) e)
+      (all-weaker (own (Member member) past) (λ turn calls z e. found-holds (λ (t : Taken). record_of book spir ≡ Some t.sa) (λ call. granted spir call.asked (seen call)) turn.calls z (all-weaker turn.calls (λ call has w g. has spir w g) calls) e)
       (all-filter (λ (turn : Turn). AllByRecursion (IsInBook book) turn.calls) (is_by (Member member)) past (calls-hold (IsInBook book) past recorded.grants))) is
 
   held-recorded : (member spir : ℕ) (held : Held) → held_by (window_by past) (own (Member member) past) spir ≡ Some held → record_of book spir ≡ Some held.sa

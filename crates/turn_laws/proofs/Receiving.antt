@@ -23,11 +23,13 @@ use Rattle.keeper_book.specs.declared.calls.Call.{Call}
 use Rattle.keeper_book.specs.declared.counters.Counter.{Counter}
 use Rattle.keeper_book.specs.declared.counters.Counter.TheVariants as counter
 use Rattle.keeper_book.specs.declared.records.Record.{Record}
+use Rattle.turn_laws.specs.Acts.{Uses}
 use Rattle.turn_laws.proofs.Covers.{ready-as, ready-calls}
-use Rattle.turn_laws.proofs.Deeds.{number_theirs, Deed, IsIdle, Rested, Rests, Spends, Used, Used_theirs, UsesIt}
+use Rattle.turn_laws.proofs.Single.{one-used}
+use Rattle.turn_laws.proofs.Deeds.{number_theirs, Deed, IsIdle, Rested, Rests, Spends, Used_theirs, UsesOne, rest_of}
 use Rattle.turn_laws.proofs.Members.{member-performs, own-held, stop-of_member}
 use Rattle.turn_laws.proofs.Names.{number-failed, number-passed, place-ours}
-use Rattle.turn_laws.proofs.Uses.{Counts, number_at}
+use Rattle.turn_laws.proofs.Uses.{Counts, number_at, used-alone}
 use Rattle.turn_laws.specs.Places.{Ours, Place, Theirs, place_of}
 use Rattle.turn_laws.specs.Turns.{number_taken}
 use Rattle.turn_rules.specs.Deliveries.{PeerTakes}
@@ -75,7 +77,7 @@ accepts name packet answer after verdict is worded =
 accepts-spends : (event : Event) (name : CounterName) (place : Place) (n : ℕ) (step : Step) → place_of name ≡ place → IsQuiet step → Accepts name n step.verdict → Spends place n event step
 accepts-spends event name place n step named quiet a = record {
   served = quiet.served;
-  uses_it = Counts (let said : _ = a.said in let none : _ = quiet.seals in rw (said, none, named));
+  uses_it = used-alone place n (Uses place n) (rest_of event step) (Counts refl) (let said : _ = a.said in let none : _ = quiet.seals in rw (said, none, named));
   of_packet = λ packet is. of_packet packet (same_Some (record { name = name; number = n }) packet (ap accepted_as (sym a.said) ∙ is));
 }
   where
@@ -128,14 +130,14 @@ module _ (boxes : ℕ) (past : List Turn) (own_spir : (member spir : ℕ) (held 
         (λ high rest s. ap is_refused_by_run (took s.1).said)
         calls takes
 
-    take-uses : answer ≡ esp.Accepted (counter_name held.sa counter.EspIn) packet → UsesIt held.sa.spir counter.EspIn packet.number event step
+    take-uses : answer ≡ esp.Accepted (counter_name held.sa counter.EspIn) packet → UsesOne held.sa.spir counter.EspIn packet.number event step
     take-uses is = record {
       spends = accepts-spends event (counter_name held.sa counter.EspIn) (Ours held.sa.spir counter.EspIn) packet.number step (place-ours held.sa counter.EspIn) quiet (took is);
       told = accepted-told event (parties.Member member) brings held.sa packet.number step.verdict (took is);
     }
 
     takes-deed : (octets : List ℕ) → OpensEsp (inbound_of held) octets (Ok packet) after → TakesPacket held (Ok packet) calls answer → Deed past event calls step
-    takes-deed octets opens takes = Used (record {
+    takes-deed octets opens takes = one-used (record {
       member = member;
       held = held;
       c = counter.EspIn;
@@ -143,7 +145,7 @@ module _ (boxes : ℕ) (past : List Turn) (own_spir : (member spir : ℕ) (held 
       by_it = member-performs event step.verdict member (brings.performs step.verdict) (take-not_run takes);
       is_held = is_held;
       is_open = opens.1.fresh;
-      ready = ready-as (reach_of held counter.EspIn) packet.number Stopped (λ why rest. (rest ≡ []) × Rests step) Took (λ high rest. (rest ≡ []) × UsesIt held.sa.spir counter.EspIn packet.number event step)
+      ready = ready-as (reach_of held counter.EspIn) packet.number Stopped (λ why rest. (rest ≡ []) × Rests step) Took (λ high rest. (rest ≡ []) × UsesOne held.sa.spir counter.EspIn packet.number event step)
           (λ why rest s. (s.0, record { idle = subst (λ v. IsIdle v) (sym (refused why s.1)) tt; quiet = quiet }))
           (λ high rest s. (s.0, take-uses s.1))
           calls takes;

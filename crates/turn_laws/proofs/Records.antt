@@ -1,5 +1,5 @@
 -- What members hold are records of the associations that they asked for, and each turn is a deed.
-use Rattle.std.proofs.Common.{◌≡◌, ℕ, Bool, Option, Some, None, List, [], ◌∷◌, refl, sym, ◌∙◌, subst}
+use Rattle.std.proofs.Common.{◌≡◌, ℕ, Bool, Option, Some, None, List, [], ◌∷◌, refl, sym, ◌∙◌, subst, map}
 use Rattle.std.proofs.lemmas.Option.{same_Some}
 use Rattle.std.specs.List.{AllByRecursion, filter}
 use Rattle.std.specs.Option.{option_map}
@@ -9,12 +9,12 @@ use Rattle.events.specs.declared.turn.Turn.{Turn}
 use Rattle.keeper_book.specs.Told.{seen}
 use Rattle.keeper_book.specs.declared.calls.Call.{Call}
 use Rattle.keeper_book.specs.declared.records.Taken.{Taken}
-use Rattle.turn_laws.proofs.Covers.{ready-calls}
-use Rattle.turn_laws.proofs.Deeds.{Asked, Deed, Ended, HasItsRecord, MemberUses, Rested, Rests, Used, Used_theirs, UsesIt}
+use Rattle.turn_laws.proofs.Covers.{are_ready-calls}
+use Rattle.turn_laws.proofs.Deeds.{Asked, Deed, Ended, HasItsRecord, MemberUses, Rested, Rests, Used, Used_theirs, UsesIt, spent_by}
 use Rattle.turn_laws.proofs.Explained.{fits-deed}
-use Rattle.turn_laws.proofs.Lists.{all-each, all-filter}
+use Rattle.turn_laws.proofs.Lists.{all-filter}
+use Rattle.turn_rules.proofs.SlotTies.{all-weaker}
 use Rattle.turn_rules.proofs.StateLaws.{does-told}
-use Rattle.turn_rules.specs.Draws.{reach_of}
 use Rattle.turn_rules.specs.Ends.{Member, is_by, own}
 use Rattle.turn_rules.specs.Held.{Held, first_some, found, grant_of, granted, held_by, holding, window_by}
 use Rattle.turn_rules.specs.Local.{IsByRule, Explained}
@@ -34,7 +34,7 @@ found-holds {X} {Y} P f (x ∷ xs) y all is = go (found-holds P f xs y all.1) (f
 -- the record of what was granted last, in some of the turns
 granted-spir : (test : Turn → Bool) (past : List Turn) → HaveTheirRecords past → (spir : ℕ) (taken : Taken) → found (grant_of spir) (filter test past) ≡ Some taken → taken.sa.spir ≡ spir
 granted-spir test past records spir taken is = found-holds (λ t. t.sa.spir ≡ spir) (grant_of spir) (filter test past) taken
-    (all-each (filter test past) (λ turn calls z e. found-holds (λ t. t.sa.spir ≡ spir) (λ call. granted spir call.asked (seen call)) turn.calls z (all-each turn.calls (λ call has w g. has spir w g) calls) e)
+    (all-weaker (filter test past) (λ turn calls z e. found-holds (λ t. t.sa.spir ≡ spir) (λ call. granted spir call.asked (seen call)) turn.calls z (all-weaker turn.calls (λ call has w g. has spir w g) calls) e)
     (all-filter (λ (turn : Turn). AllByRecursion HasItsRecord turn.calls) test past records)) is
 
 -- what a member holds of an association is the association's
@@ -47,13 +47,11 @@ own-spir size past records member spir held = go (found (grant_of spir) (own (Me
 
 module _ (past : List Turn) (event : Event) (step : Step) where
   covers-records : (calls : List Call) → MemberUses past event calls step → AllByRecursion HasItsRecord calls
-  covers-records calls u = ready-calls (AllByRecursion HasItsRecord) (reach_of u.held u.c) u.number
-      (λ why rest. (rest ≡ []) × Rests step)
-      (λ high rest. (rest ≡ []) × UsesIt u.held.sa.spir u.c u.number event step)
-      (λ call rest asked more. ((λ spir taken is. absurd (let none : granted spir call.asked (seen call) ≡ None = rw asked refl in cc)), more))
-      (λ why rest s. subst (λ calls. AllByRecursion HasItsRecord calls) (sym s.0) tt)
-      (λ high rest s. subst (λ calls. AllByRecursion HasItsRecord calls) (sym s.0) tt)
-      calls u.ready
+  covers-records calls u = are_ready-calls (AllByRecursion HasItsRecord) (Rests step) (UsesIt (map spent_by u.needs) event step)
+      (λ call rest cover more. ((λ spir taken is. absurd (let none : granted spir call.asked (seen call) ≡ None = (let asked : _ = cover.asked in rw asked refl) in cc)), more))
+      (λ rest last. subst (λ calls. AllByRecursion HasItsRecord calls) (sym last.ended) tt)
+      (λ rest last. subst (λ calls. AllByRecursion HasItsRecord calls) (sym last.ended) tt)
+      u.needs calls u.ready
 
   deed-records : (calls : List Call) → Deed past event calls step → AllByRecursion HasItsRecord calls
   deed-records calls (Rested none rests no_entry) = subst (λ calls. AllByRecursion HasItsRecord calls) (sym none) tt

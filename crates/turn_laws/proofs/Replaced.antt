@@ -21,7 +21,7 @@ use Rattle.turn_laws.proofs.Called.{HoldOfCalls, IfCall, calls-hold}
 use Rattle.turn_laws.proofs.Safety.{owned-lawful}
 use Rattle.turn_laws.specs.Acts.{Act, Calls, Ends, Leaps, Leases, MayAsk, MayCover, MayDo, Move, Opens, Seals, Starts, Uses, begun_at, column_at, holding_at}
 use Rattle.turn_laws.specs.Holdings.{Actor, Holding}
-use Rattle.turn_laws.specs.Owned.{Lawful, Owned, Writes}
+use Rattle.turn_laws.specs.Owned.{Lawful, Owned, WritesBook}
 use Rattle.turn_laws.specs.Places.{Ours, column_ours}
 use Rattle.turn_laws.specs.Replaced.{AreReplacedLater, IsReplacedLater}
 use Rattle.turn_laws.specs.Turns.{acts_of}
@@ -88,7 +88,7 @@ lawful-later : (acts : List Act) (book : Book) → Lawful acts book → HoldOfCa
 lawful-later [] book lawful = tt
 lawful-later (act ∷ acts) book lawful = (by_move act.move lawful.2 lawful.3, lawful-later acts lawful.0 lawful.1)
   where
-    by_move : (move : Move) → MayDo acts act.by move → Writes lawful.0 move book → IfCall IsLater move
+    by_move : (move : Move) → MayDo acts act.by move → WritesBook lawful.0 move book → IfCall IsLater move
     by_move (Calls call) may writes = answered-later acts act.by lawful.0 book (owned-lawful acts lawful.0 lawful.1) call.asked call.answer may writes
     by_move (Uses q n) may writes = tt
     by_move (Seals key) may writes = tt

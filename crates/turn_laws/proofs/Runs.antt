@@ -1,5 +1,5 @@
 -- What the moves of one end do to what it holds, and that they leave what others hold.
-use Rattle.std.proofs.Common.{◌≡◌, ◌≢◌, ℕ, ◌≤◌, max, Bool, true, false, Option, Some, None, List, [], ◌∷◌, ◌++◌, length, map, ⊎_elim, refl, ap, sym, ◌∙◌, subst, arith, if◌then◌else◌}
+use Rattle.std.proofs.Common.{◌≡◌, ◌≢◌, ℕ, ◌≤◌, max, Bool, true, false, Option, Some, None, List, [], ◌∷◌, ◌++◌, map, ⊎_elim, refl, ap, sym, ◌∙◌, subst, arith, if◌then◌else◌}
 use Rattle.std.proofs.lemmas.Bool.Decides.{eqb_tells}
 use Rattle.std.specs.List.{AllByRecursion, cons_option}
 use Rattle.std.specs.Option.{option_map}
@@ -7,8 +7,6 @@ use Rattle.keeper_book.specs.Book.{Book, EntersAll}
 use Rattle.keeper_book.specs.Told.{seen}
 use Rattle.keeper_book.specs.declared.calls.Call.{Call}
 use Rattle.keeper_book.specs.declared.counters.Counter.{Counter}
-use Rattle.keeper_book.specs.declared.pools.Pool.{Pool}
-use Rattle.keeper_book.specs.declared.pools.Pool.TheVariants as pools
 use Rattle.keeper_book.specs.declared.records.Record.{Record}
 use Rattle.keeper_book.specs.declared.records.Taken.{Taken}
 use Rattle.turn_laws.proofs.Acting.{MayDoMoves, moves_onto}
@@ -16,10 +14,11 @@ use Rattle.turn_laws.proofs.Holdings.{differ, is_actor-same}
 use Rattle.turn_laws.specs.Acts.{Act, Calls, Ends, IsNotBy, Leaps, Leases, Move, Opens, Seals, Spares, Starts, Uses, act_by, acts_onto, begun_at, begun_by, begun_leased, begun_open, begun_started, effect_begun, effect_of, effect_of_call, effect_of_open, effect_of_use, effect_ours, entered_as, holding_at, holding_begun}
 use Rattle.turn_laws.specs.Columns.{Column}
 use Rattle.turn_laws.specs.Holdings.{Actor, Begins, Draws, Effect, End, Half, Holding, Jumps, Nothing, Passes, Rises, Run, holding_after, is_actor, raised_to}
-use Rattle.turn_laws.specs.Owned.{Lawful, Writes}
+use Rattle.turn_laws.specs.Owned.{Lawful, WritesBook}
 use Rattle.turn_laws.specs.Places.{Ours, Place, Pooled, Theirs, is_place, place_of}
 use Rattle.turn_rules.specs.Ends.{Member, Peer, Performer, is_performer}
 use Rattle.turn_rules.specs.Held.{covered, covers_in, first_some, grant_in, granted, greatest}
+use Rattle.keeper_book.specs.declared.pools.Pool.TheVariants as pools
 
 -- an effect changes what one end holds
 abbrev IsBy : Actor → Effect → Type 0
@@ -131,7 +130,7 @@ lawful-calls w (call ∷ calls) acts old new lawful enters may =
 
 -- a move that is no call leaves the book
 abbrev pub LeavesBook : Move → Type 0
-LeavesBook move = (book : Book) → Writes book move book
+LeavesBook move = (book : Book) → WritesBook book move book
 
 pub lawful-quiet : (w : Actor) (moves : List Move) (acts : List Act) (book : Book) → AllByRecursion LeavesBook moves → Lawful acts book → MayDoMoves acts w moves → Lawful (moves_onto w moves acts) book
 lawful-quiet w [] acts book leaves lawful may = lawful

@@ -6,7 +6,7 @@ use Rattle.events.specs.declared.turn.Served.{Served}
 use Rattle.events.specs.declared.turn.Turn.{Turn}
 use Rattle.keeper_book.specs.Book.{Book}
 use Rattle.turn_laws.proofs.Accepted.{packets-once}
-use Rattle.turn_laws.proofs.Lists.{all-each}
+use Rattle.turn_rules.proofs.SlotTies.{all-weaker}
 use Rattle.turn_laws.proofs.Outcomes.{outcome-of, outcome-served}
 use Rattle.turn_laws.proofs.Records.{deed-of}
 use Rattle.turn_laws.proofs.Sealed.{no-nonce-reuse}
@@ -34,5 +34,5 @@ safe-run boxes past book local stands accepted = record {
   packets_once = packets-once boxes past book local stands;
   genuine_accepted = accepted;
   requests_once = rw (none_taken past) tt;
-  served_once = all-each past takes-where_served (none-served boxes past local);
+  served_once = all-weaker past takes-where_served (none-served boxes past local);
 }

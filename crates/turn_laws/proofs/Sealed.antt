@@ -1,5 +1,5 @@
 -- No key and IV seals twice: an IV is a number of the key's counter.
-use Rattle.std.proofs.Common.{◌≡◌, ◌≢◌, ℕ, true, Option, Some, None, MatchOption, List, [], ◌∷◌, ◌++◌, map, refl, ap, sym, ◌∙◌, subst, append_assoc, append-nil, if◌then◌else◌}
+use Rattle.std.proofs.Common.{◌≡◌, ◌≢◌, ℕ, true, Option, List, [], ◌∷◌, ◌++◌, map, refl, ap, sym, ◌∙◌, subst, append_assoc, append-nil, if◌then◌else◌}
 use Rattle.std.specs.List.{AllByRecursion}
 use Rattle.events.specs.declared.seals.Seal.{Seal}
 use Rattle.events.specs.declared.turn.Turn.{Turn}
@@ -7,10 +7,11 @@ use Rattle.keeper_book.specs.Book.{Book}
 use Rattle.keeper_book.specs.declared.calls.Call.{Call}
 use Rattle.turn_laws.proofs.Acting.{moves_onto}
 use Rattle.turn_laws.proofs.All.{lawful-run}
-use Rattle.turn_laws.proofs.Lists.{all-each}
+use Rattle.turn_rules.proofs.SlotTies.{all-weaker}
 use Rattle.turn_laws.proofs.Moves.{IsUseOrEnd, are-uses}
 use Rattle.turn_laws.proofs.Names.{is_place-same}
-use Rattle.turn_laws.proofs.Safety.{fewer-used, owned-lawful}
+use Rattle.turn_laws.proofs.Begun.{fewer-used}
+use Rattle.turn_laws.proofs.Safety.{owned-lawful}
 use Rattle.turn_laws.specs.Acts.{Act, Calls, Ends, Leaps, Leases, Move, Opens, Seals, Starts, Uses, act_by, begun_at, effect_of, effect_of_use, holding_at, numbers_at, uses_at}
 use Rattle.turn_laws.specs.Holdings.{Actor, Draws, Holding, IsNotIn, Nothing, Use, uses_after}
 use Rattle.turn_laws.specs.Owned.{Lawful, Owned}
@@ -69,7 +70,7 @@ sealed-once (act ∷ acts) book lawful = by_move act.move refl (sealed-once acts
           let effect : effect_of p (begun_at p acts) act.by act.move ≡ Draws act.by key.iv = ap (effect_of p (begun_at p acts) act.by) is ∙ ap (λ b. if b then Draws act.by key.iv else Nothing) here in
           let once : IsEachOnce (map (λ u. u.number) (uses_after (Draws act.by key.iv) (holding_at p acts) (uses_at p acts))) =
           subst (λ x. IsEachOnce (map (λ u. u.number) (uses_after x (holding_at p acts) (uses_at p acts)))) effect (owned.numbers p).once in
-          all-each (sealed_in acts)
+          all-weaker (sealed_in acts)
           (λ y other same. other (ap (λ (k : KeyIv). place_of k.name) same) (ap (λ (k : KeyIv). k.iv) same))
           (not-sealed p key.iv acts once.0)),
       rest,

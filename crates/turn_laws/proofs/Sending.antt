@@ -16,11 +16,13 @@ use Rattle.keeper_book.specs.Counters.{five_at}
 use Rattle.keeper_book.specs.declared.calls.Call.{Call}
 use Rattle.keeper_book.specs.declared.counters.Counter.{Counter}
 use Rattle.keeper_book.specs.declared.counters.Counter.TheVariants as counter
+use Rattle.turn_laws.specs.Acts.{Seals}
 use Rattle.turn_laws.proofs.Covers.{ready-as, ready-calls}
-use Rattle.turn_laws.proofs.Deeds.{number_theirs, Deed, Rested, Rests, Spends, Used, Used_theirs, UsesIt, says-rests}
+use Rattle.turn_laws.proofs.Single.{one-used}
+use Rattle.turn_laws.proofs.Deeds.{number_theirs, Deed, Rested, Rests, Spends, Used_theirs, UsesOne, says-rests, rest_of}
 use Rattle.turn_laws.proofs.Members.{member-performs, stop-of_member}
 use Rattle.turn_laws.proofs.Names.{number-failed, number-passed, place-ours}
-use Rattle.turn_laws.proofs.Uses.{Seals_it, number_at}
+use Rattle.turn_laws.proofs.Uses.{Seals_it, number_at, used-alone}
 use Rattle.turn_laws.specs.Places.{Ours, Place, Theirs, place_of}
 use Rattle.turn_laws.specs.Turns.{key_iv, number_taken}
 use Rattle.turn_rules.proofs.SlotTies.{first-passes}
@@ -43,7 +45,7 @@ sent-ends event n = refl
 sends-spends : (event : Event) (outbound : Outbound) (place : Place) (n : ℕ) (payload : List ℕ) (step : Step) → place_of outbound.key.name ≡ place → SendsEsp outbound n payload step → Spends place n event step
 sends-spends event outbound place n payload step named sends = record {
   served = sends.served;
-  uses_it = Seals_it (key_iv sends.seal) (ap place_of sends.named ∙ named) sends.iv (let said : _ = sends.said in let seals : _ = sends.seals in let none : _ = sent-ends event n in rw (said, seals, none));
+  uses_it = used-alone place n (Seals (key_iv sends.seal)) (rest_of event step) (Seals_it (key_iv sends.seal) (ap place_of sends.named ∙ named) sends.iv refl) (let said : _ = sends.said in let seals : _ = sends.seals in let none : _ = sent-ends event n in rw (said, seals, none));
   of_packet = λ packet is. absurd (no_packet packet (ap accepted_as (sym sends.said) ∙ is));
 }
   where
@@ -90,7 +92,7 @@ module _ (past : List Turn) (step : Step) (member spir : ℕ) (payload : WithRoo
       (λ high rest s. let said : _ = s.1.said in rw said refl)
       calls sends
 
-  send-uses : SendsEsp (outbound_of held) next payload.octets step → UsesIt held.sa.spir counter.EspOut next (event.Send (parties.Member member) spir payload) step
+  send-uses : SendsEsp (outbound_of held) next payload.octets step → UsesOne held.sa.spir counter.EspOut next (event.Send (parties.Member member) spir payload) step
   send-uses s = record {
     spends = sends-spends (event.Send (parties.Member member) spir payload) (outbound_of held) (Ours held.sa.spir counter.EspOut) next payload.octets step (place-ours held.sa counter.EspOut) s;
     told = λ other d.
@@ -100,7 +102,7 @@ module _ (past : List Turn) (step : Step) (member spir : ℕ) (payload : WithRoo
   }
 
   pub sends-deed : Deed past (event.Send (parties.Member member) spir payload) calls step
-  sends-deed = Used (record {
+  sends-deed = one-used (record {
     member = member;
     held = held;
     c = counter.EspOut;
@@ -108,7 +110,7 @@ module _ (past : List Turn) (step : Step) (member spir : ℕ) (payload : WithRoo
     by_it = member-performs (event.Send (parties.Member member) spir payload) step.verdict member refl send-not_run;
     is_held = subst (λ n. held_by (window_by past) (own (Member member) past) n ≡ Some held) (sym own_spir) is_held;
     is_open = refl;
-    ready = ready-as (reach_of held counter.EspOut) next Stopped (λ why rest. (rest ≡ []) × Rests step) Sent (λ high rest. (rest ≡ []) × UsesIt held.sa.spir counter.EspOut next (event.Send (parties.Member member) spir payload) step)
+    ready = ready-as (reach_of held counter.EspOut) next Stopped (λ why rest. (rest ≡ []) × Rests step) Sent (λ high rest. (rest ≡ []) × UsesOne held.sa.spir counter.EspOut next (event.Send (parties.Member member) spir payload) step)
         (λ why rest s. (s.0, says-rests step (out.Refused (refusal_of_stop why)) tt s.1))
         (λ high rest s. (s.0, send-uses s.1))
         calls sends;

@@ -1,38 +1,37 @@
 -- What an end's own turns say that it holds of a counter is what the acts of all turns make of it.
-use Rattle.std.proofs.Common.{◌≡◌, ◌≢◌, ℕ, ◌+◌, ◌⊎◌, inl, inr, Bool, true, false, Option, Some, None, List, [], ◌∷◌, ◌++◌, map, ⊎_elim, refl, ap, sym, ◌∙◌, subst, if◌then◌else◌}
-use Rattle.std.specs.Prelude.{is_some}
+use Rattle.std.proofs.Common.{◌≡◌, ◌≢◌, ℕ, ◌+◌, ◌⊎◌, inl, inr, Bool, true, false, Option, Some, None, List, [], ◌∷◌, ◌++◌, map, ⊎_elim, refl, ap, sym, ◌∙◌, subst, if◌then◌else◌, option_to_list}
+use Rattle.std.specs.Prelude.{is_some, reverse}
 use Rattle.std.specs.List.{AllByRecursion, cons_option, filter_map, flat_map}
 use Rattle.std.specs.Option.{option_map}
 use Rattle.events.specs.declared.event.Event.{Event}
 use Rattle.events.specs.declared.turn.Step.{Step}
 use Rattle.events.specs.declared.turn.Turn.{Turn}
 use Rattle.events.specs.declared.verdict.Verdict.{Verdict}
-use Rattle.events.specs.declared.verdict.Verdict.TheVariants as out
 use Rattle.keeper_book.specs.CounterEnds.{end_of}
 use Rattle.keeper_book.specs.Counters.{five_at}
 use Rattle.keeper_book.specs.Told.{seen}
 use Rattle.keeper_book.specs.declared.calls.Call.{Call}
 use Rattle.keeper_book.specs.declared.counters.Counter.{Counter}
 use Rattle.keeper_book.specs.declared.records.Taken.{Taken}
+use Rattle.turn_laws.specs.PeerTurns.{having_used}
+use Rattle.turn_laws.proofs.Listed.{moved}
+use Rattle.turn_laws.proofs.Moved.{moved-holds, rest-using}
+use Rattle.turn_laws.proofs.Uses.{uses-moved}
+use Rattle.turn_laws.proofs.Covers.{are_ready-calls}
 use Rattle.turn_laws.proofs.Acting.{moves_onto}
-use Rattle.turn_laws.proofs.Covers.{ready-calls}
-use Rattle.turn_laws.proofs.Deeds.{Asked, Deed, Ended, Rested, Rests, Used, Used_theirs, UsesIt, rest_of}
-use Rattle.turn_laws.proofs.Holdings.{is_actor-same, is_performer-same, is_performer-true}
+use Rattle.turn_laws.proofs.Deeds.{Asked, Deed, Ended, Rested, Rests, Used, Used_theirs, UsesIt, rest_of, spent_by}
+use Rattle.turn_laws.proofs.Holdings.{is_performer-same, is_performer-true}
 use Rattle.turn_laws.proofs.Outcomes.{Idle, Ours_used, Outcome, Over, Theirs_used, idle-taken, outcome-of, over-rest, over-taken, rests-rest}
 use Rattle.turn_laws.proofs.Records.{deed-of}
 use Rattle.turn_laws.proofs.Runs.{covered_by, held-call, held-covers, onto-append, others-hold}
-use Rattle.turn_laws.proofs.Uses.{held-use}
 use Rattle.turn_laws.specs.Acts.{Act, Calls, holding_begun, holding_at}
-use Rattle.turn_laws.specs.Holdings.{Actor, Draws, End, Holding, Nothing, holding_after, is_actor}
-use Rattle.turn_laws.specs.Places.{Ours, is_place}
+use Rattle.turn_laws.specs.Holdings.{Actor, End, Holding}
+use Rattle.turn_laws.specs.Places.{Ours}
 use Rattle.turn_laws.specs.Turns.{actor_as, actor_of, acts_of, moves_of, number_taken, turn_taken, told}
 use Rattle.turn_rules.proofs.Ties.{greatest-append}
-use Rattle.turn_rules.specs.Draws.{reach_of}
 use Rattle.turn_rules.specs.Ends.{Member, Peer, Performer, is_by, is_end, is_performer, own, performer, performer_at}
 use Rattle.turn_rules.specs.Held.{after_number, covers_in, covers_of, first_some, found, grant_in, grant_of, granted, greatest, since}
 use Rattle.turn_rules.specs.Local.{Explained}
-use Rattle.turn_rules.specs.States.{ended_by}
-use Rattle.turn_rules.specs.Steps.{IsQuiet}
 
 -- what a turn makes of what is held, where it grants nothing
 abbrev pub told_more : ℕ → Counter → Event → List Call → Verdict → Holding → Holding
@@ -86,46 +85,32 @@ module _ (spir : ℕ) (c : Counter) (turn : Turn) (past : List Turn) where
 abbrev noted : Option ℕ → Holding → Holding
 noted number h = record h { next = after_number number h.next; numbers = cons_option number h.numbers }
 
-noted_none : (x : Option Holding) → x ≡ option_map (noted None) x
-noted_none None = refl
-noted_none (Some h) = refl
-
 -- what the moves of a turn beside its calls make of what its end holds
 abbrev Notes : ℕ → Counter → Actor → Event → Step → Type 0
 Notes spir c w event step = (acts : List Act) → holding_at (Ours spir c) (moves_onto w (rest_of event step) acts) w ≡ option_map (noted (number_taken spir c event step.verdict)) (holding_at (Ours spir c) acts w)
 
-module _ (spir : ℕ) (c : Counter) (w : Actor) (event : Event) (step : Step) where
-  idle-notes : Rests step → Notes spir c w event step
-  idle-notes rests acts =
-      ap (λ moves. holding_at (Ours spir c) (moves_onto w moves acts) w) (rests-rest event step rests)
-      ∙ (noted_none (holding_at (Ours spir c) acts w)
-      ∙ ap (λ number. option_map (noted number) (holding_at (Ours spir c) acts w)) (sym (idle-taken spir c event step.verdict rests.idle)))
-
-  over-notes : (member : ℕ) → step.verdict ≡ out.Down → ended_by event out.Down ≡ Some member → IsQuiet step → Notes spir c w event step
-  over-notes member said ends quiet acts =
-      ap (λ moves. holding_at (Ours spir c) (moves_onto w moves acts) w) (over-rest event step member said ends quiet)
-      ∙ (noted_none (holding_at (Ours spir c) acts w)
-      ∙ ap (λ number. option_map (noted number) (holding_at (Ours spir c) acts w)) (sym (ap (number_taken spir c event) said ∙ over-taken spir c event)))
-
-  use-notes : (a : ℕ) (d : Counter) (n : ℕ) → UsesIt a d n event step → Notes spir c w event step
-  use-notes a d n it acts =
-      held-use (Ours spir c) (Ours a d) n w acts (rest_of event step) it.spends.uses_it
-      ∙ (by_test (is_place (Ours a d) (Ours spir c))
-      ∙ ap (λ number. option_map (noted number) (holding_at (Ours spir c) acts w)) (sym (it.told spir c)))
-    where
-      by_test : (b : Bool) → holding_after (if b then Draws w n else Nothing) (holding_at (Ours spir c) acts) w ≡ option_map (noted (if b then Some n else None)) (holding_at (Ours spir c) acts w)
-      by_test true = let here : is_actor w w ≡ true = is_actor-same w in rw here refl
-      by_test false = noted_none (holding_at (Ours spir c) acts w)
-
--- so it is in each turn of a member
-member-notes : (spir : ℕ) (c : Counter) (w : Actor) (member : ℕ) (past : List Turn) (event : Event) (calls : List Call) (step : Step) → performer_at event step.verdict ≡ Some (Member member) → Outcome past event calls step → Notes spir c w event step
-member-notes spir c w member past event calls step by (Idle rests) = idle-notes spir c w event step rests
-member-notes spir c w member past event calls step by (Over ended said ends quiet) = over-notes spir c w event step ended said ends quiet
-member-notes spir c w member past event calls step by (Ours_used u it) = use-notes spir c w event step u.held.sa.spir u.c u.number it
-member-notes spir c w member past event calls step by (Theirs_used u) = absurd (apart (sym u.by_it ∙ by))
+-- the numbers that a turn of a member uses are those that it tells
+pub member-moved : (spir : ℕ) (c : Counter) (member : ℕ) (past : List Turn) (event : Event) (calls : List Call) (step : Step) → performer_at event step.verdict ≡ Some (Member member) → Outcome past event calls step → moved (Ours spir c) (rest_of event step) ≡ option_to_list (number_taken spir c event step.verdict)
+member-moved spir c member past event calls step by (Idle rests) = ap (moved (Ours spir c)) (rests-rest event step rests) ∙ ap option_to_list (sym (idle-taken spir c event step.verdict rests.idle))
+member-moved spir c member past event calls step by (Over ended said ends quiet) = ap (moved (Ours spir c)) (over-rest event step ended said ends quiet) ∙ ap option_to_list (sym (ap (number_taken spir c event) said ∙ over-taken spir c event))
+member-moved spir c member past event calls step by (Ours_used u it) = uses-moved (Ours spir c) (map spent_by u.needs) (rest_of event step) it.uses_them ∙ it.told spir c
+member-moved spir c member past event calls step by (Theirs_used u) = absurd (apart (sym u.by_it ∙ by))
   where
     apart : Some Peer ≡ Some (Member member) → ⊥
     apart same = absurd (cc)
+
+noted-option : (y : Option ℕ) (x : Option Holding) → option_map (having_used (reverse (option_to_list y))) x ≡ option_map (noted y) x
+noted-option None None = refl
+noted-option None (Some h) = refl
+noted-option (Some n) None = refl
+noted-option (Some n) (Some h) = refl
+
+-- so it is in each turn of a member
+member-notes : (spir : ℕ) (c : Counter) (w : Actor) (member : ℕ) (past : List Turn) (event : Event) (calls : List Call) (step : Step) → performer_at event step.verdict ≡ Some (Member member) → Outcome past event calls step → Notes spir c w event step
+member-notes spir c w member past event calls step by o acts =
+    moved-holds (Ours spir c) w (rest_of event step) (rest-using event step) acts
+    ∙ (ap (λ ns. option_map (having_used (reverse ns)) (holding_at (Ours spir c) acts w)) (member-moved spir c member past event calls step by o)
+    ∙ noted-option (number_taken spir c event step.verdict) (holding_at (Ours spir c) acts w))
 
 -- none of the calls grants the association
 abbrev GrantNone : ℕ → List Call → Type 0
@@ -147,13 +132,11 @@ deed-plain spir c past event calls step (Rested none rests no_entry) = inl (none
 deed-plain spir c past event calls step (Asked asks) = inr (asks.call, asks.one, idle-taken spir c event step.verdict asks.rests.idle)
 deed-plain spir c past event calls step (Ended member by none said ends quiet) = inl (none-made spir calls none)
 deed-plain spir c past event calls step (Used_theirs u) = inl (none-made spir calls u.no_calls)
-deed-plain spir c past event calls step (Used u) = inl (ready-calls (GrantNone spir) (reach_of u.held u.c) u.number
-    (λ why rest. (rest ≡ []) × Rests step)
-    (λ high rest. (rest ≡ []) × UsesIt u.held.sa.spir u.c u.number event step)
-    (λ call rest asked none. (rw asked, none))
-    (λ why rest s. none-made spir rest s.0)
-    (λ high rest s. none-made spir rest s.0)
-    calls u.ready)
+deed-plain spir c past event calls step (Used u) = inl (are_ready-calls (GrantNone spir) (Rests step) (UsesIt (map spent_by u.needs) event step)
+    (λ call rest cover none. ((let asked : _ = cover.asked in rw asked refl), none))
+    (λ rest last. none-made spir rest last.ended)
+    (λ rest last. none-made spir rest last.ended)
+    u.needs calls u.ready)
 
 module _ (spir : ℕ) (c : Counter) (w : Actor) (event : Event) (calls : List Call) (step : Step) where
   told_none : (x : Option Holding) → GrantNone spir calls → option_map (noted (number_taken spir c event step.verdict)) (option_map (covered_by spir c w calls) x) ≡ told_after spir c event calls step.verdict x

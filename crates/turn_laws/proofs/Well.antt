@@ -1,15 +1,16 @@
 -- The moves of every turn that is explained may be made.
-use Rattle.std.proofs.Common.{◌≡◌, ℕ, ◌<◌, ◌≤◌, ◌==◌, true, Bool, Option, Some, None, MatchOption, List, [], ◌∷◌, ◌++◌, map, ⊎_elim, refl, ap, sym, ◌∙◌, subst, arith}
+use Rattle.std.proofs.Common.{◌≡◌, ℕ, ◌<◌, ◌≤◌, ◌==◌, max, true, Bool, Option, Some, None, MatchOption, List, [], ◌∷◌, ◌++◌, map, ⊎_elim, refl, ap, sym, ◌∙◌, subst, arith}
 use Rattle.std.proofs.lemmas.Bool.{cases_lt, eq-eqb}
+use Rattle.std.specs.List.{AllByRecursion}
 use Rattle.events.specs.declared.event.Event.{Event}
 use Rattle.events.specs.declared.turn.Step.{Step}
 use Rattle.events.specs.declared.turn.Turn.{Turn}
 use Rattle.horizons.specs.Reaches.{Reach, cover_of, lead_of}
-use Rattle.horizons.specs.Ready.{Answered, Covers, Ready}
+use Rattle.horizons.specs.Ready.{Answered, Covers}
 use Rattle.horizons.specs.Stops.{stop_of}
 use Rattle.horizons.specs.declared.stop.Stop.{Stop}
-use Rattle.horizons.specs.declared.stop.Stop.TheVariants as stop
-use Rattle.keeper_book.specs.Counters.{counter_named}
+use Rattle.keeper_book.specs.CounterEnds.{end_of}
+use Rattle.keeper_book.specs.Counters.{five_at}
 use Rattle.keeper_book.specs.Told.{seen}
 use Rattle.keeper_book.specs.declared.calls.Call.{Call}
 use Rattle.keeper_book.specs.declared.calls.KeeperAnswer.{KeeperAnswer}
@@ -18,20 +19,22 @@ use Rattle.keeper_book.specs.declared.calls.KeeperAsk.TheVariants as ask
 use Rattle.keeper_book.specs.declared.counters.Counter.{Counter}
 use Rattle.keeper_book.specs.declared.counters.Counter.TheVariants as counter
 use Rattle.turn_laws.proofs.Acting.{MayDoMoves}
-use Rattle.turn_laws.proofs.Deeds.{NoneStarted, Asked, Deed, Ended, IsOpenTo, MemberUses, Rested, Rests, Used, Used_theirs, UsesIt, rest_of}
+use Rattle.turn_laws.proofs.Covers.{IsCover}
+use Rattle.turn_laws.proofs.Deeds.{AreReady, Asked, Deed, Ended, IsOpenTo, Last, Need, NoneStarted, Rested, Rests, Used, Used_theirs, UsesIt, rest_of, spent_by}
 use Rattle.turn_laws.proofs.Entries.{is_counter-same}
 use Rattle.turn_laws.proofs.Holdings.{is_actor-same}
+use Rattle.turn_rules.proofs.SlotTies.{all-weaker}
 use Rattle.turn_laws.proofs.Names.{counter-named}
 use Rattle.turn_laws.proofs.Outcomes.{over-rest, rests-rest}
 use Rattle.turn_laws.proofs.Tells.{Tells, tells}
-use Rattle.turn_laws.proofs.Uses.{may-use}
-use Rattle.turn_laws.specs.Acts.{Act, Calls, HoldsFor, MayDo, act_by, holding_at}
-use Rattle.turn_laws.specs.Holdings.{Actor, End, Holding, IsNotIn, is_actor, raised_to}
+use Rattle.turn_laws.proofs.Uses.{may-use, spent_of}
+use Rattle.turn_laws.specs.Acts.{Act, Calls, HoldsFor, MayDo, act_by, effect_ours, holding_at}
+use Rattle.turn_laws.specs.Holdings.{Actor, End, Holding, IsNotIn, holding_after, is_actor, raised_to}
 use Rattle.turn_laws.specs.Places.{Ours, Theirs}
 use Rattle.turn_laws.specs.Turns.{actor_as, told}
 use Rattle.turn_rules.specs.Draws.{reach_of}
 use Rattle.turn_rules.specs.Ends.{Member, Peer, own, performer_at}
-use Rattle.turn_rules.specs.Held.{is_named, window_by}
+use Rattle.turn_rules.specs.Held.{covered, is_named, window_by}
 use Rattle.turn_rules.specs.Slots.{Slot, first_slot, peer_counter, slots_by}
 
 lead_some : (c : Counter) → 0 < lead_of c
@@ -41,84 +44,172 @@ lead_some counter.Iv = omega arith
 lead_some counter.Ask = omega arith
 lead_some counter.Answer = omega arith
 
--- a holding that is ready at a number: it is what was held, but for a high above the number
-pub record IsReadied (h now : Holding) (at : ℕ) : Type 0 where
-  pub epoch : now.epoch ≡ h.epoch
-  pub base : now.base ≡ h.base
-  pub numbers : now.numbers ≡ h.numbers
-  pub above : at < now.high
+-- a rise to nothing
+raised-zero : (h : Holding) → h ≡ raised_to 0 h
+raised-zero h i = record h { high = same i }
+  where
+    same : h.high ≡ max 0 h.high
+    same = omega arith
 
--- Calls that make a number ready may be made, and then those that follow them.
-module _ (w : Actor) (R : List Act → List Call → Type 0) (r : Reach) (at : ℕ) (stops : Stop → List Call → Type 0) (goes : ℕ → List Call → Type 0)
-    (step : (acts : List Act) (call : Call) (rest : List Call) → MayDo acts w (Calls call) → R (act_by w (Calls call) ∷ acts) rest → R acts (call ∷ rest))
-    (stopped : (acts : List Act) (why : Stop) (rest : List Call) → stops why rest → R acts rest)
-    (acts : List Act) (h : Holding) (holds : holding_at (Ours r.spir r.counter) acts w ≡ Some h) (epoch : h.epoch ≡ r.epoch) (high : h.high ≡ r.high) (end : h.end ≡ r.end) (named : counter_named r.name.kind r.name.child ≡ Some r.counter)
-    (gone : (acts : List Act) (now : Holding) (high : ℕ) (rest : List Call) → holding_at (Ours r.spir r.counter) acts w ≡ Some now → IsReadied h now at → goes high rest → R acts rest) where
-  module _ (call : Call) (asked : call.asked ≡ ask.Cover r.spir r.name.kind r.name.child r.epoch (cover_of r at)) where
-    may_cover : MayDo acts w (Calls call)
-    may_cover = rw (asked, named) (record { holding = h; holds = holds; in_epoch = epoch; within_end = let last : h.end ≡ r.end = end in omega arith })
-
-    -- what is held after a cover that was acknowledged
-    held_covered : seen call ≡ answer.Done → holding_at (Ours r.spir r.counter) (act_by w (Calls call) ∷ acts) w ≡ Some (raised_to (cover_of r at) h)
-    held_covered sees =
-        let here : (r.spir == r.spir) ≡ true = eq-eqb r.spir r.spir refl in
-        let this : is_named r.counter (Some r.counter) ≡ true = is_counter-same r.counter in
-        let mine : is_actor w w ≡ true = is_actor-same w in
-        rw (asked, sees, here, named, this, mine, holds)
-
-    answered-well : at < r.end → (answered : KeeperAnswer) (rest : List Call) → seen call ≡ answered → Answered answered (λ why. stops why rest) (goes (cover_of r at) rest) → R (act_by w (Calls call) ∷ acts) rest
-    answered-well below answer.Done rest sees a = gone (act_by w (Calls call) ∷ acts) (raised_to (cover_of r at) h) (cover_of r at) rest (held_covered sees)
-        (record { epoch = refl; base = refl; numbers = refl; above = let some : 0 < lead_of r.counter = lead_some r.counter in omega arith }) a
-    answered-well below (answer.Taken taken) rest sees a = absurd a
-    answered-well below (answer.First first) rest sees a = absurd a
-    answered-well below (answer.Look spent) rest sees a = absurd a
-    answered-well below (answer.Refused why) rest sees a = go (stop_of why) a
-      where
-        go : (x : Option Stop) → MatchOption x ⊥ (λ why. stops why rest) → R (act_by w (Calls call) ∷ acts) rest
-        go None a = absurd a
-        go (Some why) a = stopped (act_by w (Calls call) ∷ acts) why rest a
-
-  covers-well : at < r.end → (calls : List Call) → Covers r at calls stops goes → R acts calls
-  covers-well below [] c = absurd c
-  covers-well below (call ∷ rest) c = step acts call rest (may_cover call c.0) (answered-well call c.0 below (seen call) rest refl c.1)
-
-  pub ready-well : (calls : List Call) → Ready r at calls stops goes → R acts calls
-  ready-well calls ready = ⊎_elim
-      (λ l. gone acts h r.high calls holds (record { epoch = refl; base = refl; numbers = refl; above = let e : h.high ≡ r.high = high in omega arith }) (ready.within l))
-      (λ l. ⊎_elim (λ b. covers-well b calls (ready.asked l b)) (λ e. stopped acts stop.Exhausted calls (ready.ended l e)) (cases_lt at r.end))
-      (cases_lt at r.high)
-
--- a member's use of a number of what it holds
-module _ (past : List Turn) (event : Event) (step : Step) (member spir : ℕ) where
+-- Calls that make numbers ready may be made, and then what follows them.
+module _ (past : List Turn) (member : ℕ) (event : Event) (step : Step) where
   abbrev w : Actor
   w = End (Member member)
 
   abbrev MayMake : List Act → List Call → Type 0
   MayMake acts calls = MayDoMoves acts w (map Calls calls ++ rest_of event step)
 
-  rests-well : (acts : List Act) (rest : List Call) → rest ≡ [] → Rests step → MayMake acts rest
-  rests-well acts rest none rests = let quiet : _ = rests-rest event step rests in rw (none, quiet) tt
+  -- what a member holds of a counter whose number it needs; covers raise it
+  pub record Kept (need : Need past member) (acts : List Act) : Type 0 where
+    pub now : Holding
+    pub holds : holding_at (Ours need.held.sa.spir need.c) acts w ≡ Some now
+    pub epoch : now.epoch ≡ need.held.epoch
+    pub end : now.end ≡ end_of need.held.sa need.c
+    pub high : five_at need.held.highs need.c ≤ now.high
+    pub from_base : now.base ≤ need.number
+    pub unused : IsNotIn need.number now.numbers
 
-  uses-well : (calls : List Call) (u : MemberUses past event calls step) (h : Holding) → Tells (own (Member member) past) u.held.sa.spir u.c u.held h → (acts : List Act) → holding_at (Ours u.held.sa.spir u.c) acts w ≡ Some h → MayMake acts calls
-  uses-well calls u h tells acts holds = ready-well w MayMake (reach_of u.held u.c) u.number
-      (λ why rest. (rest ≡ []) × Rests step)
-      (λ high rest. (rest ≡ []) × UsesIt u.held.sa.spir u.c u.number event step)
-      (λ acts call rest may more. (may, more))
-      (λ acts why rest s. rests-well acts rest s.0 s.1)
-      acts h holds tells.epoch tells.high tells.end (counter-named u.c)
-      (λ acts now high rest holds readied s. used acts now rest holds readied s.0 s.1)
-      calls u.ready
+  -- and once it is ready
+  pub record IsUsable (need : Need past member) (acts : List Act) : Type 0 where
+    pub kept : Kept need acts
+    pub above : need.number < kept.now.high
+
+  abbrev raised-kept : (need : Need past member) (acts later : List Act) (kept : Kept need acts) (upto : ℕ) → holding_at (Ours need.held.sa.spir need.c) later w ≡ Some (raised_to upto kept.now) → Kept need later
+  raised-kept need acts later kept upto holds = record {
+    now = raised_to upto kept.now;
+    holds = holds;
+    epoch = kept.epoch;
+    end = kept.end;
+    high = let a : five_at need.held.highs need.c ≤ kept.now.high = kept.high in omega arith;
+    from_base = kept.from_base;
+    unused = kept.unused;
+  }
+
+  -- what a cover does to what is held
+  module _ (acts : List Act) (call : Call) (cover : IsCover call) where
+    abbrev now : List Act
+    now = act_by w (Calls call) ∷ acts
+
+    covered-holds : (spir : ℕ) (c : Counter) (h : Holding) → holding_at (Ours spir c) acts w ≡ Some h → (upto : ℕ) × (holding_at (Ours spir c) now w ≡ Some (raised_to upto h))
+    covered-holds spir c h holds = let asked : _ = cover.asked in rw asked (go (covered spir c (ask.Cover cover.spir cover.kind cover.child cover.epoch cover.upto) (seen call)))
+      where
+        go : (x : Option ℕ) → (upto : ℕ) × (holding_after (effect_ours w c None x) (holding_at (Ours spir c) acts) w ≡ Some (raised_to upto h))
+        go None = (0, holds ∙ ap Some (raised-zero h))
+        go (Some n) = (n, let here : is_actor w w ≡ true = is_actor-same w in rw (here, holds) refl)
+
+    abbrev kept-later : (need : Need past member) → Kept need acts → Kept need now
+    kept-later need kept = let so = covered-holds need.held.sa.spir need.c kept.now kept.holds in raised-kept need acts now kept so.0 so.1
+
+    usable-later : (need : Need past member) → IsUsable need acts → IsUsable need now
+    usable-later need usable = record {
+      kept = kept-later need usable.kept;
+      above = let a : need.number < usable.kept.now.high = usable.above in let so = covered-holds need.held.sa.spir need.c usable.kept.now usable.kept.holds in let b : need.number < max so.0 usable.kept.now.high = omega arith in b;
+    }
+
+  module _ (need : Need past member) (acts : List Act) (kept : Kept need acts) (call : Call) where
+    abbrev r : Reach
+    r = reach_of need.held need.c
+
+    abbrev AsksCover : Type 0
+    AsksCover = call.asked ≡ ask.Cover r.spir r.name.kind r.name.child r.epoch (cover_of r need.number)
+
+    is-cover : AsksCover → IsCover call
+    is-cover asked = record { spir = r.spir; kind = r.name.kind; child = r.name.child; epoch = r.epoch; upto = cover_of r need.number; asked = asked }
+
+    may_cover : AsksCover → MayDo acts w (Calls call)
+    may_cover asked = let named : _ = counter-named need.c in
+        rw (asked, named) (record { holding = kept.now; holds = kept.holds; in_epoch = kept.epoch; within_end = let last : kept.now.end ≡ r.end = kept.end in omega arith })
+
+    -- a cover that was acknowledged makes the number ready
+    covered-usable : AsksCover → need.number < r.end → seen call ≡ answer.Done → IsUsable need (act_by w (Calls call) ∷ acts)
+    covered-usable asked below sees = record {
+      kept = raised-kept need acts (act_by w (Calls call) ∷ acts) kept (cover_of r need.number) holds;
+      above = let some : 0 < lead_of need.c = lead_some need.c in let b : need.number < max (cover_of r need.number) kept.now.high = omega arith in b;
+    }
+      where
+        holds : holding_at (Ours need.held.sa.spir need.c) (act_by w (Calls call) ∷ acts) w ≡ Some (raised_to (cover_of r need.number) kept.now)
+        holds =
+            let here : (r.spir == r.spir) ≡ true = eq-eqb r.spir r.spir refl in
+            let this : is_named need.c (Some need.c) ≡ true = is_counter-same need.c in
+            let mine : is_actor w w ≡ true = is_actor-same w in
+            let held : _ = kept.holds in
+            let named : _ = counter-named need.c in
+            rw (asked, sees, here, named, this, mine, held)
+
+  module _ (stops goes : Type 0) (stopped : (acts : List Act) → stops → MayMake acts []) where
+    ends-well : (acts : List Act) (rest : List Call) (so : Type 0) → Last rest so → (so → MayMake acts []) → MayMake acts rest
+    ends-well acts rest so last f = subst (λ calls. MayMake acts calls) (sym last.ended) (f last.is)
+
+    -- one number gets ready, and then the others
+    module _ (need : Need past member) (needs : List (Need past member)) (P : List Act → Type 0) (later : (acts : List Act) (call : Call) → IsCover call → P acts → P (act_by w (Calls call) ∷ acts))
+        (rec : (acts : List Act) → P acts × IsUsable need acts → AllByRecursion (λ n. Kept n acts) needs → (calls : List Call) → AreReady needs calls stops goes → MayMake acts calls)
+        (acts : List Act) (p : P acts) (kept : Kept need acts) (others : AllByRecursion (λ n. Kept n acts) needs) where
+      answered-well : (call : Call) → AsksCover need acts kept call → need.number < end_of need.held.sa need.c → (answered : KeeperAnswer) (rest : List Call) → seen call ≡ answered
+          → Answered answered (λ why. Last rest stops) (AreReady needs rest stops goes) → MayMake (act_by w (Calls call) ∷ acts) rest
+      answered-well call asked below answer.Done rest sees a =
+          let cover : IsCover call = is-cover need acts kept call asked in
+          rec (act_by w (Calls call) ∷ acts) (later acts call cover p, covered-usable need acts kept call asked below sees) (all-weaker needs (λ n k. kept-later acts call cover n k) others) rest a
+      answered-well call asked below (answer.Taken taken) rest sees a = absurd a
+      answered-well call asked below (answer.First first) rest sees a = absurd a
+      answered-well call asked below (answer.Look spent) rest sees a = absurd a
+      answered-well call asked below (answer.Refused why) rest sees a = go (stop_of why) a
+        where
+          go : (x : Option Stop) → MatchOption x ⊥ (λ why. Last rest stops) → MayMake (act_by w (Calls call) ∷ acts) rest
+          go None a = absurd a
+          go (Some why) a = ends-well (act_by w (Calls call) ∷ acts) rest stops a (stopped (act_by w (Calls call) ∷ acts))
+
+      covers-well : need.number < end_of need.held.sa need.c → (calls : List Call) → Covers (reach_of need.held need.c) need.number calls (λ why rest. Last rest stops) (λ high rest. AreReady needs rest stops goes) → MayMake acts calls
+      covers-well below [] c = absurd c
+      covers-well below (call ∷ rest) c = (may_cover need acts kept call c.0, answered-well call c.0 below (seen call) rest refl c.1)
+
+      one-well : (calls : List Call) → AreReady (need ∷ needs) calls stops goes → MayMake acts calls
+      one-well calls ready = ⊎_elim
+          (λ l. rec acts (p, record { kept = kept; above = let a : five_at need.held.highs need.c ≤ kept.now.high = kept.high in let b : need.number < kept.now.high = omega arith in b }) others calls (ready.within l))
+          (λ l. ⊎_elim (λ b. covers-well b calls (ready.asked l b)) (λ e. ends-well acts calls stops (ready.ended l e) (stopped acts)) (cases_lt need.number (end_of need.held.sa need.c)))
+          (cases_lt need.number (five_at need.held.highs need.c))
+
+    pub ready-well : (needs : List (Need past member)) (P : List Act → Type 0) → ((acts : List Act) (call : Call) → IsCover call → P acts → P (act_by w (Calls call) ∷ acts))
+        → ((acts : List Act) → P acts → AllByRecursion (λ n. IsUsable n acts) needs → goes → MayMake acts [])
+        → (acts : List Act) → P acts → AllByRecursion (λ n. Kept n acts) needs → (calls : List Call) → AreReady needs calls stops goes → MayMake acts calls
+    ready-well [] P later gone acts p kept calls last = ends-well acts calls goes last (gone acts p tt)
+    ready-well (need ∷ needs) P later gone acts p kept calls ready = one-well need needs P later
+        (ready-well needs (λ acts. P acts × IsUsable need acts) (λ acts call cover both. (later acts call cover both.0, usable-later acts call cover need both.1)) (λ acts both all. gone acts both.0 (both.1, all)))
+        acts p kept.0 kept.1 calls ready
+
+  usable-holds : (acts : List Act) (needs : List (Need past member)) → AllByRecursion (λ n. IsUsable n acts) needs → AllByRecursion (λ s. HoldsFor (holding_at s.place acts w) s.number) (map spent_by needs)
+  usable-holds acts [] all = tt
+  usable-holds acts (need ∷ needs) all = (
+    record {
+      holding = all.0.kept.now;
+      holds = all.0.kept.holds;
+      may = record { from_base = all.0.kept.from_base; below_high = all.0.above; unused = all.0.kept.unused };
+    },
+    usable-holds acts needs all.1,
+  )
+
+  -- what own turns tell is kept
+  told-kept : (acts : List Act) → ((spir : ℕ) (c : Counter) → told spir c (own (Member member) past) ≡ holding_at (Ours spir c) acts w) → (needs : List (Need past member)) → AllByRecursion (λ n. Kept n acts) needs
+  told-kept acts agrees [] = tt
+  told-kept acts agrees (need ∷ needs) = (one (tells (window_by past) (own (Member member) past) need.held.sa.spir need.c need.held need.is_held), told-kept acts agrees needs)
     where
-      used : (acts : List Act) (now : Holding) (rest : List Call) → holding_at (Ours u.held.sa.spir u.c) acts w ≡ Some now → IsReadied h now u.number → rest ≡ [] → UsesIt u.held.sa.spir u.c u.number event step → MayMake acts rest
-      used acts now rest holds readied none it = rw none (may-use (Ours u.held.sa.spir u.c) u.number w acts (rest_of event step) it.spends.uses_it (record {
-        holding = now;
-        holds = holds;
-        may = record {
-          from_base = let base : now.base ≡ h.base = readied.base in let low : h.base ≤ u.number = (tells.unused u.number u.is_open).0 in omega arith;
-          below_high = readied.above;
-          unused = subst (λ ns. IsNotIn u.number ns) (sym readied.numbers) (tells.unused u.number u.is_open).1;
-        };
-      }))
+      one : (h : Holding) × Tells (own (Member member) past) need.held.sa.spir need.c need.held h → Kept need acts
+      one so = record {
+        now = so.0;
+        holds = sym (agrees need.held.sa.spir need.c) ∙ so.1.told_so;
+        epoch = so.1.epoch;
+        end = so.1.end;
+        high = let a : so.0.high ≡ five_at need.held.highs need.c = so.1.high in omega arith;
+        from_base = (so.1.unused need.number need.is_open).0;
+        unused = (so.1.unused need.number need.is_open).1;
+      }
+
+  -- a member uses the numbers that it needs
+  pub uses-well : (acts : List Act) → ((spir : ℕ) (c : Counter) → told spir c (own (Member member) past) ≡ holding_at (Ours spir c) acts w) → (needs : List (Need past member)) (calls : List Call) → AreReady needs calls (Rests step) (UsesIt (map spent_by needs) event step) → MayMake acts calls
+  uses-well acts agrees needs calls ready = ready-well (Rests step) (UsesIt (map spent_by needs) event step)
+      (λ acts rests. let quiet : _ = rests-rest event step rests in rw quiet tt)
+      needs (λ acts. Unit {0}) (λ acts call cover p. tt)
+      (λ acts p usable it. may-use w acts (map spent_by needs) (rest_of event step) it.uses_them it.apart (usable-holds acts needs usable))
+      acts tt (told-kept acts agrees needs) calls ready
 
 -- the peer may use what is open to it
 abbrev pub PeerMayUse : List Turn → List Act → Type 0
@@ -132,10 +223,9 @@ module _ (past : List Turn) (acts : List Act) (agrees : (member spir : ℕ) (c :
   deed-well (Asked asks) = let quiet : _ = rests-rest event step asks.rests in let one : _ = asks.one in rw (one, quiet) (asks.may acts (actor_as (performer_at event step.verdict)) none_started, tt)
   deed-well (Ended member by none said ends quiet) = let over : _ = over-rest event step member said ends quiet in rw (none, over) (tt, tt)
   deed-well (Used u) =
-      let so : (h : Holding) × Tells (own (Member u.member) past) u.held.sa.spir u.c u.held h = tells (window_by past) (own (Member u.member) past) u.held.sa.spir u.c u.held u.is_held in
       subst (λ v. MayDoMoves acts v (map Calls calls ++ rest_of event step)) (sym (ap actor_as u.by_it))
-      (uses-well past event step u.member u.held.sa.spir calls u so.0 so.1 acts (sym (agrees u.member u.held.sa.spir u.c) ∙ so.1.told_so))
+      (uses-well past u.member event step acts (λ spir c. agrees u.member spir c) u.needs calls u.ready)
   deed-well (Used_theirs u) =
       subst (λ v. MayDoMoves acts v (map Calls calls ++ rest_of event step)) (sym (ap actor_as u.by_it))
       (let none : _ = u.no_calls in rw none
-      (may-use (Theirs (peer_counter u.slot.sa u.c)) u.number (End Peer) acts (rest_of event step) u.spends.uses_it (peer_may u.test u.slot u.is_first u.c u.number u.is_open)))
+      (may-use (End Peer) acts (spent_of (Theirs (peer_counter u.slot.sa u.c)) u.number ∷ []) (rest_of event step) u.spends.uses_it (tt, tt) (peer_may u.test u.slot u.is_first u.c u.number u.is_open, tt)))

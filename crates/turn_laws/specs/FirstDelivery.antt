@@ -19,8 +19,8 @@ abbrev pub IsOtherPacket : Place → ℕ → Packet → Type 0
 IsOtherPacket p n packet = place_of packet.name ≡ p → packet.number ≢ n
 
 -- none of the packets that were accepted is this one
-abbrev pub IsFirst : Place → ℕ → List Turn → Type 0
-IsFirst p n past = AllByRecursion (IsOtherPacket p n) (filter_map accepted_in past)
+abbrev pub IsUnaccepted : Place → ℕ → List Turn → Type 0
+IsUnaccepted p n past = AllByRecursion (IsOtherPacket p n) (filter_map accepted_in past)
 
 -- A packet under the receive key and the SPI of what a member holds that is up, whoever sealed it,
 -- whose number the window covers and no earlier turn accepted, is accepted where its number is
@@ -32,7 +32,7 @@ MemberAcceptsFirst past turn =
     → IsReceiver (held_by (window_by past) (own (Member member) past)) (spi_of octets) spir held
     → IsEspDatagram held.sa.child.to_cluster held.sa.spi_in number payload 4 octets
     → WindowCovers held.window number
-    → IsFirst (Ours spir counter.EspIn) number past → IsAcknowledged held number turn.calls
+    → IsUnaccepted (Ours spir counter.EspIn) number past → IsAcknowledged held number turn.calls
     → IsAcceptedAs (counter_name held.sa counter.EspIn) number payload turn.step.verdict
 
 -- and so by the peer, which needs no acknowledgement
@@ -43,5 +43,5 @@ PeerAcceptsFirst past turn =
     ≡ Some slot
     → IsEspDatagram slot.sa.child.to_peer slot.sa.spi_out number payload 4 octets
     → WindowCovers slot.window number
-    → IsFirst (Theirs (peer_counter slot.sa counter.EspIn)) number past
+    → IsUnaccepted (Theirs (peer_counter slot.sa counter.EspIn)) number past
     → IsAcceptedAs (peer_counter slot.sa counter.EspIn) number payload turn.step.verdict

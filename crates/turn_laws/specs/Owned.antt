@@ -33,19 +33,19 @@ pub record Owned (acts : List Act) (book : Book) : Type 0 where
       → begun_at (Theirs name) acts ≡ nothing
 
 -- what a move does to the book
-abbrev pub Writes : Book → Move → Book → Type 0
-Writes old (Calls call) new = Enters old call new
-Writes old (Uses place number) new = new ≡ old
-Writes old (Seals key) new = new ≡ old
-Writes old (Leases pool first count seen) new = (first ≡ pool_next pool old)
+abbrev pub WritesBook : Book → Move → Book → Type 0
+WritesBook old (Calls call) new = Enters old call new
+WritesBook old (Uses place number) new = new ≡ old
+WritesBook old (Seals key) new = new ≡ old
+WritesBook old (Leases pool first count seen) new = (first ≡ pool_next pool old)
     × (new ≡ with_pool_next pool (first + count) old)
-Writes old (Leaps place number) new = new ≡ old
-Writes old (Opens sa) new = new ≡ old
-Writes old (Starts sa) new = new ≡ old
-Writes old Ends new = new ≡ old
+WritesBook old (Leaps place number) new = new ≡ old
+WritesBook old (Opens sa) new = new ≡ old
+WritesBook old (Starts sa) new = new ≡ old
+WritesBook old Ends new = new ≡ old
 
 -- each act may come after those before it, and the book is the one that they lead to
 abbrev pub Lawful : List Act → Book → Type 0
 Lawful [] book = book ≡ empty
 Lawful (act ∷ acts) book = (mid : Book) × Lawful acts mid × MayDo acts act.by act.move
-    × Writes mid act.move book
+    × WritesBook mid act.move book

@@ -24,7 +24,7 @@ ghost use Rattle.turn_laws.specs.FirstDelivery.{MemberAcceptsFirst, PeerAcceptsF
 ghost use Rattle.turn_laws.specs.Holdings.{Actor, Begins, Draws, End, Half, Holding, IsNew, IsOwned, Jumps, MayUse, Passes, Rises, Use, holding_after, uses_after};
 ghost use Rattle.turn_laws.specs.Listed.{listed_at};
 ghost use Rattle.turn_laws.specs.OwnTurns.{OwnTurnsTell};
-ghost use Rattle.turn_laws.specs.Owned.{Owned, Writes};
+ghost use Rattle.turn_laws.specs.Owned.{Owned, WritesBook};
 ghost use Rattle.turn_laws.specs.PeerTurns.{told_theirs};
 ghost use Rattle.turn_laws.specs.Places.{Ours, Place, Pooled, Theirs, place_of};
 ghost use Rattle.turn_laws.specs.Replaced.{AreReplacedLater};
@@ -110,7 +110,7 @@ pub fn ends_keep_owned()
 /// A move that may be made, whatever it is, keeps what is owned.
 pub fn moves_keep_owned()
     ensures { (acts : List Act) (w : Actor) (move : Move) (old new : Book) → Owned acts old
-        → MayDo acts w move → Writes old move new
+        → MayDo acts w move → WritesBook old move new
         → Owned (act_by w move ∷ acts) new }
 {}
 
@@ -249,7 +249,8 @@ pub fn no_number_past_its_end()
         → AllByRecursion (λ u. u.number < u.end) (uses_at p (acts_of past)) }
     ensures places { (boxes : ℕ) (past : List Turn) (book : Book) → Explained boxes past
         → Stands past book
-        → (p : Place) → AllByRecursion (λ n. n < end_at p (acts_of past) book) (numbers_at p (acts_of past)) }
+        → (p : Place) → AllByRecursion (λ n. n < end_at p (acts_of past) book)
+        (numbers_at p (acts_of past)) }
     ensures counters { (boxes : ℕ) (past : List Turn) (book : Book) → Explained boxes past
         → Stands past book
         → (spir : ℕ) (c : Counter)

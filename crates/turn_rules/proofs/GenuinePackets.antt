@@ -3,7 +3,6 @@ use Rattle.std.proofs.Common.{◌≡◌, ℕ, ◌/◌, ◌%◌, ◌^◌, ◌<◌
 use Rattle.std.proofs.lemmas.Bool.{cases_lt}
 use Rattle.std.proofs.lemmas.Nat.{from_be_bytes-to_be_bytes_4}
 use Rattle.std.specs.Int.{w32, from_be_bytes, to_be_bytes}
-use Rattle.std.specs.List.{AllByRecursion}
 use Rattle.esp_packets.specs.Laws.{Accepts, SealedPacketsOpen}
 use Rattle.ha_base.specs.declared.esp_outcomes.EspDrop.{EspDrop}
 use Rattle.ha_base.specs.declared.esp_outcomes.EspDrop.TheVariants as drop
@@ -15,11 +14,13 @@ use Rattle.keeper_book.specs.Told.{seen}
 use Rattle.keeper_book.specs.declared.calls.Call.{Call}
 use Rattle.keeper_book.specs.declared.calls.KeeperAnswer.{KeeperAnswer}
 use Rattle.keeper_book.specs.declared.calls.KeeperAnswer.TheVariants as answers
+use Rattle.keeper_book.specs.declared.calls.KeeperAsk.{KeeperAsk}
+use Rattle.keeper_book.specs.declared.calls.KeeperAsk.TheVariants as ask
 use Rattle.keeper_book.specs.CounterEnds.{end_of}
 use Rattle.keeper_book.specs.declared.counters.Counter.TheVariants as counter
 use Rattle.turn_rules.specs.Draws.{reach_of}
-use Rattle.turn_rules.specs.Genuine.{IsAcknowledged, IsGenuine}
-use Rattle.turn_rules.specs.Held.{Held}
+use Rattle.turn_rules.specs.Genuine.{IsAcknowledged, IsCoveredNow, IsGenuine}
+use Rattle.turn_rules.specs.Held.{Held, covered}
 use Rattle.turn_rules.specs.MemberPackets.{IsReceiver}
 use Rattle.turn_rules.specs.Packets.{Inbound, OpensEsp}
 
@@ -53,15 +54,20 @@ module _ (law : SealedPacketsOpen) (inbound : Inbound) (sized : IsSized inbound)
 answered_done : (P : Stop → Type 0) (G : Type 0) (answered : KeeperAnswer) → answered ≡ answers.Done → Answered answered P G → G
 answered_done P G answered e a = subst (λ k. Answered k P G) e a
 
-covers_done : {X : Type 0} (P : Stop → List Call → Type 0) (G : ℕ → List Call → Type 0) (h : Reach) (at : ℕ) (calls : List Call) → ((high : ℕ) (rest : List Call) → G high rest → X) → AllByRecursion (λ call. seen call ≡ answers.Done) calls → Covers h at calls P G → X
-covers_done P G h at [] f d c = absurd c
-covers_done P G h at (call ∷ rest) f d c = f (cover_of h at) rest (answered_done (λ why. P why rest) (G (cover_of h at) rest) (seen call) d.0 c.1)
+-- a cover that was acknowledged
+is_done : (spir : ℕ) (asked : KeeperAsk) (answered : KeeperAnswer) (upto : ℕ) → covered spir counter.EspIn asked answered ≡ Some upto → answered ≡ answers.Done
+is_done spir (ask.Cover other kind child epoch until) answers.Done upto is = refl
+is_done spir asked answered upto is = absurd (cc)
+
+covers_done : {X : Type 0} (P : Stop → List Call → Type 0) (G : ℕ → List Call → Type 0) (h : Reach) (at spir : ℕ) (calls : List Call) → ((high : ℕ) (rest : List Call) → G high rest → X) → IsCoveredNow spir at calls → Covers h at calls P G → X
+covers_done P G h at spir [] f d c = absurd c
+covers_done P G h at spir (call ∷ rest) f d c = f (cover_of h at) rest (answered_done (λ why. P why rest) (G (cover_of h at) rest) (seen call) (is_done spir call.asked (seen call) d.0 d.1) c.1)
 
 -- where the number of a packet is acknowledged, it is ready
 pub ready-goes : {X : Type 0} {P : Stop → List Call → Type 0} {G : ℕ → List Call → Type 0} (held : Held) (at : ℕ) (calls : List Call) → at < end_of held.sa counter.EspIn → ((high : ℕ) (rest : List Call) → G high rest → X) → IsAcknowledged held at calls → Ready (reach_of held counter.EspIn) at calls P G → X
 ready-goes {X} {P} {G} held at calls below f allowed r =
     ⊎_elim (λ w. f held.highs.esp_in calls (r.within w))
-    (λ l. ⊎_elim (λ w. f held.highs.esp_in calls (r.within w)) (λ d. covers_done P G (reach_of held counter.EspIn) at calls f d (r.asked l below)) allowed)
+    (λ l. ⊎_elim (λ w. f held.highs.esp_in calls (r.within w)) (λ d. covers_done P G (reach_of held counter.EspIn) at held.sa.spir calls f d (r.asked l below)) allowed)
     (cases_lt at held.highs.esp_in)
 
 -- where several receive at an SPI, one is meant

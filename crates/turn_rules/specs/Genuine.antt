@@ -1,6 +1,5 @@
 -- Packets that the other end sealed, and what becomes of them.
 use Rattle.std.specs.Prelude.{ℕ, ◌≡◌, ◌<◌, ◌≤◌, ◌⊎◌, false, Some, List, [], ◌∷◌, length, Ok}
-use Rattle.std.specs.List.{AllByRecursion}
 use Rattle.esp_packets.specs.Laws.{WindowCovers}
 use Rattle.esp_packets.specs.Packet.{IsEspDatagram, payload_in, spi_of}
 use Rattle.events.specs.declared.turn.Medium.TheVariants as medium
@@ -15,14 +14,13 @@ use Rattle.ha_base.specs.declared.counter_names.CounterName.{CounterName}
 use Rattle.ha_base.specs.declared.esp_outcomes.EspOpened.{EspOpened}
 use Rattle.keeper_book.specs.Told.{seen}
 use Rattle.keeper_book.specs.declared.calls.Call.{Call}
-use Rattle.keeper_book.specs.declared.calls.KeeperAnswer.TheVariants as answers
 use Rattle.keeper_book.specs.declared.counters.Counter.TheVariants as counter
 use Rattle.replay_set.specs.Window.{judged}
 use Rattle.replay_set.specs.declared.judgement.Judgement.TheVariants as judgement
 use Rattle.turn_rules.specs.Datagrams.{arrives, datagrams_of, delivery_of}
 use Rattle.turn_rules.specs.Draws.{counter_name}
 use Rattle.turn_rules.specs.Ends.{Member, Peer, Performer, own, receiver_of}
-use Rattle.turn_rules.specs.Held.{Held, held_by, window_by}
+use Rattle.turn_rules.specs.Held.{Held, covered, held_by, window_by}
 use Rattle.turn_rules.specs.MemberPackets.{IsReceiver, inbound_of}
 use Rattle.turn_rules.specs.Packets.{Inbound}
 use Rattle.turn_rules.specs.States.{has_ended, joins}
@@ -36,10 +34,17 @@ pub record IsGenuine (inbound : Inbound) (number : ℕ) (payload octets : List �
   pub covered : WindowCovers inbound.window number
   pub first : judged inbound.window number ≡ judgement.Fresh
 
--- the number lies below what was acknowledged, or each call was answered so that it does
+-- the first of these calls is a cover of the association's received numbers that was acknowledged
+-- and goes beyond the number
+abbrev pub IsCoveredNow : ℕ → ℕ → List Call → Type 0
+IsCoveredNow spir number [] = ⊥
+IsCoveredNow spir number (call ∷ calls) = (upto : ℕ)
+    × (covered spir counter.EspIn call.asked (seen call) ≡ Some upto) × (number < upto)
+
+-- the number lies below what was acknowledged, or the cover of this turn was
 abbrev pub IsAcknowledged : Held → ℕ → List Call → Type 0
 IsAcknowledged held number calls = (number < held.highs.esp_in)
-    ⊎ AllByRecursion (λ call. seen call ≡ answers.Done) calls
+    ⊎ IsCoveredNow held.sa.spir number calls
 
 -- the payload was accepted under its number, as an IPv4 packet (RFC 4303, section 2.6)
 pub record IsAcceptedAs (name : CounterName) (number : ℕ) (payload : List ℕ)
