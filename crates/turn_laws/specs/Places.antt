@@ -21,11 +21,6 @@ use Rattle.turn_laws.specs.Columns.{Column}
 use Rattle.turn_laws.specs.Names.{is_name}
 use Rattle.turn_rules.specs.Held.{is_counter}
 
--- the nonces of resumptions.
-pub data Pool : Type 0 where
-  pools.Ticket : Pool
-  pools.Nonce : Pool
-
 -- A counter of the cluster, by the association's responder's SPI, a counter under its whole name,
 -- or a pool. Under their names stand the peer's counters, so that an association that takes an SPI
 -- which another one had has counters of its own. A name of the cluster that is no counter of an
