@@ -2,7 +2,7 @@
 use Rattle.std.proofs.Common.{◌≡◌, ℕ, zero, suc, ◌+◌, ◌*◌, ◌/◌, ◌%◌, ◌^◌, ◌<◌, ◌≤◌, List, [], ◌∷◌, ◌++◌, map, length, take, drop, get_or, refl, sym, ap, ◌∙◌, arith}
 use Rattle.std.specs.List.{range_with_len}
 use Rattle.std.specs.Int.{w32, to_le_bytes, from_le_bytes}
-use Rattle.std.specs.Int.Bits.{bit_xor}
+use Rattle.std.specs.Int.Bits.{bit_and, bit_xor, xor_zero_l, xor_zero_r}
 use Rattle.std.proofs.lemmas.List.{ext_get_or, drop-drop}
 use Rattle.std.proofs.lemmas.List.FromFn.{get_or-map-range_with_len, length-map-range_with_len}
 use Rattle.std.proofs.lemmas.Nat.{xor_shr, xor_mod, le_bytes_4}
@@ -103,3 +103,56 @@ mixed_is a b c d a8 b8 c8 d8 =
     word_of_xor (bit_xor (bit_xor (get_or ROW_0 a 0) (get_or ROW_1 b 0)) (get_or ROW_2 c 0)) (get_or ROW_3 d 0)
     ∙ ap (λ t. xored t (to_le_bytes w32 (get_or ROW_3 d 0))) (word_of_xor (bit_xor (get_or ROW_0 a 0) (get_or ROW_1 b 0)) (get_or ROW_2 c 0) ∙ ap (λ t. xored t (to_le_bytes w32 (get_or ROW_2 c 0))) (word_of_xor (get_or ROW_0 a 0) (get_or ROW_1 b 0)))
     ∙ (λ i. xored (xored (xored (first i) (second i)) (third i)) (fourth i))
+
+only_0 : ℕ → List ℕ
+only_0 s = s ∷ 0 ∷ 0 ∷ 0 ∷ []
+
+only_1 : ℕ → List ℕ
+only_1 s = 0 ∷ s ∷ 0 ∷ 0 ∷ []
+
+only_2 : ℕ → List ℕ
+only_2 s = 0 ∷ 0 ∷ s ∷ 0 ∷ []
+
+only_3 : ℕ → List ℕ
+only_3 s = 0 ∷ 0 ∷ 0 ∷ s ∷ []
+
+all_only_0 : map (λ a. to_le_bytes w32 (bit_and (get_or ROW_2 a 0) 0xff)) (range_with_len 0 256) ≡ map (λ a. only_0 (sub_byte a)) (range_with_len 0 256)
+unfolding only_0 sub_byte affine inverse inverse_below times times_low
+all_only_0 = refl
+
+all_only_1 : map (λ a. to_le_bytes w32 (bit_and (get_or ROW_3 a 0) 0xff00)) (range_with_len 0 256) ≡ map (λ a. only_1 (sub_byte a)) (range_with_len 0 256)
+unfolding only_1 sub_byte affine inverse inverse_below times times_low
+all_only_1 = refl
+
+all_only_2 : map (λ a. to_le_bytes w32 (bit_and (get_or ROW_0 a 0) 0xff0000)) (range_with_len 0 256) ≡ map (λ a. only_2 (sub_byte a)) (range_with_len 0 256)
+unfolding only_2 sub_byte affine inverse inverse_below times times_low
+all_only_2 = refl
+
+all_only_3 : map (λ a. to_le_bytes w32 (bit_and (get_or ROW_1 a 0) 0xff000000)) (range_with_len 0 256) ≡ map (λ a. only_3 (sub_byte a)) (range_with_len 0 256)
+unfolding only_3 sub_byte affine inverse inverse_below times times_low
+all_only_3 = refl
+
+-- four octets, each with zeros at the others' places, are joined
+joined : (p q r s : ℕ) → xored (xored (xored (only_0 p) (only_1 q)) (only_2 r)) (only_3 s) ≡ p ∷ q ∷ r ∷ s ∷ []
+unfolding xored only_0 only_1 only_2 only_3
+joined p q r s =
+    λ i. (xor_zero_r (bit_xor (bit_xor p 0) 0) ∙ xor_zero_r (bit_xor p 0) ∙ xor_zero_r p) i
+    ∷ (xor_zero_r (bit_xor (bit_xor 0 q) 0) ∙ xor_zero_r (bit_xor 0 q) ∙ xor_zero_l q) i
+    ∷ (xor_zero_r (bit_xor (bit_xor 0 0) r) ∙ xor_zero_l r) i
+    ∷ xor_zero_l s i ∷ []
+
+-- the column that four octets become in the last round
+pub substituted_is : (a b c d : ℕ) → a < 256 → b < 256 → c < 256 → d < 256 → to_le_bytes w32 (bit_xor (bit_xor (bit_xor (bit_and (get_or ROW_2 a 0) 0xff) (bit_and (get_or ROW_3 b 0) 0xff00)) (bit_and (get_or ROW_0 c 0) 0xff0000)) (bit_and (get_or ROW_1 d 0) 0xff000000)) ≡ sub_byte a ∷ sub_byte b ∷ sub_byte c ∷ sub_byte d ∷ []
+substituted_is a b c d a8 b8 c8 d8 =
+    let w = bit_and (get_or ROW_2 a 0) 0xff in
+    let x = bit_and (get_or ROW_3 b 0) 0xff00 in
+    let y = bit_and (get_or ROW_0 c 0) 0xff0000 in
+    let z = bit_and (get_or ROW_1 d 0) 0xff000000 in
+    let first = same_below [] (λ a. to_le_bytes w32 (bit_and (get_or ROW_2 a 0) 0xff)) (λ a. only_0 (sub_byte a)) all_only_0 a a8 in
+    let second = same_below [] (λ a. to_le_bytes w32 (bit_and (get_or ROW_3 a 0) 0xff00)) (λ a. only_1 (sub_byte a)) all_only_1 b b8 in
+    let third = same_below [] (λ a. to_le_bytes w32 (bit_and (get_or ROW_0 a 0) 0xff0000)) (λ a. only_2 (sub_byte a)) all_only_2 c c8 in
+    let fourth = same_below [] (λ a. to_le_bytes w32 (bit_and (get_or ROW_1 a 0) 0xff000000)) (λ a. only_3 (sub_byte a)) all_only_3 d d8 in
+    word_of_xor (bit_xor (bit_xor w x) y) z
+    ∙ ap (λ t. xored t (to_le_bytes w32 z)) (word_of_xor (bit_xor w x) y ∙ ap (λ t. xored t (to_le_bytes w32 y)) (word_of_xor w x))
+    ∙ (λ i. xored (xored (xored (first i) (second i)) (third i)) (fourth i))
+    ∙ joined (sub_byte a) (sub_byte b) (sub_byte c) (sub_byte d)

@@ -6,7 +6,6 @@ ghost use Rattle.std.specs.Int.{w32, to_le_bytes};
 ghost use Rattle.aes_gcm.specs.Aes.{cipher, mix_column, mix_columns, round_key, shift_rows, sub_byte, sub_bytes, word, xored};
 ghost use Rattle.aes_gcm.specs.Columns.{column_octets};
 
-use crate::cipher::S_BOX;
 use crate::rows::{ROW_0, ROW_1, ROW_2, ROW_3};
 
 /// The word number `i` of a key schedule.
@@ -78,18 +77,17 @@ fn middle_round(s: &[u32; 4], round_keys: &[u8; 240], round: usize) -> [u32; 4]
     add_round_key(&mixed, round_keys, round)
 }
 
-/// A column of the last round, which mixes none.
+/// A column of the last round, which mixes none. Each table has the substituted octet itself at the
+/// place that is taken of it.
 #[inline(always)]
 fn column(a: u32, b: u32, c: u32, d: u32) -> u32
     ensures { to_le_bytes w32 result ≡ sub_byte (a % 256) ∷ sub_byte (b / 2 ^ 8 % 256)
         ∷ sub_byte (c / 2 ^ 16 % 256) ∷ sub_byte (d / 2 ^ 24 % 256) ∷ [] }
 {
-    u32::from_le_bytes([
-        S_BOX[a as usize % 256],
-        S_BOX[(b >> 8) as usize % 256],
-        S_BOX[(c >> 16) as usize % 256],
-        S_BOX[(d >> 24) as usize % 256],
-    ])
+    (ROW_2[a as usize % 256] & 0xff)
+        ^ (ROW_3[(b >> 8) as usize % 256] & 0xff00)
+        ^ (ROW_0[(c >> 16) as usize % 256] & 0xff0000)
+        ^ (ROW_1[(d >> 24) as usize % 256] & 0xff000000)
 }
 
 #[inline(always)]

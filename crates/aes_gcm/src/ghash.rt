@@ -82,11 +82,11 @@ fn multiply(tables: &[u128; 128], a: u128) -> u128
     requires { IsHashTable tables.now }
     ensures { result ≡ product a (slice_index tables.now 8) }
 {
-    let mut sum = 0;
-    for step in 0..4u32 {
-        sum = times_x4(sum) ^ sum_of_windows(tables, a >> (4 * step));
-    }
-    sum
+    let first = sum_of_windows(tables, a);
+    let second = sum_of_windows(tables, a >> 4);
+    let third = sum_of_windows(tables, a >> 8);
+    let fourth = sum_of_windows(tables, a >> 12);
+    times_x4(times_x4(times_x4(first) ^ second) ^ third) ^ fourth
 }
 
 /// The element of a block of at most sixteen octets that zeros complete.

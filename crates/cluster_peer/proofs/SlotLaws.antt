@@ -11,6 +11,7 @@ use Rattle.events.specs.declared.verdict.Refusal.TheVariants as refusal
 use Rattle.events.specs.declared.verdict.Verdict.TheVariants as out
 use Rattle.ha_base.specs.declared.esp_outcomes.EspDrop.{EspDrop}
 use Rattle.ha_base.specs.declared.esp_outcomes.EspOpened.{EspOpened}
+use Rattle.ha_base.specs.declared.identities.GatewayId.{GatewayId}
 use Rattle.keeper_book.specs.CounterEnds.{end_of}
 use Rattle.keeper_book.specs.declared.counters.Counter.TheVariants as counter
 use Rattle.keeper_book.specs.declared.records.Record.{Record}
@@ -18,6 +19,7 @@ use Rattle.turn_rules.proofs.SlotTies.{admits-differ, apart-append}
 use Rattle.turn_rules.proofs.Ties.{received-refused, used-refused}
 use Rattle.turn_rules.specs.Held.{accepted, after_number, after_received, is_of_spir, received_in, used_in}
 use Rattle.turn_rules.specs.Packets.{IsVerdictOf}
+use Rattle.turn_rules.specs.PeerStates.{PeerHeld}
 use Rattle.turn_rules.specs.Peers.{AreDistinct, Differ, admits}
 use Rattle.turn_rules.specs.Slots.{Slot, SlotReceives, SlotSends, SlotTakes, entered_slot, peer_counter, records, slot_after}
 use Rattle.turn_rules.specs.Tasks as task
@@ -142,5 +144,8 @@ module _ (answer : EspVerdict) (after : List ℕ) (step : Step) (worded : IsVerd
     packet-after octets receives = received-after receives.opened receives.takes
 
 -- what is sent or received lets no association in
-pub no-entry : (slots : List Slot) → slots ++ [] ≡ slots
-no-entry slots = append-nil slots
+abbrev held_with : GatewayId → List Slot → PeerHeld
+held_with gateway slots = record { gateway = gateway; slots = slots }
+
+pub held-after : (asked : Task) (step : Step) (gateway : GatewayId) (old new : List Slot) → new ≡ map (slot_after asked step) old → held_with gateway new ≡ held_with gateway (map (slot_after asked step) old ++ [])
+held-after asked step gateway old new same = ap (held_with gateway) (same ∙ sym (append-nil (map (slot_after asked step) old)))

@@ -3,19 +3,19 @@ use Rattle.std.specs.Prelude.{ℕ, ◌≡◌, ◌<◌, Bool, true, None, List, l
 use Rattle.events.specs.declared.turn.Step.{Step}
 use Rattle.events.specs.declared.verdict.EspVerdict.{EspVerdict}
 use Rattle.events.specs.declared.verdict.EspVerdict.TheVariants as esp
-use Rattle.ha_base.specs.declared.identities.GatewayId.{GatewayId}
+use Rattle.ha_base.specs.declared.outside.Moment.{Moment}
 use Rattle.replay_set.specs.Window.{with_noted}
 use Rattle.turn_rules.specs.Packets.{IsVerdictOf}
-use Rattle.turn_rules.specs.Slots.{Slot, first_slot, slots_after}
+use Rattle.turn_rules.specs.PeerStates.{PeerHeld, peer_after}
+use Rattle.turn_rules.specs.Slots.{Slot, first_slot}
 use Rattle.turn_rules.specs.Tasks as task
 use Rattle.turn_rules.specs.Tasks.{Task}
 
--- what the peer holds: its gateway, the receive window of associations that come, its associations,
--- and for how many more there is room
-pub record PeerHeld : Type 0 where
-  pub gateway : GatewayId
+-- what the peer holds, the receive window of associations that come, and for how many more there is
+-- room
+pub record PeerWithRoom : Type 0 where
+  pub held : PeerHeld
   pub window : ℕ
-  pub slots : List Slot
   pub spare : ℕ
 
 -- associations, and for how many more there is room
@@ -36,13 +36,12 @@ slot_noted (esp.Accepted counter packet) slot =
     record slot { window = with_noted slot.window packet.number }
 slot_noted answer slot = slot
 
--- what the peer is after a task
-pub record IsPeerAfter (asked : Task) (step : Step) (old new : PeerHeld) : Type 0 where
-  pub gateway : new.gateway ≡ old.gateway
+-- what the peer is after a task, whatever the moment is
+pub record IsPeerAfter (asked : Task) (step : Step) (old new : PeerWithRoom) : Type 0 where
   pub window : new.window ≡ old.window
-  pub slots : new.slots ≡ slots_after old.window asked step old.slots
+  pub holds : (now : Moment) → new.held ≡ peer_after old.window now asked step old.held
 
 -- the same of a packet, by the step that words the answer
-abbrev pub IsPeerAfterPacket : EspVerdict → List ℕ → PeerHeld → PeerHeld → Type 0
+abbrev pub IsPeerAfterPacket : EspVerdict → List ℕ → PeerWithRoom → PeerWithRoom → Type 0
 IsPeerAfterPacket answer after old new = (step : Step) → IsVerdictOf answer after step.verdict
     → IsPeerAfter task.Receive step old new

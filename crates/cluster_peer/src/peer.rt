@@ -3,6 +3,7 @@ ghost use Rattle.cluster_peer.specs.Genuine.{PeerAcceptsGenuine};
 ghost use Rattle.events.specs.declared.verdict.Refusal.TheVariants as refusal;
 ghost use Rattle.replay_set.specs.Window.{IsWindowSize};
 ghost use Rattle.turn_rules.specs.Packets.{LiesWithin};
+ghost use Rattle.turn_rules.specs.PeerStates.{peer_begun};
 ghost use Rattle.turn_rules.specs.Peers.{admits};
 ghost use Rattle.turn_rules.specs.Slots.{PeerReceives, PeerSends, entered_slot, records};
 ghost use Rattle.turn_rules.specs.Tasks as task;
@@ -31,14 +32,13 @@ pub struct Peer {
 
 impl Model for Peer {
     ghost use Rattle.replay_set.specs.Window.{IsWindowSize};
-    ghost use Rattle.cluster_peer.specs.Slots.{PeerHeld};
+    ghost use Rattle.cluster_peer.specs.Slots.{PeerWithRoom};
 
-    ghost Value = { PeerHeld };
+    ghost Value = { PeerWithRoom };
 
     ghost view = { λ p. record {
-      gateway = p.gateway;
+      held = record { gateway = p.gateway; slots = p.slots.slots };
       window = p.window;
-      slots = p.slots.slots;
       spare = p.slots.spare;
     } };
 
@@ -50,9 +50,8 @@ impl Peer {
     /// 256, 512 or 1,024 numbers.
     pub fn new(alloc: Global, gateway: GatewayId, window: u32) -> Peer
         requires { IsWindowSize window }
-        ensures gateway { result.gateway ≡ gateway }
+        ensures begun { result.held ≡ peer_begun gateway }
         ensures window { result.window ≡ window }
-        ensures none { result.slots ≡ [] }
     {
         Peer {
             alloc,
@@ -65,8 +64,11 @@ impl Peer {
     /// Sets the gateway and the receive window, before any association came. It takes no memory.
     pub fn configure(&mut self, gateway: GatewayId, window: u32)
         requires window { IsWindowSize window }
-        requires none { self.old.slots ≡ [] }
-        ensures { self.new ≡ record self.old { gateway = gateway; window = window } }
+        requires none { self.old.held.slots ≡ [] }
+        ensures { self.new ≡ record self.old {
+          held = record self.old.held { gateway = gateway };
+          window = window;
+        } }
     {
         self.gateway = gateway;
         self.window = window;
@@ -75,7 +77,7 @@ impl Peer {
     /// Whether the peer has no association with this responder's SPI, and receives nowhere at this
     /// one's SPI.
     pub fn admits(&self, sa: &Record) -> bool
-        ensures { result ≡ admits (records self.now.slots) sa.now }
+        ensures { result ≡ admits (records self.now.held.slots) sa.now }
     {
         self.slots.admit(sa)
     }
@@ -91,11 +93,12 @@ impl Peer {
     /// Takes an association that was set up before the run, is admitted, and has room. It takes no
     /// memory.
     pub fn add(&mut self, sa: &Record)
-        requires admitted { admits (records self.old.slots) sa.now ≡ true }
+        requires admitted { admits (records self.old.held.slots) sa.now ≡ true }
         requires room { 0 < self.old.spare }
         ensures { self.new ≡ record self.old {
-          slots = self.old.slots
-              ++ entered_slot self.old.window sa.now ∷ [];
+          held = record self.old.held {
+            slots = self.old.held.slots ++ entered_slot self.old.window sa.now ∷ [];
+          };
           spare = self.new.spare;
         } }
     {
@@ -105,17 +108,18 @@ impl Peer {
     /// Takes an association that was set up before the run. It is refused `SpiInUse` exactly where
     /// it is not admitted. An error is want of memory, and the peer is then as it was.
     pub fn enter(&mut self, sa: &Record) -> Result<Step, Memory>
-        ensures entered { admits (records self.old.slots) sa.now ≡ true
+        ensures entered { admits (records self.old.held.slots) sa.now ≡ true
             → IfOk result (Says Verdict.Entered) }
-        ensures slot { admits (records self.old.slots) sa.now ≡ true
+        ensures slot { admits (records self.old.held.slots) sa.now ≡ true
             → OnOk result (self.new ≡ record self.old {
-              slots = self.old.slots
-                  ++ entered_slot self.old.window sa.now ∷ [];
+              held = record self.old.held {
+                slots = self.old.held.slots ++ entered_slot self.old.window sa.now ∷ [];
+              };
               spare = self.new.spare;
             }) }
-        ensures refused { admits (records self.old.slots) sa.now ≡ false
+        ensures refused { admits (records self.old.held.slots) sa.now ≡ false
             → IfOk result (Says (Verdict.Refused refusal.SpiInUse)) }
-        ensures unchanged { admits (records self.old.slots) sa.now ≡ false → self.new ≡ self.old }
+        ensures unchanged { admits (records self.old.held.slots) sa.now ≡ false → self.new ≡ self.old }
         ensures err { OnErr result (self.new ≡ record self.old { spare = self.new.spare }) }
     {
         if !self.admits(sa) {
@@ -131,7 +135,7 @@ impl Peer {
     /// end. An error is want of memory, and the peer is then as it was.
     pub fn send_data(&mut self, spir: u64, payload: &[u8]) -> Result<Step, Memory>
         requires { length payload.now ≤ PAYLOAD_OCTETS }
-        ensures sends { IfOk result (λ step. PeerSends spir self.old.slots payload.now step) }
+        ensures sends { IfOk result (λ step. PeerSends spir self.old.held.slots payload.now step) }
         ensures after { IfOk result (λ step. IsPeerAfter
             (task.Send spir payload.now) step self.old self.new) }
         ensures err { OnErr result (self.new ≡ self.old) }
@@ -144,9 +148,9 @@ impl Peer {
     /// it is accepted (RFC 4303, section 3.4). It takes no memory.
     pub fn receive_esp(&mut self, bytes: &mut [u8]) -> EspVerdict
         requires { length bytes.old ≤ DATAGRAM_OCTETS }
-        ensures receives { PeerReceives self.old.slots bytes.old result bytes.new }
+        ensures receives { PeerReceives self.old.held.slots bytes.old result bytes.new }
         ensures after { IsPeerAfterPacket result bytes.new self.old self.new }
-        ensures genuine { PeerAcceptsGenuine self.old.slots bytes.old result bytes.new }
+        ensures genuine { PeerAcceptsGenuine self.old.held.slots bytes.old result bytes.new }
         ensures within { LiesWithin result (length bytes.new) }
     {
         sealed_packets_open();

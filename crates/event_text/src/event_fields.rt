@@ -1,6 +1,6 @@
 //! The fields that only events have.
 
-ghost use Rattle.std.specs.Prelude.{◌≡◌, ◌≤◌};
+ghost use Rattle.std.specs.Prelude.{◌≡◌, ◌≤◌, IfOk, length};
 ghost use Rattle.ha_base.specs.declared.limits.TheConstants.{DATAGRAM_OCTETS};
 ghost use Rattle.line_fields.specs.Octets.{sized};
 ghost use Rattle.line_fields.specs.Fields.{Reads, field};
@@ -9,9 +9,9 @@ ghost use Rattle.events.specs.EventFields.{is_ticket_key_size, is_window_size, m
 
 use crate::read_fault::ReadFault;
 use events::{Medium, Party, Which};
-use ha_base::{DATAGRAM_OCTETS, NUMBER_END, OctetList, Octets};
+use ha_base::{Memory, NUMBER_END, OctetList, Octets};
 use line_fields::{
-    LineFault, LineReason, Words, at, list_word, number_word, octet_list, short_word,
+    LineFault, LineReason, Words, at, fill, list_word, number_word, short_word, size_word,
 };
 use std::alloc::Global;
 
@@ -129,7 +129,17 @@ pub(crate) fn ticket_key(words: &mut Words<'_>) -> Result<OctetList<36>, LineFau
     at(column, ticket_key_word(word))
 }
 
+fn zeros(alloc: Global, size: usize) -> Result<Vec<u8>, Memory>
+    ensures { IfOk result (λ octets. length octets.items ≡ size) }
+{
+    match vec![in alloc; 0u8; size] {
+        Ok(octets) => Ok(octets),
+        Err(_) => Err(Memory),
+    }
+}
+
 /// Octets of at most `most`, in memory.
+#[tactic(auto, unfolding(line_fields::specs::Fields::field))]
 pub(crate) fn octets_in_memory(
     alloc: Global,
     words: &mut Words<'_>,
@@ -138,8 +148,10 @@ pub(crate) fn octets_in_memory(
     requires { most ≤ DATAGRAM_OCTETS }
     ensures { GivesInLine (λ x. x.octets) result words.new (field (sized 0 most) words.old) }
 {
-    let read: OctetList<DATAGRAM_OCTETS> = octet_list(words, 0, most)?;
-    let mut octets = Octets::new(alloc);
-    octets.extend(read.as_slice())?;
-    Ok(octets)
+    let column = words.column();
+    let word = words.word()?;
+    let size = at(column, size_word(word, 0, most))?;
+    let mut octets = zeros(alloc, size)?;
+    fill(word, octets.as_mut_slice());
+    Ok(Octets::of(octets))
 }

@@ -15,6 +15,6 @@ pub use fields::{
     domain_name, esp_spi, identity, key_size, number, octet, octet_list, octets, short_number, spi,
 };
 pub use numbers::{number_word, short_word};
-pub use octet_words::{fill_hex, is_hex, list_word};
+pub use octet_words::{fill, fill_hex, is_hex, list_word, size_word};
 pub use split::octets_before;
 pub use words::Words;

@@ -16,7 +16,11 @@ fn is_lower(octet: u8) -> bool
 fn all_lower(word: &[u8]) -> bool
     ensures { result ≡ list_all is_lower word.now }
 {
-    word.iter().all(|octet| is_lower(*octet))
+    let mut lower = true;
+    for i in 0..word.len() {
+        lower &= is_lower(word[i]);
+    }
+    lower
 }
 
 /// Whether the word is whole octets in lower-case hexadecimal, at least one.
@@ -39,9 +43,9 @@ pub fn fill_hex(word: &[u8], out: &mut [u8])
     }
 }
 
-/// Writes the octets of a word.
+/// Writes the octets of a word over `out`, which has room for just these.
 #[tactic(auto, using(crate::proofs::OctetLaws::dash_fills))]
-fn fill(word: &[u8], out: &mut [u8])
+pub fn fill(word: &[u8], out: &mut [u8])
     requires octets { spells_octets word.now ≡ true }
     requires long { length word.now / 2 ≡ length out.old }
     ensures { out.new ≡ decoded word.now }
@@ -53,7 +57,7 @@ fn fill(word: &[u8], out: &mut [u8])
 }
 
 /// How many octets the word has, which is from `least` to `most`. `-` is no octets.
-fn size_word(word: &[u8], least: usize, most: usize) -> Result<usize, LineReason>
+pub fn size_word(word: &[u8], least: usize, most: usize) -> Result<usize, LineReason>
     ensures value { result ≡ size_of least most word.now }
     ensures octets { OnOk result (spells_octets word.now ≡ true) }
     ensures size { IfOk result (λ size. size ≡ length word.now / 2) }

@@ -1,11 +1,7 @@
 -- The ends of members, and the services that are left then.
 use Rattle.std.specs.Prelude.{ℕ, ◌-◌, Option, Some, None, List, [], ◌∷◌, slice_set}
 use Rattle.events.specs.declared.turn.Turn.{Turn}
-use Rattle.turn_rules.specs.States.{ended_by}
-
--- the member that ended in a turn
-abbrev pub ended_in : Turn → Option ℕ
-ended_in turn = ended_by turn.event turn.step.verdict
+use Rattle.turn_rules.specs.States.{ended_in}
 
 -- the member that ended in the newest turn
 abbrev pub ended_last : List Turn → Option ℕ

@@ -1,7 +1,8 @@
 //! The services that execute requests for members, each until its member ends.
 
 ghost use Rattle.std.specs.Prelude.{◌≡◌, map, Some, IfOk};
-ghost use Rattle.replay_world.specs.Crashes.{ended_in, services_after};
+ghost use Rattle.replay_world.specs.Crashes.{services_after};
+ghost use Rattle.turn_rules.specs.States.{ended_in};
 
 use events::{Event, Turn, Verdict};
 use ha_base::{Memory, Service};

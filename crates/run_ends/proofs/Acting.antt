@@ -12,33 +12,34 @@ use Rattle.events.specs.declared.verdict.Refusal.{Refusal}
 use Rattle.events.specs.declared.verdict.Refusal.TheVariants as refusal
 use Rattle.events.specs.declared.verdict.Verdict.{Verdict}
 use Rattle.events.specs.declared.verdict.Verdict.TheVariants as out
+use Rattle.ha_base.specs.declared.outside.Moment.{Moment}
 use Rattle.keeper_book.specs.declared.calls.Call.{Call}
 use Rattle.turn_rules.proofs.Refusals.{refusal-of_run}
 use Rattle.ha_base.specs.declared.limits.TheConstants.{MAX_DATAGRAMS}
 use Rattle.turn_rules.specs.Configurations.{configured_in}
 use Rattle.turn_rules.specs.Datagrams.{Delivery, arrives, datagrams_of}
 use Rattle.turn_rules.specs.Ends.{end_of_party, performer_of}
-use Rattle.turn_rules.specs.Fits.{Performs, Receives, Refuses, has_joined, is_of_datagrams, member_of, named_in, refused_absent, refused_arrival, refused_besides, refused_where, run_refusal}
+use Rattle.turn_rules.specs.Fits.{Does, Performs, Receives, Refuses, has_joined, is_of_datagrams, member_of, named_in, refused_absent, refused_arrival, refused_besides, refused_where, run_refusal}
 use Rattle.turn_rules.specs.States.{RunState, ended_by}
 use Rattle.turn_rules.specs.Steps.{Says}
 use Rattle.turn_rules.specs.Tasks as task
 use Rattle.turn_rules.specs.Tasks.{member_task, peer_task}
 use Rattle.cluster_member.specs.Members.{Holder, IsAfter}
 use Rattle.run_ends.proofs.Holding.{IsOf, IsOfEnd, member-holds, refused-holds}
-use Rattle.run_ends.proofs.Seats.{acted-in_place, counted, seat_is}
-use Rattle.run_ends.specs.Parties.{AreInPlace, DeliversTo, EndsHeld, IsMember, IsMemberPlace, Plays, has_member, holder_of, state_of}
+use Rattle.run_ends.proofs.Seats.{acted-in_place, counted, seat_of}
+use Rattle.run_ends.specs.Parties.{AreInPlace, DeliversTo, EndsHeld, IsMember, IsMemberPlace, Plays, has_member, holder_of, nobody, state_of}
 
 -- what the run refuses, and what it does not
-pub does-refused : (state : RunState) (at : Event) (why : Refusal) (calls : List Call) (step : Step) → run_refusal state at ≡ Some why → Refuses why calls step → MatchOption (run_refusal state at) (Performs state at calls step) (λ why. Refuses why calls step)
-does-refused state at why calls step e refuses = subst (λ x. MatchOption x (Performs state at calls step) (λ why. Refuses why calls step)) (sym e) refuses
+pub does-refused : (state : RunState) (moment : Moment) (at : Event) (why : Refusal) (calls : List Call) (step : Step) → run_refusal state at ≡ Some why → Refuses why calls step → Does state moment at calls step
+does-refused state moment at why calls step e refuses = subst (λ x. MatchOption x (Performs state moment at calls step) (λ why. Refuses why calls step)) (sym e) refuses
 
-pub does-performed : (state : RunState) (at : Event) (calls : List Call) (step : Step) → run_refusal state at ≡ None → Performs state at calls step → MatchOption (run_refusal state at) (Performs state at calls step) (λ why. Refuses why calls step)
-does-performed state at calls step e performs = subst (λ x. MatchOption x (Performs state at calls step) (λ why. Refuses why calls step)) (sym e) performs
+pub does-performed : (state : RunState) (moment : Moment) (at : Event) (calls : List Call) (step : Step) → run_refusal state at ≡ None → Performs state moment at calls step → Does state moment at calls step
+does-performed state moment at calls step e performs = subst (λ x. MatchOption x (Performs state moment at calls step) (λ why. Refuses why calls step)) (sym e) performs
 
-pub refused-plays : (past : List Turn) (s : EndsHeld) (at : Event) (why : Refusal) (step : Step) (new : EndsHeld) → AreInPlace s → run_refusal (state_of past s) at ≡ Some why → Says (out.Refused why) step → new ≡ s → Plays past s at [] step new
-refused-plays past s at why step new in_place e says same = subst (λ now. Plays past s at [] step now) (sym same) (record {
-  does = does-refused (state_of past s) at why [] step e (record { no_calls = refl; says = says });
-  holds = refused-holds past s at [] step why (refusal-of_run (state_of past s) at why e) says.said;
+pub refused-plays : (past : List Turn) (s : EndsHeld) (moment : Moment) (at : Event) (why : Refusal) (step : Step) (new : EndsHeld) → AreInPlace s → run_refusal (state_of past s) at ≡ Some why → Says (out.Refused why) step → new ≡ s → Plays past s moment at [] step new
+refused-plays past s moment at why step new in_place e says same = subst (λ now. Plays past s moment at [] step now) (sym same) (record {
+  does = does-refused (state_of past s) moment at why [] step e (record { no_calls = refl; says = says });
+  holds = refused-holds past s moment at [] step why (refusal-of_run (state_of past s) at why e) says.said;
   in_place = in_place;
 })
 
@@ -48,10 +49,10 @@ gives-datagrams (event.Send from spir payload) to d = refl
 gives-datagrams at to d = ap is_some d.1
 
 -- there is no room for one
-pub full-plays : (past : List Turn) (s : EndsHeld) (at : Event) (step : Step) → AreInPlace s → is_of_datagrams at ≡ true → nat_le MAX_DATAGRAMS (length (datagrams_of past)) ≡ true → Says (out.Refused refusal.DatagramsFull) step → Plays past s at [] step s
-full-plays past s at step in_place gives full says =
+pub full-plays : (past : List Turn) (s : EndsHeld) (moment : Moment) (at : Event) (step : Step) → AreInPlace s → is_of_datagrams at ≡ true → nat_le MAX_DATAGRAMS (length (datagrams_of past)) ≡ true → Says (out.Refused refusal.DatagramsFull) step → Plays past s moment at [] step s
+full-plays past s moment at step in_place gives full says =
     let besides = refused_absent (state_of past s) (named_in at) (refused_besides (state_of past s) at) in
-    refused-plays past s at refusal.DatagramsFull step s in_place
+    refused-plays past s moment at refusal.DatagramsFull step s in_place
     (ap (λ b. refused_where (b && nat_le MAX_DATAGRAMS (length (datagrams_of past))) refusal.DatagramsFull besides) gives
     ∙ ap (λ b. refused_where b refusal.DatagramsFull besides) full) says refl
 
@@ -92,25 +93,25 @@ module _ (state : RunState) (at : Event) (room : WithRoomFor state at) where
   pub of-peer : named_in at ≡ None → run_refusal state at ≡ refused_besides state at
   of-peer named = with-room ∙ ap (λ m. refused_absent state m (refused_besides state at)) named
 
-module _ (past : List Turn) (s : EndsHeld) (at : Event) (member : ℕ) (named : named_in at ≡ Some member) (room : WithRoomFor (state_of past s) at) (in_place : AreInPlace s) where
+module _ (past : List Turn) (s : EndsHeld) (moment : Moment) (at : Event) (member : ℕ) (named : named_in at ≡ Some member) (room : WithRoomFor (state_of past s) at) (in_place : AreInPlace s) where
   -- an event of a member that never joined
-  pub absent-plays : (step : Step) → has_member member s.members ≡ false → Says (out.Refused refusal.NoMember) step → Plays past s at [] step s
-  absent-plays step none says = refused-plays past s at refusal.NoMember step s in_place (no-member (state_of past s) at room member named none) says refl
+  pub absent-plays : (step : Step) → has_member member s.members ≡ false → Says (out.Refused refusal.NoMember) step → Plays past s moment at [] step s
+  absent-plays step none says = refused-plays past s moment at refusal.NoMember step s in_place (no-member (state_of past s) at room member named none) says refl
 
   module _ (place : ℕ) (x : Option Holder) (is : IsMemberPlace member place s.members) (seat : x ≡ get_or s.members place x) where
     ended-is : (state_of past s).ended member ≡ is_none x
-    ended-is = ap is_none (seat_is s.members member place x is seat)
+    ended-is = ap is_none (seat_of (Some nobody) s.members member place x is seat)
 
     -- of one that ended
-    pub down-plays : (step : Step) (new : EndsHeld) → x ≡ None → Says (out.Refused refusal.Down) step → new ≡ s → Plays past s at [] step new
-    down-plays step new none says same = refused-plays past s at refusal.Down step new in_place (is-down (state_of past s) at room member named is.joined (ended-is ∙ ap is_none none)) says same
+    pub down-plays : (step : Step) (new : EndsHeld) → x ≡ None → Says (out.Refused refusal.Down) step → new ≡ s → Plays past s moment at [] step new
+    down-plays step new none says same = refused-plays past s moment at refusal.Down step new in_place (is-down (state_of past s) at room member named is.joined (ended-is ∙ ap is_none none)) says same
 
     -- of one that is up
     pub up-refusal : (was : Holder) → x ≡ Some was → run_refusal (state_of past s) at ≡ refused_besides (state_of past s) at
     up-refusal was some = is-up (state_of past s) at room member named is.joined (ended-is ∙ ap is_none some)
 
     pub its-seat : (was : Holder) → x ≡ Some was → holder_of s.members member ≡ Some was
-    its-seat was some = seat_is s.members member place x is seat ∙ some
+    its-seat was some = seat_of (Some nobody) s.members member place x is seat ∙ some
 
     pub its-member : (was : Holder) → x ≡ Some was → IsMember member s.config was
     its-member was some =
@@ -118,14 +119,14 @@ module _ (past : List Turn) (s : EndsHeld) (at : Event) (member : ℕ) (named : 
         subst (λ n. IsMember n s.config was) (sym e) (in_place place was is.within (ap (holder_of s.members) (sym e) ∙ its-seat was some))
 
     pub acts-plays : (of : IsOf at member) (was now : Holder) (calls : List Call) (step : Step) (new : EndsHeld) → x ≡ Some was → refused_besides (state_of past s) at ≡ None
-        → ended_by at step.verdict ≡ None → IsOfEnd step.verdict → Performs (state_of past s) at calls step → IsAfter (member_task at) calls step was now
-        → new ≡ record s { members = set s.members place (Some now) } → Plays past s at calls step new
+        → ended_by at step.verdict ≡ None → IsOfEnd step.verdict → Performs (state_of past s) moment at calls step → IsAfter (member_task at) calls step was now
+        → new ≡ record s { members = set s.members place (Some now) } → Plays past s moment at calls step new
     acts-plays of was now calls step new some free no_end said performs after leaves =
         let e : member ≡ suc place = counted member place s.members is in
         let mine : IsMember member s.config was = its-member was some in
-        subst (λ later. Plays past s at calls step later) (sym leaves) (record {
-          does = does-performed (state_of past s) at calls step (up-refusal was some ∙ free) performs;
-          holds = member-holds past s at calls step place is.within (subst (IsOf at) e of) said no_end was now (ap (holder_of s.members) (sym e) ∙ its-seat was some) mine.config_is after;
+        subst (λ later. Plays past s moment at calls step later) (sym leaves) (record {
+          does = does-performed (state_of past s) moment at calls step (up-refusal was some ∙ free) performs;
+          holds = member-holds past s moment at calls step place is.within (subst (IsOf at) e of) said no_end was now (ap (holder_of s.members) (sym e) ∙ its-seat was some) mine.config_is after;
           in_place = acted-in_place s place now is.within in_place (record {
             number_is = after.number ∙ mine.number_is ∙ e;
             config_is = after.config ∙ mine.config_is;
@@ -136,7 +137,7 @@ module _ (past : List Turn) (s : EndsHeld) (at : Event) (member : ℕ) (named : 
 pub record Brings (at : Event) (to : Party) : Type 0 where
   pub named : named_in at ≡ member_of to
   pub besides : (state : RunState) → refused_besides state at ≡ refused_arrival (arrives state.datagrams at)
-  pub performs : (state : RunState) (calls : List Call) (step : Step) → Receives state to (arrives state.datagrams at) calls step → Performs state at calls step
+  pub performs : (state : RunState) (moment : Moment) (calls : List Call) (step : Step) → Receives state moment to (arrives state.datagrams at) calls step → Performs state moment at calls step
   pub by : (verdict : Verdict) → performer_of at verdict ≡ Some (end_of_party to)
   pub member : member_task at ≡ task.Receive
   pub peer : peer_task at ≡ task.Receive
@@ -147,8 +148,8 @@ same-party : (x y : Delivery) → Some x ≡ Some y → x.to ≡ y.to
 same-party x y e = ap (λ (d : Delivery). d.to) (same_Some x y e)
 
 pub brings : (at : Event) (to : Party) → DeliversTo at to → Brings at to
-brings (event.Deliver which reached) to d = subst (λ p. Brings (event.Deliver which reached) p) (same-party _ _ d.1) (record { named = refl; besides = λ state. refl; performs = λ state calls step r. r; by = λ v. refl; member = refl; peer = refl; no_config = λ v. refl; no_end = λ v. refl })
-brings (event.Alter which reached place octet) to d = subst (λ p. Brings (event.Alter which reached place octet) p) (same-party _ _ d.1) (record { named = refl; besides = λ state. refl; performs = λ state calls step r. r; by = λ v. refl; member = refl; peer = refl; no_config = λ v. refl; no_end = λ v. refl })
-brings (event.Cut which reached keep) to d = subst (λ p. Brings (event.Cut which reached keep) p) (same-party _ _ d.1) (record { named = refl; besides = λ state. refl; performs = λ state calls step r. r; by = λ v. refl; member = refl; peer = refl; no_config = λ v. refl; no_end = λ v. refl })
-brings (event.Inject reached medium octets) to d = subst (λ p. Brings (event.Inject reached medium octets) p) (same-party _ _ d.1) (record { named = refl; besides = λ state. refl; performs = λ state calls step r. r; by = λ v. refl; member = refl; peer = refl; no_config = λ v. refl; no_end = λ v. refl })
+brings (event.Deliver which reached) to d = subst (λ p. Brings (event.Deliver which reached) p) (same-party _ _ d.1) (record { named = refl; besides = λ state. refl; performs = λ state moment calls step r. r; by = λ v. refl; member = refl; peer = refl; no_config = λ v. refl; no_end = λ v. refl })
+brings (event.Alter which reached place octet) to d = subst (λ p. Brings (event.Alter which reached place octet) p) (same-party _ _ d.1) (record { named = refl; besides = λ state. refl; performs = λ state moment calls step r. r; by = λ v. refl; member = refl; peer = refl; no_config = λ v. refl; no_end = λ v. refl })
+brings (event.Cut which reached keep) to d = subst (λ p. Brings (event.Cut which reached keep) p) (same-party _ _ d.1) (record { named = refl; besides = λ state. refl; performs = λ state moment calls step r. r; by = λ v. refl; member = refl; peer = refl; no_config = λ v. refl; no_end = λ v. refl })
+brings (event.Inject reached medium octets) to d = subst (λ p. Brings (event.Inject reached medium octets) p) (same-party _ _ d.1) (record { named = refl; besides = λ state. refl; performs = λ state moment calls step r. r; by = λ v. refl; member = refl; peer = refl; no_config = λ v. refl; no_end = λ v. refl })
 brings at to d = absurd (let e = d.1 in cc)

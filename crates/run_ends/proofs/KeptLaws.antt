@@ -11,18 +11,19 @@ use Rattle.turn_rules.specs.Configurations.{default_configuration, gateway_of}
 use Rattle.turn_rules.specs.Datagrams.{PlainDatagram}
 use Rattle.turn_rules.specs.Fits.{Does}
 use Rattle.turn_rules.specs.Local.{AreShown, IsExplained, Local}
-use Rattle.turn_rules.specs.States.{RunState, state_after, state_by}
+use Rattle.turn_rules.specs.PeerStates.{peer_begun}
+use Rattle.turn_rules.specs.States.{RunState, has_turns, no_member, state_after, state_by}
 use Rattle.cluster_member.specs.Members.{Holder}
 use Rattle.run_ends.proofs.Verdicts.{does-few}
-use Rattle.run_ends.specs.Parties.{AreKept, EndsHeld, IsShort, Plays, given_of, held_in, holder_of, state_of}
+use Rattle.run_ends.specs.Parties.{AreKept, EndsHeld, IsShort, Plays, holder_of, member_in, state_of}
 
 all-append : (xs ys : List PlainDatagram) → AllByRecursion IsShort xs → AllByRecursion IsShort ys → AllByRecursion IsShort (xs ++ ys)
 all-append [] ys a b = b
 all-append (x ∷ xs) ys a b = (a.0, all-append xs ys a.1 b)
 
 -- before the first turn there are no associations and no members
-pub nothing-first : (past : List Turn) (s : EndsHeld) → AreKept past s → past ≡ [] → (s.slots ≡ []) × (s.members ≡ [])
-nothing-first [] s k e = (ap (λ (x : RunState). x.slots) k.state, no_members s.members (ap (λ (x : RunState). x.joined) k.state))
+pub nothing-first : (past : List Turn) (s : EndsHeld) → AreKept past s → past ≡ [] → (s.peer.slots ≡ []) × (s.members ≡ [])
+nothing-first [] s k e = (ap (λ (x : RunState). x.peer.slots) k.state, no_members s.members (ap (λ (x : RunState). x.joined) k.state))
   where
     no_members : (members : List (Option Holder)) → length members ≡ 0 → members ≡ []
     no_members [] e = refl
@@ -34,15 +35,11 @@ first-gone : (k : ℕ) → is_none (holder_of [] k) ≡ false
 first-gone zero = refl
 first-gone (suc k) = refl
 
-first-given : (k : ℕ) → given_of [] k ≡ None
-first-given zero = refl
-first-given (suc k) = refl
+first-member : (k : ℕ) → member_in [] k ≡ no_member
+first-member zero = refl
+first-member (suc k) = refl
 
-first-held : (k spir : ℕ) → held_in (holder_of [] k) spir ≡ None
-first-held zero spir = refl
-first-held (suc k) spir = refl
-
-pub kept-at_first : (boxes : ℕ) → AreKept [] (record { boxes = boxes; config = default_configuration; gateway = gateway_of default_configuration; slots = []; members = [] })
+pub kept-at_first : (boxes : ℕ) → AreKept [] (record { boxes = boxes; config = default_configuration; peer = peer_begun (gateway_of default_configuration); members = [] })
 kept-at_first boxes = record {
   state = λ i. record {
     boxes = boxes;
@@ -51,10 +48,8 @@ kept-at_first boxes = record {
     joined = 0;
     ended = λ k. first-gone k i;
     datagrams = [];
-    gateway = gateway_of default_configuration;
-    slots = [];
-    members = λ k. first-given k i;
-    held = λ k spir. first-held k spir i;
+    peer = peer_begun (gateway_of default_configuration);
+    members = λ k. first-member k i;
   };
   in_place = λ place holder l sits. absurd (omega (arith, l));
   short = tt;
@@ -69,20 +64,27 @@ none-played (turn ∷ past) turns count none =
     let both : true ≡ false = sym (lt-ltb 0 turns (omega (arith, more))) ∙ none in
     absurd (cc)
 
-module _ (past : List Turn) (turn : Turn) (s new : EndsHeld) (k : AreKept past s) (fits : Fits (plain turn.event)) (shown : AreShown turn.calls) (answers : AreAnswers turn.calls) (p : Plays past s turn.event turn.calls turn.step new) where
+-- and some are some
+pub some-played : (past : List Turn) (turns : ℕ) → turns ≡ length past → nat_lt 0 turns ≡ true → has_turns past ≡ true
+some-played [] turns count some =
+    let none : nat_lt 0 0 ≡ true = subst (λ n. nat_lt 0 n ≡ true) count some in
+    absurd (cc)
+some-played (turn ∷ past) turns count some = refl
+
+module _ (past : List Turn) (turn : Turn) (s new : EndsHeld) (k : AreKept past s) (fits : Fits (plain turn.event)) (shown : AreShown turn.calls) (answers : AreAnswers turn.calls) (p : Plays past s turn.moment turn.event turn.calls turn.step new) where
   pub few : length turn.calls ≤ 1
-  few = (does-few (state_of past s) turn.calls turn.step turn.event fits p.does).0
+  few = (does-few (state_of past s) turn.moment turn.calls turn.step turn.event fits p.does).0
 
   pub boxes-stay : new.boxes ≡ s.boxes
   boxes-stay = ap (λ (x : RunState). x.boxes) p.holds
 
   explained : IsExplained s.boxes past turn
-  explained = record { fits = subst (λ state. Does state turn.event turn.calls turn.step) k.state p.does; shown = shown; answers = answers }
+  explained = record { fits = subst (λ state. Does state turn.moment turn.event turn.calls turn.step) k.state p.does; shown = shown; answers = answers }
 
   pub kept : AreKept (turn ∷ past) new
   kept = record {
-    state = p.holds ∙ ap (state_after turn.event turn.calls turn.step) k.state ∙ ap (λ boxes. state_by boxes (turn ∷ past)) (sym boxes-stay);
+    state = p.holds ∙ ap (state_after turn.moment turn.event turn.calls turn.step) k.state ∙ ap (λ boxes. state_by boxes (turn ∷ past)) (sym boxes-stay);
     in_place = p.in_place;
-    short = all-append _ _ k.short (does-few (state_of past s) turn.calls turn.step turn.event fits p.does).1;
+    short = all-append _ _ k.short (does-few (state_of past s) turn.moment turn.calls turn.step turn.event fits p.does).1;
     local = subst (λ boxes. Local boxes (turn ∷ past)) (sym boxes-stay) (explained, k.local);
   }

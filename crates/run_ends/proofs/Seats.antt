@@ -4,11 +4,10 @@ use Rattle.std.proofs.Math.ListN.{set}
 use Rattle.std.proofs.lemmas.Bool.{and_parts, cases_lt, eqb-false, eqb-true, ltb-true}
 use Rattle.std.proofs.lemmas.List.{get_or_append_left, get_or_at, get_or_default, get_or_past, get_or-set_same, get_or-set_other, length-append, length-set, set-get_or}
 use Rattle.std.proofs.lemmas.Option.{same_Some}
-use Rattle.std.specs.Option.{option_map}
 use Rattle.std.specs.Prelude.{is_none, nat_le, nat_lt}
-use Rattle.turn_rules.specs.States.{held_unless}
+use Rattle.turn_rules.specs.States.{member_unless}
 use Rattle.cluster_member.specs.Members.{Holder}
-use Rattle.run_ends.specs.Parties.{AreInPlace, EndsHeld, IsMember, IsMemberPlace, given_of, given_to, held_in, holder_of, nobody, seat_or}
+use Rattle.run_ends.specs.Parties.{AreInPlace, EndsHeld, IsMember, IsMemberPlace, holder_of, member_in, member_seen, nobody, seat_or}
 
 -- the members are counted from 1
 pub counted : (member place : ℕ) (members : List (Option Holder)) → IsMemberPlace member place members → member ≡ suc place
@@ -17,25 +16,20 @@ counted member place members is =
     let at : place ≡ member - 1 = is.counted in
     omega (arith, some, at)
 
--- who is at the place of a member
-pub seat_is : (members : List (Option Holder)) (member place : ℕ) (x : Option Holder) → IsMemberPlace member place members → x ≡ get_or members place x → holder_of members member ≡ x
-seat_is members member place x is at = ap (holder_of members) (counted member place members is) ∙ get_or_default members place (Some nobody) x is.within ∙ sym at
+-- who is at the place of a member, whoever stands for nobody
+pub seat_of : (none : Option Holder) (members : List (Option Holder)) (member place : ℕ) (x : Option Holder) → IsMemberPlace member place members → x ≡ get_or members place x → seat_or none members member ≡ x
+seat_of none members member place x is at = ap (seat_or none members) (counted member place members is) ∙ get_or_default members place none x is.within ∙ sym at
 
 -- a place whose member is put back
 pub put_back : (members : List (Option Holder)) (place : ℕ) (x : Option Holder) → x ≡ get_or members place x → set members place x ≡ members
 put_back members place x at = ap (set members place) at ∙ set-get_or members place x
 
 -- nobody holds anything where nobody is
-pub unless-none : (x : Option Holder) (spir : ℕ) → held_in x spir ≡ held_unless (is_none x) (held_in x spir)
-unless-none None spir = refl
-unless-none (Some holder) spir = refl
-
--- and what a member was given, it has no more once it ended
-pub unless-given : (members : List (Option Holder)) (k : ℕ) → given_of members k ≡ held_unless (is_none (holder_of members k)) (given_of members k)
-unless-given members zero = refl
-unless-given members (suc k) = go members k
+pub unless-seen : (members : List (Option Holder)) (k : ℕ) → member_in members k ≡ member_unless (is_none (holder_of members k)) (member_in members k)
+unless-seen members zero = refl
+unless-seen members (suc k) = go members k
   where
-    go : (members : List (Option Holder)) (k : ℕ) → given_of members (suc k) ≡ held_unless (is_none (holder_of members (suc k))) (given_of members (suc k))
+    go : (members : List (Option Holder)) (k : ℕ) → member_in members (suc k) ≡ member_unless (is_none (holder_of members (suc k))) (member_in members (suc k))
     go [] k = refl
     go (None ∷ more) zero = refl
     go (Some x ∷ more) zero = refl
@@ -83,17 +77,6 @@ module _ (members : List (Option Holder)) (x : Holder) where
           let long : length more ≤ k = omega (arith, more-length, after, apart) in
           subst P (get_or_past members k (Some nobody) after ∙ sym (get_or_past more k (Some nobody) long)) old
 
-  pub more-held : x.held ≡ [] → (k spir : ℕ) → held_in (holder_of more k) spir ≡ held_in (holder_of members k) spir
-  more-held none zero spir = refl
-  more-held none (suc k) spir = ⊎_elim
-      (λ before. ap (λ (y : Option Holder). held_in y spir) (get_or_append_left members (Some x ∷ []) (Some nobody) k before))
-      (λ after. more-seat (λ y. held_in y spir ≡ None) (suc k) (empty none) (ap (λ (y : Option Holder). held_in y spir) (get_or_past members k (Some nobody) after))
-      ∙ sym (ap (λ (y : Option Holder). held_in y spir) (get_or_past members k (Some nobody) after)))
-      (cases_lt k (length members))
-    where
-      empty : x.held ≡ [] → held_in (Some x) spir ≡ None
-      empty none = rw none refl
-
   pub more-gone : (k : ℕ) → is_none (holder_of more k) ≡ is_none (holder_of members k)
   more-gone zero = refl
   more-gone (suc k) = ⊎_elim
@@ -101,18 +84,18 @@ module _ (members : List (Option Holder)) (x : Holder) where
       (λ after. more-seat (λ y. is_none y ≡ false) (suc k) refl (ap is_none (get_or_past members k (Some nobody) after)) ∙ sym (ap is_none (get_or_past members k (Some nobody) after)))
       (cases_lt k (length members))
 
-  -- what the one more was given, and the others
-  pub more-given_here : given_of more (suc (length members)) ≡ Some (given_to x)
-  more-given_here = ap (option_map given_to) (get_or_at members (Some x) [] None (length members) refl)
+  -- what the one more holds, and the others
+  pub more-seen_here : member_in more (suc (length members)) ≡ member_seen (Some x)
+  more-seen_here = ap member_seen (get_or_at members (Some x) [] None (length members) refl)
 
-  pub more-given_there : (k : ℕ) → (k == suc (length members)) ≡ false → given_of more k ≡ given_of members k
-  more-given_there zero other = refl
-  more-given_there (suc k) other = ⊎_elim
-      (λ before. ap (option_map given_to) (get_or_append_left members (Some x ∷ []) None k before))
+  pub more-seen_there : (k : ℕ) → (k == suc (length members)) ≡ false → member_in more k ≡ member_in members k
+  more-seen_there zero other = refl
+  more-seen_there (suc k) other = ⊎_elim
+      (λ before. ap member_seen (get_or_append_left members (Some x ∷ []) None k before))
       (λ after.
       let apart = eqb-false (suc k) (suc (length members)) other in
       let long : length more ≤ k = omega (arith, more-length, after, apart) in
-      ap (option_map given_to) (get_or_past more k None long ∙ sym (get_or_past members k None after)))
+      ap member_seen (get_or_past more k None long ∙ sym (get_or_past members k None after)))
       (cases_lt k (length members))
 
 -- the members are in their places after one of them acted

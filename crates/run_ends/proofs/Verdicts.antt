@@ -23,6 +23,7 @@ use Rattle.ha_base.specs.declared.esp_outcomes.EspDrop.TheVariants as drop
 use Rattle.ha_base.specs.declared.esp_outcomes.EspOpened.{EspOpened}
 use Rattle.horizons.specs.declared.stop.Stop.{Stop}
 use Rattle.horizons.specs.declared.stop.Stop.TheVariants as stop
+use Rattle.ha_base.specs.declared.outside.Moment.{Moment}
 use Rattle.keeper_book.specs.Counters.{five_at}
 use Rattle.keeper_book.specs.Told.{seen}
 use Rattle.keeper_book.specs.declared.calls.Call.{Call}
@@ -231,7 +232,7 @@ pub peer_takes-proper : (slots : List Slot) (octets : List ℕ) (calls : List Ca
 peer_takes-proper slots octets calls step t = peer_received-proper calls step t.answer t.after t.worded t.quiet slots octets t.no_calls t.receives
 
 -- of each event: by one call at most, and nothing long is given
-module _ (state : RunState) (calls : List Call) (step : Step) where
+module _ (state : RunState) (moment : Moment) (calls : List Call) (step : Step) where
   abbrev IsFew : Type 0
   IsFew = (length calls ≤ 1) × IsBrief step
 
@@ -245,30 +246,30 @@ module _ (state : RunState) (calls : List Call) (step : Step) where
   imports-few sa true r = yields-few (out.Refused refusal.SpiInUse) r
   imports-few sa false quietly = proper-few (enters-proper sa calls step quietly)
 
-  receives-few : (to : Party) (found : Result PlainDatagram Refusal) → Receives state to found calls step → IsFew
+  receives-few : (to : Party) (found : Result PlainDatagram Refusal) → Receives state moment to found calls step → IsFew
   receives-few to (Err why) r = absurd r
-  receives-few parties.Peer (Ok datagram) r = proper-few (peer_takes-proper state.slots datagram.octets calls step r)
-  receives-few (parties.Member member) (Ok datagram) r = proper-few (member_takes-proper (state.held member) datagram.octets calls step r)
+  receives-few parties.Peer (Ok datagram) r = proper-few (peer_takes-proper state.peer.slots datagram.octets calls step r)
+  receives-few (parties.Member member) (Ok datagram) r = proper-few (member_takes-proper (state.members member).held datagram.octets calls step r)
 
-  performs-few : (at : Event) → Fits (plain at) → Performs state at calls step → IsFew
+  performs-few : (at : Event) → Fits (plain at) → Performs state moment at calls step → IsFew
   performs-few (event.Cluster identity lifetime window ticket_key) fits p = yields-few out.Configured p
-  performs-few (event.Import sa) fits p = imports-few sa (not (admits (records state.slots) sa)) p
+  performs-few (event.Import sa) fits p = imports-few sa (not (admits (records state.peer.slots) sa)) p
   performs-few (event.Join fresh) fits p = yields-few _ p
   performs-few (event.Own member spir) fits p = proper-few (takes-proper spir member calls step p)
-  performs-few (event.Draw member spir) fits p = proper-few (draws-proper (state.held member spir) calls step p)
+  performs-few (event.Draw member spir) fits p = proper-few (draws-proper ((state.members member).held spir) calls step p)
   performs-few (event.Crash member) fits p = yields-few out.Down p
   performs-few (event.Send parties.Peer spir payload) fits p =
-      (none-few calls p.0, (peer_sends-proper spir state.slots payload.octets step (fits_send parties.Peer spir payload fits) p.1).brief)
+      (none-few calls p.0, (peer_sends-proper spir state.peer.slots payload.octets step (fits_send parties.Peer spir payload fits) p.1).brief)
   performs-few (event.Send (parties.Member member) spir payload) fits p =
-      proper-few (sends-proper (state.held member spir) payload.octets calls step (fits_send (parties.Member member) spir payload fits) p)
+      proper-few (sends-proper ((state.members member).held spir) payload.octets calls step (fits_send (parties.Member member) spir payload fits) p)
   performs-few (event.Deliver which to) fits p = receives-few to (arrives state.datagrams (event.Deliver which to)) p
   performs-few (event.Alter which to place octet) fits p = receives-few to (arrives state.datagrams (event.Alter which to place octet)) p
   performs-few (event.Cut which to keep) fits p = receives-few to (arrives state.datagrams (event.Cut which to keep)) p
   performs-few (event.Inject to medium octets) fits p = receives-few to (arrives state.datagrams (event.Inject to medium octets)) p
 
-  pub does-few : (at : Event) → Fits (plain at) → Does state at calls step → IsFew
+  pub does-few : (at : Event) → Fits (plain at) → Does state moment at calls step → IsFew
   does-few at fits does = go (run_refusal state at) does
     where
-      go : (x : Option Refusal) → MatchOption x (Performs state at calls step) (λ why. Refuses why calls step) → IsFew
+      go : (x : Option Refusal) → MatchOption x (Performs state moment at calls step) (λ why. Refuses why calls step) → IsFew
       go None p = performs-few at fits p
       go (Some why) r = yields-few (out.Refused why) r

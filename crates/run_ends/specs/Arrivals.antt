@@ -10,7 +10,7 @@ use Rattle.turn_rules.specs.Fits.{Refuses}
 use Rattle.turn_rules.specs.Held.{held_at}
 use Rattle.turn_rules.specs.Tasks as task
 use Rattle.cluster_member.specs.Members.{Holder, IsAfter}
-use Rattle.cluster_peer.specs.Slots.{IsPeerAfter, PeerHeld}
+use Rattle.cluster_peer.specs.Slots.{IsPeerAfter, PeerWithRoom}
 
 -- an IKE message is refused, and an ESP packet is received by the rule
 abbrev pub MemberTakesIn : Medium → List ℕ → List Call → Step → Holder → Holder → Type 0
@@ -19,7 +19,7 @@ MemberTakesIn medium.Ike octets calls step old new =
 MemberTakesIn medium.Esp octets calls step old new =
     MemberTakes (held_at old.held) octets calls step × IsAfter task.Receive calls step old new
 
-abbrev pub PeerTakesIn : Medium → List ℕ → Step → PeerHeld → PeerHeld → Type 0
+abbrev pub PeerTakesIn : Medium → List ℕ → Step → PeerWithRoom → PeerWithRoom → Type 0
 PeerTakesIn medium.Ike octets step old new = Refuses refusal.NotBuilt [] step × (new ≡ old)
-PeerTakesIn medium.Esp octets step old new = PeerTakes old.slots octets [] step
+PeerTakesIn medium.Esp octets step old new = PeerTakes old.held.slots octets [] step
     × IsPeerAfter task.Receive step old new

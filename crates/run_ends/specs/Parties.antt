@@ -8,26 +8,25 @@ use Rattle.events.specs.declared.event.Party.{Party}
 use Rattle.events.specs.declared.turn.Step.{Step}
 use Rattle.events.specs.declared.turn.Turn.{Turn}
 use Rattle.events.specs.declared.verdict.Refusal.{Refusal}
-use Rattle.ha_base.specs.declared.identities.GatewayId.{GatewayId}
 use Rattle.ha_base.specs.declared.limits.TheConstants.{DATAGRAM_OCTETS, MAX_DATAGRAMS}
+use Rattle.ha_base.specs.declared.outside.Moment.{Moment}
 use Rattle.keeper_book.specs.declared.calls.Call.{Call}
 use Rattle.turn_rules.specs.Configurations.{Configuration, Membership, default_configuration, first_ticket_key, membership}
 use Rattle.turn_rules.specs.Datagrams.{PlainDatagram, datagrams_of, delivery_of, plain_datagram}
 use Rattle.turn_rules.specs.Fits.{Does}
-use Rattle.turn_rules.specs.Held.{Held, held_at}
+use Rattle.turn_rules.specs.Held.{held_at}
 use Rattle.turn_rules.specs.Local.{Local}
-use Rattle.turn_rules.specs.Slots.{Slot}
-use Rattle.turn_rules.specs.States.{RunState, has_turns, state_after, state_by}
+use Rattle.turn_rules.specs.PeerStates.{PeerHeld}
+use Rattle.turn_rules.specs.States.{MemberHeld, RunState, has_turns, no_member, state_after, state_by}
 use Rattle.cluster_member.specs.Members.{Holder}
 
 -- boxes: how many services were handed in for members; config: how members are configured that
--- join; gateway and slots: where the peer sends, and its associations; members: what each member
--- holds that joined, and nothing where it ended
+-- join; peer: what the peer holds; members: what each member holds that joined, and nothing where it
+-- ended
 pub record EndsHeld : Type 0 where
   pub boxes : ℕ
   pub config : Configuration
-  pub gateway : GatewayId
-  pub slots : List Slot
+  pub peer : PeerHeld
   pub members : List (Option Holder)
 
 -- a member that has not joined
@@ -48,14 +47,14 @@ holder_of members number = seat_or (Some nobody) members number
 abbrev pub given_to : Holder → Membership
 given_to holder = membership holder.config holder.fresh
 
--- what the member of this number was given, where it joined and did not end
-abbrev pub given_of : List (Option Holder) → ℕ → Option Membership
-given_of members number = option_map given_to (seat_or None members number)
-
 -- what is held where somebody is
-abbrev pub held_in : Option Holder → ℕ → Option Held
-held_in None spir = None
-held_in (Some holder) spir = held_at holder.held spir
+abbrev pub member_seen : Option Holder → MemberHeld
+member_seen None = no_member
+member_seen (Some holder) = record { given = Some (given_to holder); held = held_at holder.held }
+
+-- what the member of this number holds, where it joined and did not end
+abbrev pub member_in : List (Option Holder) → ℕ → MemberHeld
+member_in members number = member_seen (seat_or None members number)
 
 -- what the ends hold, whether anything was played, and what was given
 abbrev pub state_with : Bool → List PlainDatagram → EndsHeld → RunState
@@ -66,10 +65,8 @@ state_with started datagrams s = record {
   joined = length s.members;
   ended = λ member. is_none (holder_of s.members member);
   datagrams = datagrams;
-  gateway = s.gateway;
-  slots = s.slots;
-  members = λ member. given_of s.members member;
-  held = λ member spir. held_in (holder_of s.members member) spir;
+  peer = s.peer;
+  members = λ member. member_in s.members member;
 }
 
 -- what the ends hold after these turns
@@ -106,12 +103,12 @@ abbrev pub DeliversTo : Event → Party → Type 0
 DeliversTo at to = (made : List PlainDatagram → Result PlainDatagram Refusal)
     × (delivery_of at ≡ Some (record { to = to; made = made }))
 
--- what the ends do at an event after these turns, by what they hold, and that they hold then what
--- the turn makes of it
-pub record Plays (past : List Turn) (old : EndsHeld) (at : Event) (calls : List Call) (step : Step)
-    (new : EndsHeld) : Type 0 where
-  pub does : Does (state_of past old) at calls step
-  pub holds : state_then past step new ≡ state_after at calls step (state_of past old)
+-- what the ends do at a moment at an event after these turns, by what they hold, and that they hold
+-- then what the turn makes of it
+pub record Plays (past : List Turn) (old : EndsHeld) (now : Moment) (at : Event)
+    (calls : List Call) (step : Step) (new : EndsHeld) : Type 0 where
+  pub does : Does (state_of past old) now at calls step
+  pub holds : state_then past step new ≡ state_after now at calls step (state_of past old)
   pub in_place : AreInPlace new
 
 -- so it is at each event that configures the cluster so

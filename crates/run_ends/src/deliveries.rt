@@ -13,7 +13,7 @@ use crate::sends::is_full;
 use cluster_member::Member;
 use cluster_peer::Peer;
 use events::{Event, Medium, Party, Refusal, Step};
-use ha_base::Memory;
+use ha_base::{Memory, Moment};
 use keeper_book::Keeper;
 use turn_trace::Trace;
 
@@ -21,6 +21,7 @@ impl Parties {
     pub(crate) fn deliver<K: Keeper>(
         &mut self,
         keeper: &mut K,
+        now: Moment,
         trace: &Trace,
         to: Party,
         event: &Event,
@@ -30,7 +31,7 @@ impl Parties {
             → arrives (datagrams_of trace.now.past) event.now ≡ Ok datagram → IsShort datagram }
         requires in_place { AreInPlace self.old }
         ensures delivers { IfOk result (λ step. AsksFor K.Keeper keeper.old keeper.new (λ calls.
-            Plays trace.now.past self.old event.now calls step self.new)) }
+            Plays trace.now.past self.old now event.now calls step self.new)) }
         ensures err { OnErr result (self.new ≡ self.old) }
         ensures unasked { OnErr result (keeper.new ≡ keeper.old) }
     {
@@ -38,19 +39,26 @@ impl Parties {
             return Ok(refused(Refusal::DatagramsFull));
         }
         match to {
-            Party::Peer => return self.deliver_to_peer(trace, event),
-            Party::Member(member) => return self.deliver_to_member(keeper, trace, member, event),
+            Party::Peer => return self.deliver_to_peer(now, trace, event),
+            Party::Member(member) => {
+                return self.deliver_to_member(keeper, now, trace, member, event);
+            }
         }
     }
 
-    fn deliver_to_peer(&mut self, trace: &Trace, event: &Event) -> Result<Step, Memory>
+    fn deliver_to_peer(
+        &mut self,
+        now: Moment,
+        trace: &Trace,
+        event: &Event,
+    ) -> Result<Step, Memory>
         requires to { DeliversTo event.now parties.Peer }
         requires room { HasRoom trace.now.past }
         requires short { (datagram : PlainDatagram)
             → arrives (datagrams_of trace.now.past) event.now ≡ Ok datagram → IsShort datagram }
         requires in_place { AreInPlace self.old }
         ensures delivers { IfOk result
-            (λ step. Plays trace.now.past self.old event.now [] step self.new) }
+            (λ step. Plays trace.now.past self.old now event.now [] step self.new) }
         ensures err { OnErr result (self.new ≡ self.old) }
     {
         match arriving(self.alloc, trace, event)? {
@@ -62,6 +70,7 @@ impl Parties {
     fn deliver_to_member<K: Keeper>(
         &mut self,
         keeper: &mut K,
+        now: Moment,
         trace: &Trace,
         member: u64,
         event: &Event,
@@ -72,7 +81,7 @@ impl Parties {
             → arrives (datagrams_of trace.now.past) event.now ≡ Ok datagram → IsShort datagram }
         requires in_place { AreInPlace self.old }
         ensures delivers { IfOk result (λ step. AsksFor K.Keeper keeper.old keeper.new (λ calls.
-            Plays trace.now.past self.old event.now calls step self.new)) }
+            Plays trace.now.past self.old now event.now calls step self.new)) }
         ensures err { OnErr result (self.new ≡ self.old) }
         ensures unasked { OnErr result (keeper.new ≡ keeper.old) }
     {

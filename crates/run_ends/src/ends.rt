@@ -71,7 +71,7 @@ impl Ends {
         ensures held { K.held keeper.new.keeper ≡ K.held keeper.old.keeper }
     {
         self.trace.reserve()?;
-        let step = self.parties.play(keeper, &self.trace, &event)?;
+        let step = self.parties.play(keeper, now, &self.trace, &event)?;
         let calls = keeper.take_calls();
         self.trace.push(Turn {
             moment: now,

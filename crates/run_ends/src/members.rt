@@ -4,6 +4,7 @@ ghost use Rattle.std.specs.Prelude.{◌≡◌, ℕ, false, [], List, MatchOption
 ghost use Rattle.cluster_member.specs.Members.{AsksInVain};
 ghost use Rattle.events.specs.declared.event.Event.TheVariants as event;
 ghost use Rattle.events.specs.declared.turn.Turn.{Turn};
+ghost use Rattle.ha_base.specs.declared.outside.Moment.{Moment};
 ghost use Rattle.keeper_book.specs.Asks.{AsksFor};
 ghost use Rattle.run_ends.specs.Parties.{AreInPlace, IsMemberPlace, Plays, has_member};
 
@@ -19,8 +20,8 @@ const MAX_MEMBERS: usize = 64;
 impl Parties {
     pub(crate) fn join(&mut self, fresh: [u8; 24]) -> Result<Step, Memory>
         requires in_place { AreInPlace self.old }
-        ensures joins { IfOk result (λ step. (past : List Turn)
-            → Plays past self.old (event.Join fresh) [] step self.new) }
+        ensures joins { IfOk result (λ step. (past : List Turn) (now : Moment)
+            → Plays past self.old now (event.Join fresh) [] step self.new) }
         ensures err { OnErr result (self.new ≡ self.old) }
     {
         let joined = self.members.len();
@@ -55,7 +56,8 @@ impl Parties {
     ) -> Result<Step, Memory>
         requires in_place { AreInPlace self.old }
         ensures owns { IfOk result (λ step. AsksFor K.Keeper keeper.old keeper.new (λ calls.
-            (past : List Turn) → Plays past self.old (event.Own member spir) calls step self.new)) }
+            (past : List Turn) (now : Moment)
+            → Plays past self.old now (event.Own member spir) calls step self.new)) }
         ensures err { OnErr result (self.new ≡ self.old) }
         ensures in_vain { OnErr result (AsksInVain K.Keeper keeper.old keeper.new) }
     {
@@ -71,8 +73,8 @@ impl Parties {
     pub(crate) fn draw<K: Keeper>(&mut self, keeper: &mut K, member: u64, spir: u64) -> Step
         requires in_place { AreInPlace self.old }
         ensures draws { AsksFor K.Keeper keeper.old keeper.new (λ calls.
-            (past : List Turn) → Plays past self.old
-            (event.Draw member spir) calls result self.new) }
+            (past : List Turn) (now : Moment)
+            → Plays past self.old now (event.Draw member spir) calls result self.new) }
     {
         let Some(place) = self.place_of(member) else {
             return refused(Refusal::NoMember);
@@ -86,8 +88,8 @@ impl Parties {
     // A member that crashed never returns.
     pub(crate) fn crash(&mut self, member: u64) -> Step
         requires in_place { AreInPlace self.old }
-        ensures crashes { (past : List Turn) → Plays past self.old
-            (event.Crash member) [] result self.new }
+        ensures crashes { (past : List Turn) (now : Moment)
+            → Plays past self.old now (event.Crash member) [] result self.new }
     {
         let Some(place) = self.place_of(member) else {
             return refused(Refusal::NoMember);

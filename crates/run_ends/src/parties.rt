@@ -7,11 +7,13 @@ ghost use Rattle.events.specs.Ranges.{Fits};
 ghost use Rattle.cluster_member.specs.Members.{AsksInVain};
 ghost use Rattle.events.specs.declared.event.Event.TheVariants as event;
 ghost use Rattle.events.specs.declared.turn.Turn.{Turn};
+ghost use Rattle.ha_base.specs.declared.outside.Moment.{Moment};
 ghost use Rattle.keeper_book.specs.Asks.{AsksFor};
 ghost use Rattle.replay_set.specs.Window.{IsWindowSize};
 ghost use Rattle.turn_rules.specs.Configurations.{default_configuration, gateway_of};
 ghost use Rattle.turn_rules.specs.Datagrams.{datagrams_of};
 ghost use Rattle.turn_rules.specs.Fits.{is_importable};
+ghost use Rattle.turn_rules.specs.PeerStates.{peer_begun};
 ghost use Rattle.turn_rules.specs.Steps.{Says};
 ghost use Rattle.run_ends.specs.Parties.{AreInPlace, Configures, IsShort, Plays};
 
@@ -19,7 +21,7 @@ use crate::settings::Settings;
 use cluster_member::{Member, of_import};
 use cluster_peer::Peer;
 use events::{Event, Refusal, Step, Verdict};
-use ha_base::{LEAST_ESP_SPI, LEAST_SPI, Memory};
+use ha_base::{LEAST_ESP_SPI, LEAST_SPI, Memory, Moment};
 use keeper_book::{Keeper, Record};
 use std::alloc::Global;
 use std::marker::Model;
@@ -47,8 +49,7 @@ impl Model for Parties {
     ghost view = { λ c. record {
       boxes = c.boxes;
       config = c.settings;
-      gateway = c.peer.gateway;
-      slots = c.peer.slots;
+      peer = c.peer.held;
       members = c.members.items;
     } };
 
@@ -81,8 +82,7 @@ impl Parties {
         ensures { result ≡ record {
           boxes = boxes;
           config = default_configuration;
-          gateway = gateway_of default_configuration;
-          slots = [];
+          peer = peer_begun (gateway_of default_configuration);
           members = [];
         } }
     {
@@ -96,20 +96,23 @@ impl Parties {
         }
     }
 
-    /// What the ends do at an event, where these turns were before. An error is want of memory; the
-    /// ends are then as they were, and the keeper was asked only where it lacked the memory itself.
+    /// What the ends do at a moment at an event, where these turns were before. An error is want of
+    /// memory; the ends are then as they were, and the keeper was asked only where it lacked the
+    /// memory itself.
     pub fn play<K: Keeper>(
         &mut self,
         keeper: &mut K,
+        now: Moment,
         trace: &Trace,
         event: &Event,
     ) -> Result<Step, Memory>
         requires fits { Fits (plain event.now) }
         requires short { AllByRecursion IsShort (datagrams_of trace.now.past) }
-        requires first { trace.now.past ≡ [] → (self.old.slots ≡ []) × (self.old.members ≡ []) }
+        requires first { trace.now.past ≡ []
+            → (self.old.peer.slots ≡ []) × (self.old.members ≡ []) }
         requires in_place { AreInPlace self.old }
         ensures plays { IfOk result (λ step. AsksFor K.Keeper keeper.old keeper.new (λ calls.
-            Plays trace.now.past self.old event.now calls step self.new)) }
+            Plays trace.now.past self.old now event.now calls step self.new)) }
         ensures err { OnErr result (self.new ≡ self.old) }
         ensures in_vain { OnErr result (AsksInVain K.Keeper keeper.old keeper.new) }
     {
@@ -133,19 +136,20 @@ impl Parties {
                 spir,
                 payload,
             } => return self.send(keeper, trace, *from, *spir, payload.as_slice()),
-            Event::Deliver { to, .. } => return self.deliver(keeper, trace, *to, event),
-            Event::Alter { to, .. } => return self.deliver(keeper, trace, *to, event),
-            Event::Cut { to, .. } => return self.deliver(keeper, trace, *to, event),
-            Event::Inject { to, .. } => return self.deliver(keeper, trace, *to, event),
+            Event::Deliver { to, .. } => return self.deliver(keeper, now, trace, *to, event),
+            Event::Alter { to, .. } => return self.deliver(keeper, now, trace, *to, event),
+            Event::Cut { to, .. } => return self.deliver(keeper, now, trace, *to, event),
+            Event::Inject { to, .. } => return self.deliver(keeper, now, trace, *to, event),
         }
     }
 
     fn configure(&mut self, trace: &Trace, settings: Settings) -> Step
         requires window { IsWindowSize settings.window }
-        requires first { trace.now.past ≡ [] → (self.old.slots ≡ []) × (self.old.members ≡ []) }
+        requires first { trace.now.past ≡ []
+            → (self.old.peer.slots ≡ []) × (self.old.members ≡ []) }
         requires in_place { AreInPlace self.old }
         ensures configures { Configures settings
-            (λ event. Plays trace.now.past self.old event [] result self.new) }
+            (λ event. (now : Moment) → Plays trace.now.past self.old now event [] result self.new) }
     {
         if trace.turns() > 0 {
             return refused(Refusal::Late);
@@ -158,7 +162,8 @@ impl Parties {
     fn import<K: Keeper>(&mut self, keeper: &mut K, sa: &Record) -> Result<Step, Memory>
         requires in_place { AreInPlace self.old }
         ensures imports { IfOk result (λ step. AsksFor K.Keeper keeper.old keeper.new (λ calls.
-            (past : List Turn) → Plays past self.old (event.Import sa.now) calls step self.new)) }
+            (past : List Turn) (now : Moment)
+            → Plays past self.old now (event.Import sa.now) calls step self.new)) }
         ensures err { OnErr result (self.new ≡ self.old) }
         ensures in_vain { OnErr result (AsksInVain K.Keeper keeper.old keeper.new) }
     {

@@ -4,6 +4,7 @@ ghost use Rattle.std.specs.Prelude.{◌≡◌, ◌≤◌, nat_le, [], List, IfOk
 ghost use Rattle.events.specs.declared.event.Event.TheVariants as event;
 ghost use Rattle.events.specs.declared.event.Party.TheVariants as parties;
 ghost use Rattle.ha_base.specs.Octets.{WithRoom};
+ghost use Rattle.ha_base.specs.declared.outside.Moment.{Moment};
 ghost use Rattle.ha_base.specs.declared.limits.TheConstants.{MAX_DATAGRAMS, PAYLOAD_OCTETS};
 ghost use Rattle.keeper_book.specs.Asks.{AsksFor};
 ghost use Rattle.turn_rules.specs.Datagrams.{datagrams_of};
@@ -35,8 +36,8 @@ impl Parties {
         requires size { length payload.now ≤ PAYLOAD_OCTETS }
         requires in_place { AreInPlace self.old }
         ensures sends { IfOk result (λ step. AsksFor K.Keeper keeper.old keeper.new
-            (λ calls. (given : WithRoom) → given.octets ≡ payload.now
-            → Plays trace.now.past self.old (event.Send from spir given) calls step self.new)) }
+            (λ calls. (now : Moment) (given : WithRoom) → given.octets ≡ payload.now
+            → Plays trace.now.past self.old now (event.Send from spir given) calls step self.new)) }
         ensures err { OnErr result (self.new ≡ self.old) }
         ensures unasked { OnErr result (keeper.new ≡ keeper.old) }
     {
@@ -52,9 +53,9 @@ impl Parties {
     fn send_as_peer(&mut self, spir: u64, payload: &[u8]) -> Result<Step, Memory>
         requires size { length payload.now ≤ PAYLOAD_OCTETS }
         requires in_place { AreInPlace self.old }
-        ensures sends { IfOk result (λ step. (past : List Turn) (given : WithRoom) → HasRoom past
-            → given.octets ≡ payload.now
-            → Plays past self.old (event.Send parties.Peer spir given) [] step self.new) }
+        ensures sends { IfOk result (λ step. (past : List Turn) (now : Moment) (given : WithRoom)
+            → HasRoom past → given.octets ≡ payload.now
+            → Plays past self.old now (event.Send parties.Peer spir given) [] step self.new) }
         ensures err { OnErr result (self.new ≡ self.old) }
     {
         let step = self.peer.send_data(spir, payload)?;
@@ -71,8 +72,8 @@ impl Parties {
         requires size { length payload.now ≤ PAYLOAD_OCTETS }
         requires in_place { AreInPlace self.old }
         ensures sends { IfOk result (λ step. AsksFor K.Keeper keeper.old keeper.new (λ calls.
-            (past : List Turn) (given : WithRoom) → HasRoom past → given.octets ≡ payload.now
-            → Plays past self.old
+            (past : List Turn) (now : Moment) (given : WithRoom)
+            → HasRoom past → given.octets ≡ payload.now → Plays past self.old now
             (event.Send (parties.Member member) spir given) calls step self.new)) }
         ensures err { OnErr result (self.new ≡ self.old) }
         ensures unasked { OnErr result (keeper.new ≡ keeper.old) }

@@ -10,6 +10,7 @@ use Rattle.events.specs.declared.verdict.Refusal.{Refusal}
 use Rattle.events.specs.declared.verdict.Refusal.TheVariants as refusal
 use Rattle.events.specs.declared.verdict.Verdict.TheVariants as out
 use Rattle.ha_base.specs.Octets.{WithRoom}
+use Rattle.ha_base.specs.declared.outside.Moment.{Moment}
 use Rattle.keeper_book.specs.declared.calls.Call.{Call}
 use Rattle.keeper_book.specs.declared.records.Record.{Record}
 use Rattle.turn_laws.proofs.Asking.{enters-deed, refused-deed, takes_over-deed, yields-deed}
@@ -28,7 +29,7 @@ use Rattle.turn_rules.specs.Slots.{records}
 use Rattle.turn_rules.specs.States.{RunState, told_state}
 
 module _ (boxes : ℕ) (past : List Turn) (own_spir : (member spir : ℕ) (held : Held) → held_by (window_by past) (own (Member member) past) spir ≡ Some held → held.sa.spir ≡ spir)
-    (calls : List Call) (step : Step) where
+    (now : Moment) (calls : List Call) (step : Step) where
   abbrev state : RunState
   state = told_state boxes past
 
@@ -39,19 +40,19 @@ module _ (boxes : ℕ) (past : List Turn) (own_spir : (member spir : ℕ) (held 
   imported sa importable true r = refused (event.Import sa) refusal.SpiInUse r
   imported sa importable false quietly = enters-deed past step sa calls importable quietly
 
-  drawn : (member spir : ℕ) (x : Option Held) → state.held member spir ≡ x → DrawsOf x calls step → Deed past (event.Draw member spir) calls step
+  drawn : (member spir : ℕ) (x : Option Held) → (state.members member).held spir ≡ x → DrawsOf x calls step → Deed past (event.Draw member spir) calls step
   drawn member spir None e r = refused (event.Draw member spir) refusal.NotOwner r
   drawn member spir (Some held) e draws =
       let is_held : held_by (window_by past) (own (Member member) past) spir ≡ Some held = own-held boxes past member spir held e in
       draws-deed past step member spir held (own_spir member spir held is_held) is_held calls draws
 
-  sent : (member spir : ℕ) (payload : WithRoom) (x : Option Held) → state.held member spir ≡ x → SendsOf x payload.octets calls step → Deed past (event.Send (parties.Member member) spir payload) calls step
+  sent : (member spir : ℕ) (payload : WithRoom) (x : Option Held) → (state.members member).held spir ≡ x → SendsOf x payload.octets calls step → Deed past (event.Send (parties.Member member) spir payload) calls step
   sent member spir payload None e r = refused (event.Send (parties.Member member) spir payload) refusal.NotOwner r
   sent member spir payload (Some held) e sends =
       let is_held : held_by (window_by past) (own (Member member) past) spir ≡ Some held = own-held boxes past member spir held e in
       sends-deed past step member spir payload held (own_spir member spir held is_held) is_held calls sends
 
-  received : (event : Event) (to : Party) → Brings event to → (found : Result PlainDatagram Refusal) → Receives state to found calls step → Deed past event calls step
+  received : (event : Event) (to : Party) → Brings event to → (found : Result PlainDatagram Refusal) → Receives state now to found calls step → Deed past event calls step
   received event to brings (Err why) r = absurd r
   received event parties.Peer brings (Ok datagram) takes = peer_takes-deed past event brings datagram.octets calls step takes
   received event (parties.Member member) brings (Ok datagram) takes =
@@ -65,24 +66,24 @@ module _ (boxes : ℕ) (past : List Turn) (own_spir : (member spir : ℕ) (held 
       by_test true none = refl
       by_test false none = absurd (cc)
 
-  performed : (event : Event) → run_refusal state event ≡ None → Performs state event calls step → Deed past event calls step
+  performed : (event : Event) → run_refusal state event ≡ None → Performs state now event calls step → Deed past event calls step
   performed (event.Cluster identity lifetime window ticket_key) none y = yields-deed past step (event.Cluster identity lifetime window ticket_key) calls out.Configured tt refl y
-  performed (event.Import sa) none p = imported sa (importable sa none) (not (admits (records state.slots) sa)) p
+  performed (event.Import sa) none p = imported sa (importable sa none) (not (admits (records state.peer.slots) sa)) p
   performed (event.Join fresh) none y = yields-deed past step (event.Join fresh) calls (out.Member _) tt refl y
   performed (event.Own member spir) none quietly = takes_over-deed past step member spir calls quietly
-  performed (event.Draw member spir) none draws = drawn member spir (state.held member spir) refl draws
+  performed (event.Draw member spir) none draws = drawn member spir ((state.members member).held spir) refl draws
   performed (event.Crash member) none y = Ended member (let said : _ = y.says.said in rw said refl) y.no_calls y.says.said refl y.says.quiet
   performed (event.Send parties.Peer spir payload) none sends = peer_sends-deed past step spir payload calls sends.0 sends.1
-  performed (event.Send (parties.Member member) spir payload) none sends = sent member spir payload (state.held member spir) refl sends
+  performed (event.Send (parties.Member member) spir payload) none sends = sent member spir payload ((state.members member).held spir) refl sends
   performed (event.Deliver which to) none r = received (event.Deliver which to) to (record { performs = λ verdict. refl; receives = λ spir verdict. refl; uses_none = λ spir verdict. refl; sends_none = λ spir verdict. refl; no_entry = λ verdict. refl }) (arrives state.datagrams (event.Deliver which to)) r
   performed (event.Alter which to place octet) none r = received (event.Alter which to place octet) to (record { performs = λ verdict. refl; receives = λ spir verdict. refl; uses_none = λ spir verdict. refl; sends_none = λ spir verdict. refl; no_entry = λ verdict. refl }) (arrives state.datagrams (event.Alter which to place octet)) r
   performed (event.Cut which to keep) none r = received (event.Cut which to keep) to (record { performs = λ verdict. refl; receives = λ spir verdict. refl; uses_none = λ spir verdict. refl; sends_none = λ spir verdict. refl; no_entry = λ verdict. refl }) (arrives state.datagrams (event.Cut which to keep)) r
   performed (event.Inject to medium octets) none r = received (event.Inject to medium octets) to (record { performs = λ verdict. refl; receives = λ spir verdict. refl; uses_none = λ spir verdict. refl; sends_none = λ spir verdict. refl; no_entry = λ verdict. refl }) (arrives state.datagrams (event.Inject to medium octets)) r
 
   -- a turn that is explained is a deed
-  pub fits-deed : (event : Event) → Does state event calls step → Deed past event calls step
+  pub fits-deed : (event : Event) → Does state now event calls step → Deed past event calls step
   fits-deed event does = go (run_refusal state event) refl does
     where
-      go : (x : Option Refusal) → run_refusal state event ≡ x → MatchOption x (Performs state event calls step) (λ why. Refuses why calls step) → Deed past event calls step
+      go : (x : Option Refusal) → run_refusal state event ≡ x → MatchOption x (Performs state now event calls step) (λ why. Refuses why calls step) → Deed past event calls step
       go None none p = performed event none p
       go (Some why) is r = refused event why r

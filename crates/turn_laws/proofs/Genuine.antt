@@ -23,6 +23,7 @@ use Rattle.ha_base.specs.declared.counter_names.CounterName.{CounterName}
 use Rattle.ha_base.specs.declared.esp_outcomes.EspDrop.{EspDrop}
 use Rattle.ha_base.specs.declared.esp_outcomes.EspDrop.TheVariants as drop
 use Rattle.ha_base.specs.declared.esp_outcomes.EspOpened.{EspOpened}
+use Rattle.ha_base.specs.declared.outside.Moment.{Moment}
 use Rattle.keeper_book.specs.declared.calls.Call.{Call}
 use Rattle.keeper_book.specs.declared.counters.Counter.TheVariants as counter
 use Rattle.turn_rules.proofs.GenuinePackets.{genuine-long, genuine-opens, ready-goes, same_receiver}
@@ -35,11 +36,11 @@ use Rattle.turn_rules.specs.Draws.{counter_name}
 use Rattle.turn_rules.specs.Ends.{Member, Peer, Performer, end_of_party, own, receiver_of}
 use Rattle.turn_rules.specs.Fits.{Does, Performs, Receives, Refuses, has_joined, is_of_datagrams, member_of, named_in, refused_absent, refused_arrival, refused_besides, refused_where, run_refusal}
 use Rattle.turn_rules.specs.Genuine.{AreAccepted, Came, IsAcceptedAs, IsAcknowledged, IsGenuine, IsUp, MemberAccepts, PeerAccepts}
-use Rattle.turn_rules.specs.Held.{Held, held_by, window_by}
+use Rattle.turn_rules.specs.Held.{Held, config_by, held_by, window_by}
 use Rattle.turn_rules.specs.Local.{Explained}
 use Rattle.turn_rules.specs.MemberPackets.{IsReceiver, ReceivesPacket, TakesPacket, inbound_of}
 use Rattle.turn_rules.specs.Packets.{Drops, IsVerdictOf}
-use Rattle.turn_rules.specs.States.{RunState, held_unless, joins, told_state}
+use Rattle.turn_rules.specs.States.{RunState, joins, member_by, member_unless, told_state}
 use Rattle.turn_rules.specs.Slots.{Slot, SlotReceives, SlotTakes, first_slot, peer_counter, receives_at, slot_inbound, slots_by}
 
 -- what a packet that was opened is accepted as
@@ -119,10 +120,10 @@ unrefused state gives full named member besides room same none here =
     go true = ap (λ b. refused_where b refusal.DatagramsFull (refused_absent state named besides)) room
     go false = refl
 
-abbrev ReceivedBy : RunState → Performer → PlainDatagram → List Call → Step → Type 0
-ReceivedBy state end x calls step = (to : Party) × (Some (end_of_party to) ≡ Some end) × IsThere state to × Receives state to (Ok x) calls step
+abbrev ReceivedBy : RunState → Moment → Performer → PlainDatagram → List Call → Step → Type 0
+ReceivedBy state now end x calls step = (to : Party) × (Some (end_of_party to) ≡ Some end) × IsThere state to × Receives state now to (Ok x) calls step
 
-module _ (boxes : ℕ) (past : List Turn) (end : Performer) (octets : List ℕ) (calls : List Call) (step : Step) (up : IsUp past end) (room : length (datagrams_of past) < MAX_DATAGRAMS) where
+module _ (boxes : ℕ) (past : List Turn) (end : Performer) (octets : List ℕ) (now : Moment) (calls : List Call) (step : Step) (up : IsUp past end) (room : length (datagrams_of past) < MAX_DATAGRAMS) where
   abbrev x : PlainDatagram
   x = record { medium = medium.Esp; octets = octets }
 
@@ -131,16 +132,16 @@ module _ (boxes : ℕ) (past : List Turn) (end : Performer) (octets : List ℕ) 
 
   -- what a delivery brings, its end receives
   delivered : (at : Event) (to : Party) → Some (end_of_party to) ≡ Some end → named_in at ≡ member_of to → refused_besides state at ≡ refused_arrival (arrives (datagrams_of past) at)
-      → (Performs state at calls step → Receives state to (arrives (datagrams_of past) at) calls step)
-      → arrives (datagrams_of past) at ≡ Ok x → Does state at calls step → ReceivedBy state end x calls step
+      → (Performs state now at calls step → Receives state now to (arrives (datagrams_of past) at) calls step)
+      → arrives (datagrams_of past) at ≡ Ok x → Does state now at calls step → ReceivedBy state now end x calls step
   delivered at to by named besides performs arrived does =
       let here : IsThere state to = up-there boxes past to (subst (λ e. IsUp past e) (sym (same_Some (end_of_party to) end by)) up) in
       let none : run_refusal state at ≡ None = unrefused state (is_of_datagrams at) (nat_le MAX_DATAGRAMS (length (datagrams_of past))) (named_in at) (member_of to) (refused_besides state at)
       (lt-leb MAX_DATAGRAMS (length (datagrams_of past)) room) named (besides ∙ ap refused_arrival arrived) (absent-none state to here) in
-      let goes : Performs state at calls step = subst (λ r. MatchOption r (Performs state at calls step) (λ why. Refuses why calls step)) none does in
-      (to, by, here, subst (λ found. Receives state to found calls step) arrived (performs goes))
+      let goes : Performs state now at calls step = subst (λ r. MatchOption r (Performs state now at calls step) (λ why. Refuses why calls step)) none does in
+      (to, by, here, subst (λ found. Receives state now to found calls step) arrived (performs goes))
 
-  pub received_by : (at : Event) → receiver_of (delivery_of at) ≡ Some end → arrives (datagrams_of past) at ≡ Ok x → Does state at calls step → ReceivedBy state end x calls step
+  pub received_by : (at : Event) → receiver_of (delivery_of at) ≡ Some end → arrives (datagrams_of past) at ≡ Ok x → Does state now at calls step → ReceivedBy state now end x calls step
   received_by (event.Deliver which to) by arrived does = delivered (event.Deliver which to) to by refl refl (λ p. p) arrived does
   received_by (event.Alter which to place octet) by arrived does = delivered (event.Alter which to place octet) to by refl refl (λ p. p) arrived does
   received_by (event.Cut which to keep) by arrived does = delivered (event.Cut which to keep) to by refl refl (λ p. p) arrived does
@@ -148,8 +149,8 @@ module _ (boxes : ℕ) (past : List Turn) (end : Performer) (octets : List ℕ) 
   received_by at by arrived does = absurd (cc)
 
 -- octets that came to an end are received by it
-came-received : (boxes : ℕ) (past : List Turn) (turn : Turn) (end : Performer) (octets : List ℕ) → DoesTold boxes past turn → Came past turn end octets → ReceivedBy (told_state boxes past) end (record { medium = medium.Esp; octets = octets }) turn.calls turn.step
-came-received boxes past turn end octets does came = received_by boxes past end octets turn.calls turn.step came.up came.room turn.event came.addressed came.arrived does
+came-received : (boxes : ℕ) (past : List Turn) (turn : Turn) (end : Performer) (octets : List ℕ) → DoesTold boxes past turn → Came past turn end octets → ReceivedBy (told_state boxes past) turn.moment end (record { medium = medium.Esp; octets = octets }) turn.calls turn.step
+came-received boxes past turn end octets does came = received_by boxes past end octets turn.moment turn.calls turn.step came.up came.room turn.event came.addressed came.arrived does
 
 module _ (law : SealedPacketsOpen) (boxes : ℕ) (past : List Turn) (turn : Turn) (does : DoesTold boxes past turn) where
   -- what a member that is there holds is what its own turns say
@@ -159,18 +160,18 @@ module _ (law : SealedPacketsOpen) (boxes : ℕ) (past : List Turn) (turn : Turn
   pub member-accepts-it : MemberAccepts past turn
   member-accepts-it member spir number held payload octets came is genuine allowed = by_party (came-received boxes past turn (Member member) octets does came)
     where
-      by_party : ReceivedBy (told_state boxes past) (Member member) (record { medium = medium.Esp; octets = octets }) turn.calls turn.step → IsAcceptedAs (counter_name held.sa counter.EspIn) number payload turn.step.verdict
+      by_party : ReceivedBy (told_state boxes past) turn.moment (Member member) (record { medium = medium.Esp; octets = octets }) turn.calls turn.step → IsAcceptedAs (counter_name held.sa counter.EspIn) number payload turn.step.verdict
       by_party (parties.Peer, by, here, does) = absurd (cc)
       by_party (parties.Member other, by, here, does) =
           let same : other ≡ member = cc in
           member-takes law number payload octets (held_of member) spir held turn.calls turn.step is genuine allowed
           (subst (λ k. MemberTakes (held_of k) octets turn.calls turn.step) same
-          (subst (λ b. MemberTakes (λ s. held_unless b (held_of other s)) octets turn.calls turn.step) here.1 does))
+          (subst (λ b. MemberTakes (member_unless b (member_by (config_by past) (own (Member other) past))).held octets turn.calls turn.step) here.1 does))
 
   pub peer-accepts-it : PeerAccepts past turn
   peer-accepts-it number slot payload octets came is genuine = by_party (came-received boxes past turn Peer octets does came)
     where
-      by_party : ReceivedBy (told_state boxes past) Peer (record { medium = medium.Esp; octets = octets }) turn.calls turn.step → IsAcceptedAs (peer_counter slot.sa counter.EspIn) number payload turn.step.verdict
+      by_party : ReceivedBy (told_state boxes past) turn.moment Peer (record { medium = medium.Esp; octets = octets }) turn.calls turn.step → IsAcceptedAs (peer_counter slot.sa counter.EspIn) number payload turn.step.verdict
       by_party (parties.Peer, by, here, does) = peer-takes law number payload octets (slots_by (window_by past) (own Peer past)) slot turn.calls turn.step is genuine does
       by_party (parties.Member other, by, here, does) = absurd (cc)
 

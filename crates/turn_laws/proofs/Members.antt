@@ -23,7 +23,7 @@ member-performs event verdict member by not_run = rw not_run by
 
 module _ (boxes : ℕ) (past : List Turn) where
   -- what a member of a state holds, its own turns say
-  pub own-held : (member spir : ℕ) (held : Held) → (told_state boxes past).held member spir ≡ Some held → held_by (window_by past) (own (Member member) past) spir ≡ Some held
+  pub own-held : (member spir : ℕ) (held : Held) → ((told_state boxes past).members member).held spir ≡ Some held → held_by (window_by past) (own (Member member) past) spir ≡ Some held
   own-held member spir held is = by_test (has_ended member past) is
     where
       by_test : (b : Bool) → held_unless b (held_by (window_by past) (own (Member member) past) spir) ≡ Some held → held_by (window_by past) (own (Member member) past) spir ≡ Some held

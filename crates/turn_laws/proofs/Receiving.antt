@@ -157,13 +157,13 @@ module _ (boxes : ℕ) (past : List Turn) (own_spir : (member spir : ℕ) (held 
     drops-deed : (why : EspDrop) → DropsQuietly why octets calls answer after → Deed past event calls step
     drops-deed why drops = Rested drops.0 (dropped-rests step why answer after quiet drops.1.said worded) (brings.no_entry step.verdict)
 
-    received-deed : IsReceived ((told_state boxes past).held member) octets calls answer after → Deed past event calls step
+    received-deed : IsReceived ((told_state boxes past).members member).held octets calls answer after → Deed past event calls step
     received-deed r =
         let is_held : held_by (window_by past) (own (Member member) past) r.spir ≡ Some r.receiver = own-held boxes past member r.spir r.receiver r.is_receiver.is_held in
         let same : r.receiver.sa.spir ≡ r.spir = own_spir member r.spir r.receiver is_held in
         opened-deed r.receiver (subst (λ n. held_by (window_by past) (own (Member member) past) n ≡ Some r.receiver) (sym same) is_held) r.receives.opened r.receives.opens r.receives.takes
 
-    pub member_takes-deed : MemberReceives ((told_state boxes past).held member) octets calls answer after → Deed past event calls step
+    pub member_takes-deed : MemberReceives ((told_state boxes past).members member).held octets calls answer after → Deed past event calls step
     member_takes-deed receives = ⊎_elim
         (λ short. drops-deed drop.Short (receives.short short))
         (λ long. ⊎_elim (λ nowhere. drops-deed drop.WrongSpi nowhere.1) received-deed (receives.long long))

@@ -63,7 +63,7 @@ module _ (past : List Turn) (event : Event) (step : Step) where
   deed-records calls (Used_theirs u) = subst (λ calls. AllByRecursion HasItsRecord calls) (sym u.no_calls) tt
 
 deed-with : (boxes : ℕ) (past : List Turn) (turn : Turn) → HaveTheirRecords past → IsByRule boxes past turn → Explained boxes past → Deed past turn.event turn.calls turn.step
-deed-with boxes past turn records explained local = fits-deed boxes past (own-spir (window_by past) past records) turn.calls turn.step turn.event (does-told boxes past turn explained local)
+deed-with boxes past turn records explained local = fits-deed boxes past (own-spir (window_by past) past records) turn.moment turn.calls turn.step turn.event (does-told boxes past turn explained local)
 
 local-records : (boxes : ℕ) (past : List Turn) → Explained boxes past → HaveTheirRecords past
 local-records boxes [] local = tt

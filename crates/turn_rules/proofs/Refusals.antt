@@ -1,7 +1,6 @@
 -- What the run itself refuses, and what it does not.
 use Rattle.std.proofs.Common.{◌≡◌, ℕ, ◌&&◌, ◌||◌, Bool, true, false, not, Option, Some, None, Result, Ok, Err, List, refl, ap, sym, ◌∙◌, subst}
 use Rattle.std.specs.Prelude.{nat_le, length}
-use Rattle.std.proofs.lemmas.Bool.{not-false}
 use Rattle.std.proofs.lemmas.Option.{same_Some}
 use Rattle.events.specs.declared.event.Event.{Event}
 use Rattle.events.specs.declared.event.Event.TheVariants as event
@@ -68,16 +67,3 @@ besides-run state event = none-run
 pub refusal-of_run : (state : RunState) (event : Event) (why : Refusal) → run_refusal state event ≡ Some why → is_of_run why ≡ true
 refusal-of_run state event = where-run (is_of_datagrams event && nat_le MAX_DATAGRAMS (length state.datagrams)) refusal.DatagramsFull
     (refused_absent state (named_in event) (refused_besides state event)) refl (absent-run state (named_in event) (refused_besides state event) (besides-run state event))
-
-where-none : (test : Bool) (why : Refusal) (otherwise : Option Refusal) → refused_where test why otherwise ≡ None → (test ≡ false) × (otherwise ≡ None)
-where-none true why otherwise e = absurd (cc)
-where-none false why otherwise e = (refl, e)
-
--- where it does not refuse an event, the member that is named joined and did not end
-pub named-present : (state : RunState) (event : Event) (member : ℕ) → run_refusal state event ≡ None → named_in event ≡ Some member → (has_joined member state ≡ true) × (state.ended member ≡ false)
-named-present state event member none named =
-    let room = where-none (is_of_datagrams event && nat_le MAX_DATAGRAMS (length state.datagrams)) refusal.DatagramsFull (refused_absent state (named_in event) (refused_besides state event)) none in
-    let absent : refused_absent state (Some member) (refused_besides state event) ≡ None = subst (λ m. refused_absent state m (refused_besides state event) ≡ None) named room.1 in
-    let joined = where-none (not (has_joined member state)) refusal.NoMember (refused_where (state.ended member) refusal.Down (refused_besides state event)) absent in
-    let up = where-none (state.ended member) refusal.Down (refused_besides state event) joined.1 in
-    (not-false (has_joined member state) joined.0, up.0)

@@ -14,6 +14,7 @@ use Rattle.events.specs.declared.verdict.Refusal.{Refusal}
 use Rattle.events.specs.declared.verdict.Refusal.TheVariants as refusal
 use Rattle.events.specs.declared.verdict.Verdict.{Verdict}
 use Rattle.events.specs.declared.verdict.Verdict.TheVariants as out
+use Rattle.ha_base.specs.declared.outside.Moment.{Moment}
 use Rattle.keeper_book.specs.declared.calls.Call.{Call}
 use Rattle.keeper_book.specs.declared.records.Record.{Record}
 use Rattle.replay_set.specs.Window.{window_of}
@@ -122,8 +123,8 @@ entered-import : (asked sa : Record) (verdict : Verdict) → record_entered (eve
 entered-import asked sa out.Entered e = (refl, same_Some asked sa e)
 entered-import asked sa verdict e = absurd (cc)
 
-enters-admitted : (state : RunState) (event : Event) (calls : List Call) (step : Step) (sa : Record) → Does state event calls step → record_entered event step.verdict ≡ Some sa → admits (records state.slots) sa ≡ true
-enters-admitted state (event.Import asked) calls step sa does e = by_refusal (run_refusal state (event.Import asked)) does
+enters-admitted : (state : RunState) (now : Moment) (event : Event) (calls : List Call) (step : Step) (sa : Record) → Does state now event calls step → record_entered event step.verdict ≡ Some sa → admits (records state.peer.slots) sa ≡ true
+enters-admitted state now (event.Import asked) calls step sa does e = by_refusal (run_refusal state (event.Import asked)) does
   where
     is : (step.verdict ≡ out.Entered) × (asked ≡ sa)
     is = entered-import asked sa step.verdict e
@@ -131,24 +132,24 @@ enters-admitted state (event.Import asked) calls step sa does e = by_refusal (ru
     said : (why : Refusal) → step.verdict ≢ out.Refused why
     said why refused = let both : out.Entered ≡ out.Refused why = sym is.0 ∙ refused in absurd (cc)
 
-    by_refusal : (x : Option Refusal) → MatchOption x (Imports state asked calls step) (λ why. Refuses why calls step) → admits (records state.slots) sa ≡ true
+    by_refusal : (x : Option Refusal) → MatchOption x (Imports state asked calls step) (λ why. Refuses why calls step) → admits (records state.peer.slots) sa ≡ true
     by_refusal None imports =
-        let free = unless_refused (not (admits (records state.slots) asked)) refusal.SpiInUse calls step imports (said refusal.SpiInUse) in
-        subst (λ x. admits (records state.slots) x ≡ true) is.1 (not-false (admits (records state.slots) asked) free.0)
+        let free = unless_refused (not (admits (records state.peer.slots) asked)) refusal.SpiInUse calls step imports (said refusal.SpiInUse) in
+        subst (λ x. admits (records state.peer.slots) x ≡ true) is.1 (not-false (admits (records state.peer.slots) asked) free.0)
     by_refusal (Some why) refuses = absurd (said why refuses.says.said)
-enters-admitted state (event.Send parties.Peer spir payload) calls step sa does e = absurd (cc)
-enters-admitted state (event.Send (parties.Member member) spir payload) calls step sa does e = absurd (cc)
-enters-admitted state event calls step sa does e = absurd (cc)
+enters-admitted state now (event.Send parties.Peer spir payload) calls step sa does e = absurd (cc)
+enters-admitted state now (event.Send (parties.Member member) spir payload) calls step sa does e = absurd (cc)
+enters-admitted state now event calls step sa does e = absurd (cc)
 
 -- the turn is one by what own turns tell
 abbrev pub DoesTold : ℕ → List Turn → Turn → Type 0
-DoesTold boxes past turn = Does (told_state boxes past) turn.event turn.calls turn.step
+DoesTold boxes past turn = Does (told_state boxes past) turn.moment turn.event turn.calls turn.step
 
 -- what comes to the peer was admitted
 pub import-admits : (boxes : ℕ) (past : List Turn) (turn : Turn) → DoesTold boxes past turn → (sa : Record) → record_entered turn.event turn.step.verdict ≡ Some sa → admits (associations_by (own Peer past)) sa ≡ true
 import-admits boxes past turn does sa e =
     subst (λ slots. admits slots sa ≡ true) (records-slots_by (window_by past) (own Peer past))
-    (enters-admitted (told_state boxes past) turn.event turn.calls turn.step sa does e)
+    (enters-admitted (told_state boxes past) turn.moment turn.event turn.calls turn.step sa does e)
 
 -- what the peer holds after a turn of its own
 own_slots-cons : (size boxes : ℕ) (past : List Turn) (turn : Turn) → DoesTold boxes past turn → is_by Peer turn ≡ true
@@ -165,10 +166,10 @@ config-own end (event.Cluster identity lifetime window ticket_key) verdict mine 
 config-own end event verdict mine = refl
 
 -- and a turn that configures is the first
-sets-first : (boxes : ℕ) (past : List Turn) (event : Event) (calls : List Call) (step : Step) → Does (told_state boxes past) event calls step → (configured_in event step.verdict ≡ None) ⊎ (past ≡ [])
-sets-first boxes [] event calls step does = inr refl
-sets-first boxes (turn ∷ past) (event.Cluster identity lifetime window ticket_key) calls step does = inl (ap (configured_in (event.Cluster identity lifetime window ticket_key)) does.says.said)
-sets-first boxes (turn ∷ past) event calls step does = inl refl
+sets-first : (boxes : ℕ) (past : List Turn) (now : Moment) (event : Event) (calls : List Call) (step : Step) → Does (told_state boxes past) now event calls step → (configured_in event step.verdict ≡ None) ⊎ (past ≡ [])
+sets-first boxes [] now event calls step does = inr refl
+sets-first boxes (turn ∷ past) now (event.Cluster identity lifetime window ticket_key) calls step does = inl (ap (configured_in (event.Cluster identity lifetime window ticket_key)) does.says.said)
+sets-first boxes (turn ∷ past) now event calls step does = inl refl
 
 keeps-config : (turn : Turn) (past : List Turn) → configured_at turn ≡ None → config_by (turn ∷ past) ≡ config_by past
 keeps-config turn past none = ap (λ config. unwrap_or (first_some config (found configured_at past)) default_configuration) none
@@ -182,7 +183,7 @@ pub other-config : {X : Type 0} (f : Configuration → List Turn → X) (end : P
 other-config {X} f end boxes past turn does none = ⊎_elim
     (λ same. ap (λ config. f config (own end past)) (keeps-config turn past same))
     (λ empty. subst (λ turns. f (config_by (turn ∷ past)) (own end turns) ≡ f (config_by past) (own end turns)) (sym empty) (none (config_by (turn ∷ past)) (config_by past)))
-    (sets-first boxes past turn.event turn.calls turn.step does)
+    (sets-first boxes past turn.moment turn.event turn.calls turn.step does)
 
 -- what is held of the peer's associations, after a turn of the peer's own and after one of another end
 pub slots-own : (boxes : ℕ) (past : List Turn) (turn : Turn) → DoesTold boxes past turn → is_by Peer turn ≡ true

@@ -1,5 +1,5 @@
 -- What turns make of what the ends hold is what each end's own turns tell of it.
-use Rattle.std.proofs.Common.{◌≡◌, ℕ, ◌||◌, unwrap_or, Bool, true, false, Option, Some, None, List, [], ◌∷◌, ◌++◌, option_to_list, append-nil, length, refl, ap, sym, ◌∙◌, subst, if◌then◌else◌}
+use Rattle.std.proofs.Common.{◌≡◌, ℕ, ◌||◌, unwrap_or, Bool, true, false, Option, Some, None, List, [], ◌∷◌, ◌++◌, option_to_list, append-nil, length, refl, ap, ap₂, sym, ◌∙◌, subst, if◌then◌else◌}
 use Rattle.std.proofs.lemmas.Bool.{or_parts}
 use Rattle.std.specs.List.{filter}
 use Rattle.std.specs.Option.{option_map}
@@ -14,9 +14,24 @@ use Rattle.turn_rules.specs.Fits.{Does}
 use Rattle.turn_rules.specs.Held.{Held, config_by, configured_at, first_some, found, held_after, held_by, window_by}
 use Rattle.turn_rules.specs.Local.{Explained, IsByRule, Local}
 use Rattle.turn_rules.specs.Peers.{AreDistinct, associations_by, entered_in}
-use Rattle.turn_rules.specs.Slots.{slots_after, slots_by}
-use Rattle.turn_rules.specs.States.{ends, fresh_at, gateway_after, has_ended, held_unless, is_join, joined_after, joins, state_after, state_by, told_state}
+use Rattle.turn_rules.specs.PeerStates.{PeerHeld, peer_after, peer_by, peer_configured}
+use Rattle.turn_rules.specs.Slots.{Slot, slots_after, slots_by}
+use Rattle.turn_rules.specs.States.{ends, MemberHeld, fresh_at, has_ended, held_unless, is_join, joined_after, joins, member_after, member_by, member_unless, state_after, state_by, told_state}
 use Rattle.turn_rules.specs.Tasks.{member_task, peer_task}
+
+-- what own turns tell of a member, after one more of them
+member_by-cons : (config : Configuration) (turn : Turn) (mine : List Turn) → member_by config (turn ∷ mine) ≡ member_after config turn.moment (fresh_at turn) (member_task turn.event) turn.calls turn.step (member_by config mine)
+member_by-cons config turn mine i = record {
+  given = newest (fresh_at turn) (found fresh_at mine) i;
+  held = λ spir. held_by-cons config.window spir turn mine i;
+}
+  where
+    newest : (x y : Option (List ℕ)) → option_map (membership config) (first_some x y) ≡ first_some (option_map (membership config) x) (option_map (membership config) y)
+    newest None y = refl
+    newest (Some fresh) y = refl
+
+abbrev with_slots : Configuration → List Slot → PeerHeld
+with_slots config slots = record { gateway = gateway_of config; slots = slots }
 
 module _ (boxes : ℕ) (past : List Turn) (turn : Turn) (does : DoesTold boxes past turn) where
   config-more : config_by (turn ∷ past) ≡ unwrap_or (configured_at turn) (config_by past)
@@ -25,13 +40,6 @@ module _ (boxes : ℕ) (past : List Turn) (turn : Turn) (does : DoesTold boxes p
       go : (c x : Option Configuration) → unwrap_or (first_some c x) default_configuration ≡ unwrap_or c (unwrap_or x default_configuration)
       go None x = refl
       go (Some c) x = refl
-
-  gateway-more : gateway_of (config_by (turn ∷ past)) ≡ gateway_after (configured_at turn) (gateway_of (config_by past))
-  gateway-more = ap gateway_of config-more ∙ go (configured_at turn)
-    where
-      go : (c : Option Configuration) → gateway_of (unwrap_or c (config_by past)) ≡ gateway_after c (gateway_of (config_by past))
-      go None = refl
-      go (Some c) = refl
 
   joined-more : joins (turn ∷ past) ≡ joined_after (is_join turn.step.verdict) (joins past)
   joined-more = go (is_join turn.step.verdict)
@@ -43,68 +51,47 @@ module _ (boxes : ℕ) (past : List Turn) (turn : Turn) (does : DoesTold boxes p
       go true = refl
       go false = refl
 
-  slots-more : (b : Bool) → is_by Peer turn ≡ b → slots_by (window_by (turn ∷ past)) (own Peer (turn ∷ past))
-      ≡ (if b then slots_after (window_by past) (peer_task turn.event) turn.step (slots_by (window_by past) (own Peer past)) else slots_by (window_by past) (own Peer past))
-  slots-more true mine = slots-own boxes past turn does mine
-  slots-more false other = slots-other boxes past turn does other
+  -- what the peer holds, once the turn may have configured the cluster
+  peer-set : (c : Option Configuration) (slots : List Slot) → with_slots (unwrap_or c (config_by past)) slots ≡ peer_configured c (with_slots (config_by past) slots)
+  peer-set None slots = refl
+  peer-set (Some config) slots = refl
 
-  module _ (member spir : ℕ) where
-    abbrev held_now : Option Held
-    held_now = held_by (window_by (turn ∷ past)) (own (Member member) (turn ∷ past)) spir
+  peer-more : (b : Bool) → is_by Peer turn ≡ b → peer_by (config_by (turn ∷ past)) (own Peer (turn ∷ past))
+      ≡ peer_configured (configured_at turn) (if b then peer_after (window_by past) turn.moment (peer_task turn.event) turn.step (peer_by (config_by past) (own Peer past)) else peer_by (config_by past) (own Peer past))
+  peer-more true mine =
+      ap₂ with_slots config-more (slots-own boxes past turn does mine) ∙ peer-set (configured_at turn) (slots_after (window_by past) (peer_task turn.event) turn.step (slots_by (window_by past) (own Peer past)))
+  peer-more false other =
+      ap₂ with_slots config-more (slots-other boxes past turn does other) ∙ peer-set (configured_at turn) (slots_by (window_by past) (own Peer past))
 
-    abbrev held_then : Option Held
-    held_then = held_unless (has_ended member past) (held_by (window_by past) (own (Member member) past) spir)
-
-    held-up : has_ended member past ≡ false → (b : Bool) → is_by (Member member) turn ≡ b
-        → held_now ≡ (if b then held_after (window_by past) spir (member_task turn.event) turn.calls turn.step held_then else held_then)
-    held-up up true mine =
-        ap (λ (config : Configuration). held_by config.window (own (Member member) (turn ∷ past)) spir) (own-config (Member member) past turn mine)
-        ∙ ap (λ b. held_by (window_by past) (if b then turn ∷ own (Member member) past else own (Member member) past) spir) mine
-        ∙ held_by-cons (window_by past) spir turn (own (Member member) past)
-        ∙ ap (λ b. held_after (window_by past) spir (member_task turn.event) turn.calls turn.step (held_unless b (held_by (window_by past) (own (Member member) past) spir))) (sym up)
-    held-up up false other =
-        ap (λ b. held_by (window_by (turn ∷ past)) (if b then turn ∷ own (Member member) past else own (Member member) past) spir) other
-        ∙ other-config (λ config turns. held_by config.window turns spir) (Member member) boxes past turn does (λ c d. refl)
-        ∙ ap (λ b. held_unless b (held_by (window_by past) (own (Member member) past) spir)) (sym up)
-
-    held-more : (b : Bool) → (ends member turn.event turn.step.verdict || has_ended member past) ≡ b
-        → held_unless b held_now
-        ≡ held_unless b (if is_by (Member member) turn then held_after (window_by past) spir (member_task turn.event) turn.calls turn.step held_then else held_then)
-    held-more true ended = refl
-    held-more false up = held-up (or_parts (ends member turn.event turn.step.verdict) (has_ended member past) up).1 (is_by (Member member) turn) refl
-
-  -- what a member was given when it joined
   module _ (member : ℕ) where
-    abbrev told_with : Configuration → List Turn → Option Membership
-    told_with config mine = option_map (membership config) (found fresh_at mine)
+    abbrev mine : List Turn
+    mine = own (Member member) past
 
-    abbrev given_then : Option Membership
-    given_then = held_unless (has_ended member past) (told_with (config_by past) (own (Member member) past))
+    abbrev told : MemberHeld
+    told = member_by (config_by past) mine
 
-    abbrev given_as : Bool → Option Membership → Option Membership
-    given_as b before = if b then first_some (option_map (membership (config_by past)) (fresh_at turn)) before else before
+    abbrev acted : MemberHeld → MemberHeld
+    acted m = member_after (config_by past) turn.moment (fresh_at turn) (member_task turn.event) turn.calls turn.step m
 
-    given-up : has_ended member past ≡ false → (b : Bool) → is_by (Member member) turn ≡ b → told_with (config_by (turn ∷ past)) (own (Member member) (turn ∷ past)) ≡ given_as b given_then
-    given-up up true mine =
-        ap (λ config. told_with config (own (Member member) (turn ∷ past))) (own-config (Member member) past turn mine)
-        ∙ ap (λ b. told_with (config_by past) (if b then turn ∷ own (Member member) past else own (Member member) past)) mine
-        ∙ newest (fresh_at turn) (found fresh_at (own (Member member) past))
-        ∙ ap (λ b. given_as true (held_unless b (told_with (config_by past) (own (Member member) past)))) (sym up)
-      where
-        newest : (x y : Option (List ℕ)) → option_map (membership (config_by past)) (first_some x y) ≡ first_some (option_map (membership (config_by past)) x) (option_map (membership (config_by past)) y)
-        newest None y = refl
-        newest (Some fresh) y = refl
-    given-up up false other =
-        ap (λ b. told_with (config_by (turn ∷ past)) (if b then turn ∷ own (Member member) past else own (Member member) past)) other
-        ∙ other-config told_with (Member member) boxes past turn does (λ c d. refl)
-        ∙ ap (λ b. held_unless b (told_with (config_by past) (own (Member member) past))) (sym up)
+    -- what own turns tell of a member after the turn, whether or not it is one of them
+    member-now : (b : Bool) → is_by (Member member) turn ≡ b → member_by (config_by (turn ∷ past)) (own (Member member) (turn ∷ past)) ≡ (if b then acted told else told)
+    member-now true by =
+        ap (λ config. member_by config (own (Member member) (turn ∷ past))) (own-config (Member member) past turn by)
+        ∙ ap (λ b. member_by (config_by past) (if b then turn ∷ mine else mine)) by
+        ∙ member_by-cons (config_by past) turn mine
+    member-now false other =
+        ap (λ b. member_by (config_by (turn ∷ past)) (if b then turn ∷ mine else mine)) other ∙ other-config member_by (Member member) boxes past turn does (λ c d. refl)
 
-    given-more : (b : Bool) → (ends member turn.event turn.step.verdict || has_ended member past) ≡ b
-        → held_unless b (told_with (config_by (turn ∷ past)) (own (Member member) (turn ∷ past))) ≡ held_unless b (given_as (is_by (Member member) turn) given_then)
-    given-more true ended = refl
-    given-more false up = given-up (or_parts (ends member turn.event turn.step.verdict) (has_ended member past) up).1 (is_by (Member member) turn) refl
+    members-more : (b : Bool) → (ends member turn.event turn.step.verdict || has_ended member past) ≡ b
+        → member_unless b (member_by (config_by (turn ∷ past)) (own (Member member) (turn ∷ past)))
+        ≡ member_unless b (if is_by (Member member) turn then acted (member_unless (has_ended member past) told) else member_unless (has_ended member past) told)
+    members-more true ended = refl
+    members-more false up = ap (member_unless false)
+        (member-now (is_by (Member member) turn) refl
+        ∙ ap (λ ended. if is_by (Member member) turn then acted (member_unless ended told) else member_unless ended told)
+        (sym (or_parts (ends member turn.event turn.step.verdict) (has_ended member past) up).1))
 
-  pub told-cons : told_state boxes (turn ∷ past) ≡ state_after turn.event turn.calls turn.step (told_state boxes past)
+  pub told-cons : told_state boxes (turn ∷ past) ≡ state_after turn.moment turn.event turn.calls turn.step (told_state boxes past)
   told-cons i = record {
     boxes = boxes;
     started = true;
@@ -112,10 +99,8 @@ module _ (boxes : ℕ) (past : List Turn) (turn : Turn) (does : DoesTold boxes p
     joined = joined-more i;
     ended = λ member. has_ended member (turn ∷ past);
     datagrams = datagrams_of (turn ∷ past);
-    gateway = gateway-more i;
-    slots = slots-more (is_by Peer turn) refl i;
-    members = λ member. given-more member (ends member turn.event turn.step.verdict || has_ended member past) refl i;
-    held = λ member spir. held-more member spir (ends member turn.event turn.step.verdict || has_ended member past) refl i;
+    peer = peer-more (is_by Peer turn) refl i;
+    members = λ member. members-more member (ends member turn.event turn.step.verdict || has_ended member past) refl i;
   }
 
 -- where each turn follows its rule, each end's own turns tell what it holds
@@ -123,8 +108,8 @@ pub states-explained : (boxes : ℕ) (past : List Turn) → Explained boxes past
 states-explained boxes [] local = refl
 states-explained boxes (turn ∷ past) local =
     let before : state_by boxes past ≡ told_state boxes past = states-explained boxes past local.1 in
-    let does : DoesTold boxes past turn = subst (λ state. Does state turn.event turn.calls turn.step) before local.0.fits in
-    ap (state_after turn.event turn.calls turn.step) before ∙ sym (told-cons boxes past turn does)
+    let does : DoesTold boxes past turn = subst (λ state. Does state turn.moment turn.event turn.calls turn.step) before local.0.fits in
+    ap (state_after turn.moment turn.event turn.calls turn.step) before ∙ sym (told-cons boxes past turn does)
 
 -- where no answer was hidden besides, each turn follows its rule
 pub local-explained : (boxes : ℕ) (past : List Turn) → Local boxes past → Explained boxes past
@@ -136,7 +121,7 @@ states-told boxes past local = states-explained boxes past (local-explained boxe
 
 -- and each turn is explained by what they tell
 pub does-told : (boxes : ℕ) (past : List Turn) (turn : Turn) → IsByRule boxes past turn → Explained boxes past → DoesTold boxes past turn
-does-told boxes past turn explained local = subst (λ state. Does state turn.event turn.calls turn.step) (states-explained boxes past local) explained.fits
+does-told boxes past turn explained local = subst (λ state. Does state turn.moment turn.event turn.calls turn.step) (states-explained boxes past local) explained.fits
 
 -- the associations that came to the peer differ
 pub associations-apart : (boxes : ℕ) (past : List Turn) → Explained boxes past → AreDistinct (associations_by (own Peer past))

@@ -12,6 +12,7 @@ use Rattle.events.specs.declared.verdict.Refusal.{Refusal}
 use Rattle.events.specs.declared.verdict.Refusal.TheVariants as refusal
 use Rattle.events.specs.declared.verdict.Verdict.{Verdict}
 use Rattle.events.specs.declared.verdict.Verdict.TheVariants as out
+use Rattle.ha_base.specs.declared.outside.Moment.{Moment}
 use Rattle.ha_base.specs.declared.limits.TheConstants.{LEAST_ESP_SPI, LEAST_SPI, MAX_DATAGRAMS}
 use Rattle.keeper_book.specs.declared.calls.Call.{Call}
 use Rattle.keeper_book.specs.declared.records.Record.{Record}
@@ -129,7 +130,7 @@ run_refusal state event =
 -- the peer has no association that stands in the way, or the import is refused
 abbrev pub Imports : RunState → Record → List Call → Step → Type 0
 Imports state sa calls step =
-    Refusing (not (admits (records state.slots) sa)) refusal.SpiInUse calls step
+    Refusing (not (admits (records state.peer.slots) sa)) refusal.SpiInUse calls step
     (Quietly (EntersRecord sa) calls step)
 
 -- a member draws a number of what it holds
@@ -142,41 +143,43 @@ abbrev pub SendsOf : Option Held → List ℕ → List Call → Step → Type 0
 SendsOf None payload calls step = Refuses refusal.NotOwner calls step
 SendsOf (Some held) payload calls step = SendsData held payload calls step
 
--- an end receives what arrives
-abbrev pub Receives : RunState → Party → Result PlainDatagram Refusal → List Call → Step → Type 0
-Receives state to (Err why) calls step = ⊥
-Receives state parties.Peer (Ok datagram) calls step =
-    PeerTakes state.slots datagram.octets calls step
-Receives state (parties.Member member) (Ok datagram) calls step =
-    MemberTakes (state.held member) datagram.octets calls step
+-- an end receives what arrives at a moment
+abbrev pub Receives : RunState → Moment → Party → Result PlainDatagram Refusal → List Call → Step
+    → Type 0
+Receives state now to (Err why) calls step = ⊥
+Receives state now parties.Peer (Ok datagram) calls step =
+    PeerTakes state.peer.slots datagram.octets calls step
+Receives state now (parties.Member member) (Ok datagram) calls step =
+    MemberTakes (state.members member).held datagram.octets calls step
 
-abbrev pub Delivers : RunState → Option Delivery → List Call → Step → Type 0
-Delivers state None calls step = ⊥
-Delivers state (Some delivery) calls step = Receives state delivery.to
+abbrev pub Delivers : RunState → Moment → Option Delivery → List Call → Step → Type 0
+Delivers state now None calls step = ⊥
+Delivers state now (Some delivery) calls step = Receives state now delivery.to
     (delivery.made state.datagrams) calls step
 
--- the calls of an event that the run does not refuse, and what the end does that performs it, by
--- what the ends hold
-abbrev pub Performs : RunState → Event → List Call → Step → Type 0
-Performs state (event.Cluster identity lifetime window ticket_key) calls step =
+-- the calls of an event that the run does not refuse, and what the end does at this moment that
+-- performs it, by what the ends hold
+abbrev pub Performs : RunState → Moment → Event → List Call → Step → Type 0
+Performs state now (event.Cluster identity lifetime window ticket_key) calls step =
     Yields out.Configured calls step
-Performs state (event.Import sa) calls step = Imports state sa calls step
-Performs state (event.Join fresh) calls step = Yields (out.Member (state.joined + 1)) calls step
-Performs state (event.Own member spir) calls step = Quietly (TakesOver spir member) calls step
-Performs state (event.Draw member spir) calls step = DrawsOf (state.held member spir) calls step
-Performs state (event.Crash member) calls step = Yields out.Down calls step
-Performs state (event.Send parties.Peer spir payload) calls step =
-    (calls ≡ []) × PeerSends spir state.slots payload.octets step
-Performs state (event.Send (parties.Member member) spir payload) calls step =
-    SendsOf (state.held member spir) payload.octets calls step
-Performs state event calls step = Delivers state (delivery_of event) calls step
+Performs state now (event.Import sa) calls step = Imports state sa calls step
+Performs state now (event.Join fresh) calls step = Yields (out.Member (state.joined + 1)) calls step
+Performs state now (event.Own member spir) calls step = Quietly (TakesOver spir member) calls step
+Performs state now (event.Draw member spir) calls step = DrawsOf ((state.members member).held spir) calls step
+Performs state now (event.Crash member) calls step = Yields out.Down calls step
+Performs state now (event.Send parties.Peer spir payload) calls step =
+    (calls ≡ []) × PeerSends spir state.peer.slots payload.octets step
+Performs state now (event.Send (parties.Member member) spir payload) calls step =
+    SendsOf ((state.members member).held spir) payload.octets calls step
+Performs state now event calls step = Delivers state now (delivery_of event) calls step
 
 -- the calls of an event and what is done: the run refuses it, or its end performs it
-abbrev pub Does : RunState → Event → List Call → Step → Type 0
-Does state event calls step = MatchOption (run_refusal state event)
-    (Performs state event calls step)
+abbrev pub Does : RunState → Moment → Event → List Call → Step → Type 0
+Does state now event calls step = MatchOption (run_refusal state event)
+    (Performs state now event calls step)
     (λ why. Refuses why calls step)
 
--- the same, after these turns
-abbrev pub FitsTurns : ℕ → List Turn → Event → List Call → Step → Type 0
-FitsTurns boxes past event calls step = Does (state_by boxes past) event calls step
+-- so it is of a turn, by what the turns before it make of what the ends hold
+abbrev pub FitsTurns : ℕ → List Turn → Turn → Type 0
+FitsTurns boxes past turn =
+    Does (state_by boxes past) turn.moment turn.event turn.calls turn.step

@@ -9,6 +9,7 @@ pub mod Held
 pub mod Local
 pub mod MemberPackets
 pub mod Packets
+pub mod PeerStates
 pub mod Peers
 pub mod Safe
 pub mod Services

@@ -14,7 +14,7 @@ AreShown calls = AllByRecursion (λ call. call.hidden ≡ false) calls
 -- a turn follows its rule: it is what the turns before it make of its event and the answers to its
 -- calls, and each answer is one that its call has, whatever the keeper's book is
 pub record IsByRule (boxes : ℕ) (past : List Turn) (turn : Turn) : Type 0 where
-  pub fits : FitsTurns boxes past turn.event turn.calls turn.step
+  pub fits : FitsTurns boxes past turn
   pub answers : AreAnswers turn.calls
 
 -- each turn does, whether or not answers were hidden; the newest turn comes first
@@ -24,7 +24,7 @@ Explained boxes (turn ∷ past) = IsByRule boxes past turn × Explained boxes pa
 
 -- a turn is explained by the turns before it
 pub record IsExplained (boxes : ℕ) (past : List Turn) (turn : Turn) : Type 0 where
-  pub fits : FitsTurns boxes past turn.event turn.calls turn.step
+  pub fits : FitsTurns boxes past turn
   pub shown : AreShown turn.calls
   -- each answer is one that its call has, whatever the keeper's book is
   pub answers : AreAnswers turn.calls

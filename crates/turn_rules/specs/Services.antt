@@ -1,6 +1,7 @@
 -- What the services give that execute requests for the ends.
-use Rattle.std.specs.Prelude.{ℕ, suc, zero, ◌+◌, Option, Some, None, is_some, slice_get, IfSome, IsSomeAnd, List, [], ◌∷◌, length}
+use Rattle.std.specs.Prelude.{ℕ, suc, zero, ◌+◌, ◌≡◌, ◌↔◌, Option, Some, None, is_some, slice_get, IfSome, IsSomeAnd, List, [], ◌∷◌, length}
 use Rattle.std.specs.List.{filter}
+use Rattle.events.specs.declared.turn.Served.{Served}
 use Rattle.events.specs.declared.turn.Turn.{Turn}
 use Rattle.ha_base.specs.Services.{ReplyRelation}
 use Rattle.turn_rules.specs.Ends.{Performer, Peer, Member, own, performer}
@@ -11,6 +12,23 @@ abbrev pub service_of : {B : Type 0} → B → List B → Performer → Option B
 service_of peer members Peer = Some peer
 service_of peer members (Member zero) = None
 service_of peer members (Member (suc n)) = slice_get members n
+
+-- A service executed a request: it was one more, and the last; the reply is one that it may give.
+-- What it may give stays as it is.
+pub record Executes {B : Type 0} (count : B → ℕ) (last : B → Option (List ℕ))
+    (gives : B → ReplyRelation) (old : B) (served : Served) (new : B) : Type 0 where
+  pub counted : count new ≡ count old + 1
+  pub last_is : last new ≡ Some served.request.octets
+  pub given : gives old (count old + 1) served.request.octets served.reply.octets
+  pub same : (n : ℕ) (request reply : List ℕ)
+      → gives new n request reply ↔ gives old n request reply
+
+-- The word for the contract of every function to which the service of an end is lent: it executed
+-- what was served in the step, and nothing else.
+abbrev pub Serves : {B : Type 0} → (B → ℕ) → (B → Option (List ℕ)) → (B → ReplyRelation) → B
+    → Option Served → B → Type 0
+Serves count last gives old None new = new ≡ old
+Serves count last gives old (Some served) new = Executes count last gives old served new
 
 -- how many requests were executed in these turns
 abbrev pub services_executed : List Turn → ℕ

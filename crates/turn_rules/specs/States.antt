@@ -9,18 +9,24 @@ use Rattle.events.specs.declared.turn.Step.{Step}
 use Rattle.events.specs.declared.turn.Turn.{Turn}
 use Rattle.events.specs.declared.verdict.Verdict.{Verdict}
 use Rattle.events.specs.declared.verdict.Verdict.TheVariants as out
-use Rattle.ha_base.specs.declared.identities.GatewayId.{GatewayId}
+use Rattle.ha_base.specs.declared.outside.Moment.{Moment}
 use Rattle.keeper_book.specs.declared.calls.Call.{Call}
 use Rattle.turn_rules.specs.Configurations.{Configuration, Membership, configured_in, default_configuration, fresh_in, gateway_of, membership}
 use Rattle.turn_rules.specs.Datagrams.{PlainDatagram, datagrams_of, plain_datagram}
 use Rattle.turn_rules.specs.Ends.{Member, Peer, is_end, own, performer_at}
-use Rattle.turn_rules.specs.Held.{Held, config_by, first_some, found, held_after, held_by, window_by}
-use Rattle.turn_rules.specs.Slots.{Slot, slots_after, slots_by}
-use Rattle.turn_rules.specs.Tasks.{member_task, peer_task}
+use Rattle.turn_rules.specs.Held.{Held, config_by, first_some, found, held_after, held_by}
+use Rattle.turn_rules.specs.PeerStates.{PeerHeld, peer_after, peer_begun, peer_by, peer_configured}
+use Rattle.turn_rules.specs.Tasks.{Task, member_task, peer_task}
+
+-- What a member holds: what it was given as it joined, if it did, and what it holds of each
+-- association, by the responder's SPI.
+pub record MemberHeld : Type 0 where
+  pub given : Option Membership
+  pub held : ℕ → Option Held
 
 -- boxes: how many services were handed in for members; config: how members are configured that
--- join; joined: how many members joined; gateway and slots: where the peer sends, and its
--- associations. `ended`, `members` and `held` are by the number of a member, counted from 1.
+-- join; joined: how many members joined; peer: what the peer holds. `ended` and `members` are by the
+-- number of a member, counted from 1.
 pub record RunState : Type 0 where
   pub boxes : ℕ
   pub started : Bool
@@ -28,10 +34,8 @@ pub record RunState : Type 0 where
   pub joined : ℕ
   pub ended : ℕ → Bool
   pub datagrams : List PlainDatagram
-  pub gateway : GatewayId
-  pub slots : List Slot
-  pub members : ℕ → Option Membership
-  pub held : ℕ → ℕ → Option Held
+  pub peer : PeerHeld
+  pub members : ℕ → MemberHeld
 
 abbrev pub is_join : Verdict → Bool
 is_join (out.Member number) = true
@@ -50,6 +54,10 @@ abbrev pub is_number : ℕ → Option ℕ → Bool
 is_number member None = false
 is_number member (Some other) = other == member
 
+-- the member that ended in a turn
+abbrev pub ended_in : Turn → Option ℕ
+ended_in turn = ended_by turn.event turn.step.verdict
+
 -- the event ended this member
 abbrev pub ends : ℕ → Event → Verdict → Bool
 ends member event verdict = is_number member (ended_by event verdict)
@@ -58,6 +66,26 @@ ends member event verdict = is_number member (ended_by event verdict)
 abbrev pub held_unless : {X : Type 0} → Bool → Option X → Option X
 held_unless true held = None
 held_unless false held = held
+
+-- what a member holds; once it ended that is nothing
+abbrev pub member_unless : Bool → MemberHeld → MemberHeld
+member_unless ended m = record {
+  given = held_unless ended m.given;
+  held = λ spir. held_unless ended (m.held spir);
+}
+
+-- a member that has not joined
+abbrev pub no_member : MemberHeld
+no_member = record { given = None; held = λ spir. None }
+
+-- what a member holds after a task of its own at a moment, by the configuration of the cluster;
+-- fresh: the octets of its own that it was given, where it joined
+abbrev pub member_after : Configuration → Moment → Option (List ℕ) → Task → List Call → Step
+    → MemberHeld → MemberHeld
+member_after config now fresh asked calls step m = record {
+  given = first_some (option_map (membership config) fresh) m.given;
+  held = λ spir. held_after config.window spir asked calls step (m.held spir);
+}
 
 -- before the first turn nobody holds anything
 abbrev pub at_first : ℕ → RunState
@@ -68,47 +96,36 @@ at_first boxes = record {
   joined = 0;
   ended = λ member. false;
   datagrams = [];
-  gateway = gateway_of default_configuration;
-  slots = [];
-  members = λ member. None;
-  held = λ member spir. None;
+  peer = peer_begun (gateway_of default_configuration);
+  members = λ member. no_member;
 }
-
--- the gateway that the peer talks to: the one that an event set, if it set one
-abbrev pub gateway_after : Option Configuration → GatewayId → GatewayId
-gateway_after None gateway = gateway
-gateway_after (Some config) gateway = gateway_of config
 
 -- what a turn makes of what the ends hold: the end that performs it goes on, and the others stay as
 -- they are
-abbrev pub state_after : Event → List Call → Step → RunState → RunState
-state_after event calls step state = record {
+abbrev pub state_after : Moment → Event → List Call → Step → RunState → RunState
+state_after now event calls step state = record {
   boxes = state.boxes;
   started = true;
   config = unwrap_or (configured_in event step.verdict) state.config;
   joined = joined_after (is_join step.verdict) state.joined;
   ended = λ member. ends member event step.verdict || state.ended member;
   datagrams = state.datagrams ++ option_to_list (option_map plain_datagram step.gives);
-  gateway = gateway_after (configured_in event step.verdict) state.gateway;
-  slots = if is_end Peer (performer_at event step.verdict)
-      then slots_after state.config.window (peer_task event) step state.slots
-      else state.slots;
-  members = λ member. held_unless (ends member event step.verdict || state.ended member)
+  peer = peer_configured (configured_in event step.verdict)
+      (if is_end Peer (performer_at event step.verdict)
+      then peer_after state.config.window now (peer_task event) step state.peer
+      else state.peer);
+  members = λ member. member_unless (ends member event step.verdict || state.ended member)
       (if is_end (Member member) (performer_at event step.verdict)
-      then first_some (option_map (membership state.config) (fresh_in event step.verdict))
+      then member_after state.config now (fresh_in event step.verdict) (member_task event) calls step
       (state.members member)
       else state.members member);
-  held = λ member spir. held_unless (ends member event step.verdict || state.ended member)
-      (if is_end (Member member) (performer_at event step.verdict)
-      then held_after state.config.window spir (member_task event) calls step
-      (state.held member spir)
-      else state.held member spir);
 }
 
 -- what the turns of a run make of what its ends hold; the newest turn comes first
 abbrev pub state_by : ℕ → List Turn → RunState
 state_by boxes [] = at_first boxes
-state_by boxes (turn ∷ past) = state_after turn.event turn.calls turn.step (state_by boxes past)
+state_by boxes (turn ∷ past) =
+    state_after turn.moment turn.event turn.calls turn.step (state_by boxes past)
 
 abbrev pub has_turns : List Turn → Bool
 has_turns [] = false
@@ -126,6 +143,13 @@ has_ended member past = list_any (λ turn. ends member turn.event turn.step.verd
 abbrev pub fresh_at : Turn → Option (List ℕ)
 fresh_at turn = fresh_in turn.event turn.step.verdict
 
+-- what a member holds, as the configuration and its own turns tell it
+abbrev pub member_by : Configuration → List Turn → MemberHeld
+member_by config past = record {
+  given = option_map (membership config) (found fresh_at past);
+  held = held_by config.window past;
+}
+
 -- The same, as each end's own turns tell it: with the greatest numbers that it used and saw
 -- acknowledged, and the sets of those that it received. The laws say that it is the same where each
 -- turn is explained.
@@ -137,10 +161,7 @@ told_state boxes past = record {
   joined = joins past;
   ended = λ member. has_ended member past;
   datagrams = datagrams_of past;
-  gateway = gateway_of (config_by past);
-  slots = slots_by (window_by past) (own Peer past);
-  members = λ member. held_unless (has_ended member past)
-      (option_map (membership (config_by past)) (found fresh_at (own (Member member) past)));
-  held = λ member spir. held_unless (has_ended member past)
-      (held_by (window_by past) (own (Member member) past) spir);
+  peer = peer_by (config_by past) (own Peer past);
+  members = λ member. member_unless (has_ended member past)
+      (member_by (config_by past) (own (Member member) past));
 }

@@ -26,8 +26,8 @@ module _ (g : _) (c : goal.After-push g) where
   abbrev asked_turn : Turn
   asked_turn = record { moment = c.args.now; event = c.args.event; calls = c.in_ok-step.ensures.plays.calls; step = c.in_ok-step.step }
 
-  plays : Plays past c.self.inside.parties c.args.event c.in_ok-step.ensures.plays.calls c.in_ok-step.step c.play.new.self
-  plays = subst (λ (ts : List Turn). Plays ts c.self.inside.parties c.args.event c.in_ok-step.ensures.plays.calls c.in_ok-step.step c.play.new.self) c.in_ok-reserve.ensures.past c.in_ok-step.ensures.plays.follows
+  plays : Plays past c.self.inside.parties c.args.now c.args.event c.in_ok-step.ensures.plays.calls c.in_ok-step.step c.play.new.self
+  plays = subst (λ (ts : List Turn). Plays ts c.self.inside.parties c.args.now c.args.event c.in_ok-step.ensures.plays.calls c.in_ok-step.step c.play.new.self) c.in_ok-reserve.ensures.past c.in_ok-step.ensures.plays.follows
 
   shown : AreShown c.in_ok-step.ensures.plays.calls
   shown = spoken-shown c.args.keeper.now c.in_ok-step.ensures.plays.calls c.play.new.keeper c.in_ok-step.ensures.plays.asked (λ a call b passed. passed.open_answer)

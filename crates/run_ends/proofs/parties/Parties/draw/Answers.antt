@@ -17,7 +17,7 @@ returns-in_default g c =
     record {
       draws = record {
         calls = [];
-        follows = λ past. absent-plays past c.args.self.now (event.Draw c.args.member c.args.spir) c.args.member refl refl c.requires.in_place c.refused.result none c.refused.ensures;
+        follows = λ past moment. absent-plays past c.args.self.now moment (event.Draw c.args.member c.args.spir) c.args.member refl refl c.requires.in_place c.refused.result none c.refused.ensures;
         asked = asks_none c.args.keeper.now;
         held = refl;
       };
@@ -27,11 +27,11 @@ pub returns-in-None : goal.returns-in-None
 returns-in-None g c =
     let members : List (Option Holder) = c.self.inside.members.items in
     let members_are : members ≡ c.args.self.now.members = ap (λ (s : EndsHeld). s.members) c.self.view_is in
-    let with_members : List (Option Holder) → EndsHeld = λ ms. record { boxes = c.self.inside.boxes; config = c.self.inside.settings; gateway = c.self.inside.peer.gateway; slots = c.self.inside.peer.slots; members = ms } in
+    let with_members : List (Option Holder) → EndsHeld = λ ms. record { boxes = c.self.inside.boxes; config = c.self.inside.settings; peer = c.self.inside.peer.held; members = ms } in
     record {
       draws = record {
         calls = [];
-        follows = λ past. down-plays past c.args.self.now (event.Draw c.args.member c.args.spir) c.args.member refl refl c.requires.in_place c.in-Some.place c.index_mut.result.now c.in-Some.ensures
+        follows = λ past moment. down-plays past c.args.self.now moment (event.Draw c.args.member c.args.spir) c.args.member refl refl c.requires.in_place c.in-Some.place c.index_mut.result.now c.in-Some.ensures
             (rw members_are at c.index_mut.ensures.value) c.refused-in-None.result _ c.in-None.is c.refused-in-None.ensures
             (ap with_members (put_back members c.in-Some.place c.index_mut.result.now c.index_mut.ensures.value) ∙ c.self.view_is);
         asked = asks_none c.args.keeper.now;
@@ -47,7 +47,7 @@ returns-in-Some-index_mut g c =
     let leaves = ap (λ (v : EndsHeld). record v { members = set v.members c.in-Some.place (Some now) }) c.self.view_is in
     record {
       draws = asked-as
-          (λ calls it past. draws past c.args.self.now c.args.member c.in-Some.place c.index_mut.result.now c.requires.in_place c.in-Some.ensures (rw members_are at c.index_mut.ensures.value)
+          (λ calls it past moment. draws past c.args.self.now moment c.args.member c.in-Some.place c.index_mut.result.now c.requires.in_place c.in-Some.ensures (rw members_are at c.index_mut.ensures.value)
           c.in-Some-index_mut.member now c.in-Some-index_mut.is _ leaves c.args.spir calls c.draw.result it.0 it.1)
           c.draw.ensures.draws;
     }

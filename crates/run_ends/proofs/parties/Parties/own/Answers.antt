@@ -16,7 +16,7 @@ returns-in_default-clause-owns g c =
     let none : has_member c.args.member c.args.self.now.members ≡ false = search rules in
     record {
       calls = [];
-      follows = λ past. absent-plays past c.args.self.now (event.Own c.args.member c.args.spir) c.args.member refl refl c.requires.in_place c.refused.result none c.refused.ensures;
+      follows = λ past moment. absent-plays past c.args.self.now moment (event.Own c.args.member c.args.spir) c.args.member refl refl c.requires.in_place c.refused.result none c.refused.ensures;
       asked = asks_none c.args.keeper.now;
       held = refl;
     }
@@ -25,10 +25,10 @@ pub returns-in-None-clause-owns : goal.returns-in-None-clause-owns
 returns-in-None-clause-owns g c =
     let members : List (Option Holder) = c.self.inside.members.items in
     let members_are : members ≡ c.args.self.now.members = ap (λ (s : EndsHeld). s.members) c.self.view_is in
-    let with_members : List (Option Holder) → EndsHeld = λ ms. record { boxes = c.self.inside.boxes; config = c.self.inside.settings; gateway = c.self.inside.peer.gateway; slots = c.self.inside.peer.slots; members = ms } in
+    let with_members : List (Option Holder) → EndsHeld = λ ms. record { boxes = c.self.inside.boxes; config = c.self.inside.settings; peer = c.self.inside.peer.held; members = ms } in
     record {
       calls = [];
-      follows = λ past. down-plays past c.args.self.now (event.Own c.args.member c.args.spir) c.args.member refl refl c.requires.in_place c.in-Some.place c.index_mut.result.now c.in-Some.ensures
+      follows = λ past moment. down-plays past c.args.self.now moment (event.Own c.args.member c.args.spir) c.args.member refl refl c.requires.in_place c.in-Some.place c.index_mut.result.now c.in-Some.ensures
           (rw members_are at c.index_mut.ensures.value) c.refused-in-None.result _ c.in-None.is c.refused-in-None.ensures
           (ap with_members (put_back members c.in-Some.place c.index_mut.result.now c.index_mut.ensures.value) ∙ c.self.view_is);
       asked = asks_none c.args.keeper.now;
@@ -42,6 +42,6 @@ returns-in-Some-index_mut-clause-owns g c =
     let now = c.take_over.new.self in
     let leaves = ap (λ (v : EndsHeld). record v { members = set v.members c.in-Some.place (Some now) }) c.self.view_is in
     if_ok-as c.take_over.result
-    (λ step. asked-as (λ calls it past. owns past c.args.self.now c.args.member c.in-Some.place c.index_mut.result.now c.requires.in_place c.in-Some.ensures (rw members_are at c.index_mut.ensures.value)
+    (λ step. asked-as (λ calls it past moment. owns past c.args.self.now moment c.args.member c.in-Some.place c.index_mut.result.now c.requires.in_place c.in-Some.ensures (rw members_are at c.index_mut.ensures.value)
     c.in-Some-index_mut.member now c.in-Some-index_mut.is _ leaves c.args.spir calls step it.0 it.1))
     c.take_over.ensures.takes

@@ -1,5 +1,6 @@
 -- Each event is played as its kind says.
 use Rattle.std.proofs.Common.{[], refl, subst, sym}
+use Rattle.ha_base.specs.declared.outside.Moment.{Moment}
 use Rattle.keeper_book.proofs.Asking.{asks_none}
 use Rattle.turn_rules.specs.Configurations.{Configuration}
 use Rattle.turn_rules.specs.Datagrams.{datagrams_of}
@@ -12,34 +13,34 @@ pub returns-in-Cluster-clause-plays : goal.returns-in-Cluster-clause-plays
 returns-in-Cluster-clause-plays g c = record {
   calls = [];
   follows = rw c.in-Cluster.is
-      (subst (λ (s : Configuration). Configures s (λ at. Plays c.args.trace.now.past c.args.self.now at [] c.configure.result c.configure.new.self)) c.of-settings.ensures c.configure.ensures.configures _ refl);
+      (subst (λ (s : Configuration). Configures s (λ at. (now : Moment) → Plays c.args.trace.now.past c.args.self.now now at [] c.configure.result c.configure.new.self)) c.of-settings.ensures c.configure.ensures.configures _ refl c.args.now);
   asked = asks_none c.args.keeper.now;
   held = refl;
 }
 
 pub returns-in-Import-clause-plays : goal.returns-in-Import-clause-plays
-returns-in-Import-clause-plays g c = if_ok-as c.import.result (λ step. asked-as (λ calls it. rw c.in-Import.is (it c.args.trace.now.past))) c.import.ensures.imports
+returns-in-Import-clause-plays g c = if_ok-as c.import.result (λ step. asked-as (λ calls it. rw c.in-Import.is (it c.args.trace.now.past c.args.now))) c.import.ensures.imports
 
 pub returns-in-Join-clause-plays : goal.returns-in-Join-clause-plays
 returns-in-Join-clause-plays g c = if_ok-as c.join.result
-    (λ step it. record { calls = []; follows = rw c.in-Join.is (it c.args.trace.now.past); asked = asks_none c.args.keeper.now; held = refl }) c.join.ensures.joins
+    (λ step it. record { calls = []; follows = rw c.in-Join.is (it c.args.trace.now.past c.args.now); asked = asks_none c.args.keeper.now; held = refl }) c.join.ensures.joins
 
 pub returns-in-Own-clause-plays : goal.returns-in-Own-clause-plays
-returns-in-Own-clause-plays g c = if_ok-as c.own.result (λ step. asked-as (λ calls it. rw c.in-Own.is (it c.args.trace.now.past))) c.own.ensures.owns
+returns-in-Own-clause-plays g c = if_ok-as c.own.result (λ step. asked-as (λ calls it. rw c.in-Own.is (it c.args.trace.now.past c.args.now))) c.own.ensures.owns
 
 pub returns-in-Draw-clause-plays : goal.returns-in-Draw-clause-plays
-returns-in-Draw-clause-plays g c = asked-as (λ calls it. rw c.in-Draw.is (it c.args.trace.now.past)) c.draw.ensures.draws
+returns-in-Draw-clause-plays g c = asked-as (λ calls it. rw c.in-Draw.is (it c.args.trace.now.past c.args.now)) c.draw.ensures.draws
 
 pub returns-in-Crash-clause-plays : goal.returns-in-Crash-clause-plays
 returns-in-Crash-clause-plays g c = record {
   calls = [];
-  follows = rw c.in-Crash.is (c.crash.ensures.crashes c.args.trace.now.past);
+  follows = rw c.in-Crash.is (c.crash.ensures.crashes c.args.trace.now.past c.args.now);
   asked = asks_none c.args.keeper.now;
   held = refl;
 }
 
 pub returns-in-Send-clause-plays : goal.returns-in-Send-clause-plays
-returns-in-Send-clause-plays g c = if_ok-as c.send.result (λ step. asked-as (λ calls it. rw c.in-Send.is (it c.in-Send.payload (sym c.as_slice.ensures.value)))) c.send.ensures.sends
+returns-in-Send-clause-plays g c = if_ok-as c.send.result (λ step. asked-as (λ calls it. rw c.in-Send.is (it c.args.now c.in-Send.payload (sym c.as_slice.ensures.value)))) c.send.ensures.sends
 
 pub deliver-requires-clause-to : goal.deliver-requires-clause-to
 deliver-requires-clause-to g c = rw c.in-Deliver.is (_, refl)

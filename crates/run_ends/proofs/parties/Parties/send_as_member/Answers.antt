@@ -17,7 +17,7 @@ returns-in_default-clause-sends g c =
     let none : has_member c.args.member c.args.self.now.members ≡ false = search rules in
     record {
       calls = [];
-      follows = λ past given room same. absent-plays past c.args.self.now (event.Send (parties.Member c.args.member) c.args.spir given) c.args.member refl room c.requires.in_place c.refused.result none c.refused.ensures;
+      follows = λ past moment given room same. absent-plays past c.args.self.now moment (event.Send (parties.Member c.args.member) c.args.spir given) c.args.member refl room c.requires.in_place c.refused.result none c.refused.ensures;
       asked = asks_none c.args.keeper.now;
       held = refl;
     }
@@ -26,10 +26,10 @@ pub returns-in-None-clause-sends : goal.returns-in-None-clause-sends
 returns-in-None-clause-sends g c =
     let members : List (Option Holder) = c.self.inside.members.items in
     let members_are : members ≡ c.args.self.now.members = ap (λ (s : EndsHeld). s.members) c.self.view_is in
-    let with_members : List (Option Holder) → EndsHeld = λ ms. record { boxes = c.self.inside.boxes; config = c.self.inside.settings; gateway = c.self.inside.peer.gateway; slots = c.self.inside.peer.slots; members = ms } in
+    let with_members : List (Option Holder) → EndsHeld = λ ms. record { boxes = c.self.inside.boxes; config = c.self.inside.settings; peer = c.self.inside.peer.held; members = ms } in
     record {
       calls = [];
-      follows = λ past given room same. down-plays past c.args.self.now (event.Send (parties.Member c.args.member) c.args.spir given) c.args.member refl room c.requires.in_place c.in-Some.place c.index_mut.result.now c.in-Some.ensures
+      follows = λ past moment given room same. down-plays past c.args.self.now moment (event.Send (parties.Member c.args.member) c.args.spir given) c.args.member refl room c.requires.in_place c.in-Some.place c.index_mut.result.now c.in-Some.ensures
           (rw members_are at c.index_mut.ensures.value) c.refused-in-None.result _ c.in-None.is c.refused-in-None.ensures
           (ap with_members (put_back members c.in-Some.place c.index_mut.result.now c.index_mut.ensures.value) ∙ c.self.view_is);
       asked = asks_none c.args.keeper.now;
@@ -43,6 +43,6 @@ returns-in-Some-index_mut-clause-sends g c =
     let now = c.send_data.new.self in
     let leaves = ap (λ (v : EndsHeld). record v { members = set v.members c.in-Some.place (Some now) }) c.self.view_is in
     if_ok-as c.send_data.result
-    (λ step. asked-as (λ calls it past given room same. sends past c.args.self.now c.args.member c.in-Some.place c.index_mut.result.now c.requires.in_place c.in-Some.ensures
+    (λ step. asked-as (λ calls it past moment given room same. sends past c.args.self.now moment c.args.member c.in-Some.place c.index_mut.result.now c.requires.in_place c.in-Some.ensures
     (rw members_are at c.index_mut.ensures.value) c.in-Some-index_mut.member now c.in-Some-index_mut.is _ leaves c.args.spir given c.args.payload.now calls step same c.requires.size room it.0 it.1))
     c.send_data.ensures.sends
