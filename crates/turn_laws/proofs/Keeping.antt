@@ -114,7 +114,7 @@ module _ (acts : List Act) (old new : Book) (w : Actor) where
     -- what may be imported is not half open
     pub free-import : (sa : Record) → IsImport sa → (c : Counter) → begun_at (Ours sa.spir c) acts ≡ nothing
     free-import sa import_of c = owned.opened sa.spir c (below-not_in (pool_next pools.Nonce old) sa.spir (numbers_at (Pooled pools.Nonce) acts)
-        (let a : pool_next pools.Nonce old ≤ pool_end pools.Nonce = owned.pools pools.Nonce in let b : LEAST_SPI ≤ sa.spir = import_of.spir in omega arith)
+        (let a : pool_next pools.Nonce old ≤ pool_end pools.Nonce = owned.within pools.Nonce in let b : LEAST_SPI ≤ sa.spir = import_of.spir in omega arith)
         (drawn-below acts old owned pools.Nonce))
 
     free-call : (p : Place) (asked : KeeperAsk) → MayAsk acts w asked → IsFree p asked (begun_at p acts)
@@ -143,7 +143,7 @@ module _ (acts : List Act) (old new : Book) (w : Actor) where
               let same : f.sa.spir ≡ sa.spir = entry-spir sa.spir old.entries f e in
               let below : may.holding.high ≤ pool_next pools.Nonce old = lot-below acts old owned pools.Nonce w may.holding may.holds in
               let drawn : sa.spir < may.holding.high = may.may.below_high in
-              let end : pool_next pools.Nonce old ≤ pool_end pools.Nonce = owned.pools pools.Nonce in
+              let end : pool_next pools.Nonce old ≤ pool_end pools.Nonce = owned.within pools.Nonce in
               absurd (omega arith)
 
       keeps-open : (p : Place) → new ≡ old → Keeps (effect_of_open p w sa) (holding_at p acts) (column_at p acts old) (column p (with_begun (begun_open p sa) (begun_at p acts)) new)

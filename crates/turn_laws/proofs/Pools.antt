@@ -1,5 +1,6 @@
 -- A range that is leased keeps the numbers of its pool apart, whether or not its caller saw it.
 use Rattle.std.proofs.Common.{◌≡◌, ℕ, ◌+◌, ◌-◌, ◌<◌, ◌≤◌, Bool, true, false, Option, Some, None, List, [], ◌∷◌, ◌++◌, length, refl, ap, sym, ◌∙◌, subst, arith, if◌then◌else◌}
+use Rattle.std.proofs.lemmas.Bool.{ltb-false}
 use Rattle.std.specs.Prelude.{nat_lt}
 use Rattle.keeper_book.specs.Book.{Book, Entry, book_entered, lease_refusal, pool_next, when, with_pool_next}
 use Rattle.keeper_book.specs.Pools.{pool_end, pool_number}
@@ -148,7 +149,7 @@ shows-leased pool count next none = by_test (nat_lt (pool_end pool) (pool_number
   where
     by_test : (b : Bool) → nat_lt (pool_end pool) (pool_number pool next + count) ≡ b → when b (fault.Full (pool_end pool)) None ≡ None → pool_number pool next + count ≤ pool_end pool
     by_test true t none = absurd (cc)
-    by_test false t none = omega (arith, t)
+    by_test false t none = ltb-false (pool_end pool) (pool_number pool next + count) t
 
 -- a lease gets no pool beyond its end
 pub lease-within : (old new : Book) (pool : Pool) (first count : ℕ) → first + count ≤ pool_end pool → new ≡ with_pool_next pool (first + count) old → (q : Pool) → pool_next q old ≤ pool_end q → pool_next q new ≤ pool_end q

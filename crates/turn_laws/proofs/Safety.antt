@@ -145,16 +145,16 @@ module _ (acts : List Act) (old new : Book) (w : Actor) where
 
     -- no pool gets beyond its end
     pools-same : (q : Pool) → pool_next q new ≡ pool_next q old → pool_next q new ≤ pool_end q
-    pools-same q same = let a : pool_next q old ≤ pool_end q = owned.pools q in omega (arith, same)
+    pools-same q same = let a : pool_next q old ≤ pool_end q = owned.within q in omega (arith, same)
 
     -- nor by a call that is granted
     pools-entered : (asked : KeeperAsk) → refusal old asked ≡ None → (q : Pool) → pool_next q (book_entered old asked) ≤ pool_end q
-    pools-entered (ask.Enter sa) granted q = owned.pools q
-    pools-entered (ask.TakeOver asked member) granted q = owned.pools q
-    pools-entered (ask.Cover asked kind child epoch upto) granted q = owned.pools q
-    pools-entered (ask.Settle ticket asked sa member) granted q = owned.pools q
-    pools-entered (ask.Look ticket) granted q = owned.pools q
-    pools-entered (ask.Lease pool count) granted q = lease-within old (book_entered old (ask.Lease pool count)) pool (pool_next pool old) count (shows-leased pool count old.next granted) refl q (owned.pools q)
+    pools-entered (ask.Enter sa) granted q = owned.within q
+    pools-entered (ask.TakeOver asked member) granted q = owned.within q
+    pools-entered (ask.Cover asked kind child epoch upto) granted q = owned.within q
+    pools-entered (ask.Settle ticket asked sa member) granted q = owned.within q
+    pools-entered (ask.Look ticket) granted q = owned.within q
+    pools-entered (ask.Lease pool count) granted q = lease-within old (book_entered old (ask.Lease pool count)) pool (pool_next pool old) count (shows-leased pool count old.next granted) refl q (owned.within q)
 
     pools-move : (move : Move) → MayDo acts w move → WritesBook old move new → (q : Pool) → pool_next q new ≤ pool_end q
     pools-move (Calls call) may writes q = ⊎_elim
@@ -163,7 +163,7 @@ module _ (acts : List Act) (old new : Book) (w : Actor) where
         (answers-entry old new call.asked call.answer writes)
     pools-move (Uses place n) may writes q = pools-same q (ap (pool_next q) writes)
     pools-move (Seals key) may writes q = pools-same q (ap (pool_next q) writes)
-    pools-move (Leases pool first count seen) may writes q = lease-within old new pool first count may writes.1 q (owned.pools q)
+    pools-move (Leases pool first count seen) may writes q = lease-within old new pool first count may writes.1 q (owned.within q)
     pools-move (Leaps place n) may writes q = pools-same q (ap (pool_next q) writes)
     pools-move (Opens sa) may writes q = pools-same q (ap (pool_next q) writes)
     pools-move (Starts sa) may writes q = pools-same q (ap (pool_next q) writes)
@@ -215,7 +215,7 @@ module _ (acts : List Act) (old new : Book) (w : Actor) where
       numbers = λ p. owned-after (holding_at p acts) (uses_at p acts) (column_at p acts old) (column p (begun_after move p (begun_at p acts)) new) (effect_of p (begun_at p acts) w move) (owned.numbers p) (keeps-move acts old new w owned p move may writes);
       starts = starts-move move may writes;
       imported = imported-move move may writes;
-      pools = pools-move move may writes;
+      within = pools-move move may writes;
       opened = opened-move move;
       entered = entered-move move writes;
     }
@@ -236,7 +236,7 @@ owned-empty = record {
   numbers = numbers;
   starts = λ spir e found none. absurd (cc);
   imported = λ spir e found. absurd (cc);
-  pools = pools;
+  within = within;
   opened = λ spir c none. refl;
   entered = λ name spir of unstarted none. refl;
 }
@@ -246,9 +246,9 @@ owned-empty = record {
     numbers (Theirs name) = owned-none (λ w. None) 0 0 (λ w. refl)
     numbers (Pooled q) = owned-none (λ w. None) (pool_next q empty) (pool_end q) (λ w. refl)
 
-    pools : (q : Pool) → pool_next q empty ≤ pool_end q
-    pools pools.Ticket = omega arith
-    pools pools.Nonce = omega arith
+    within : (q : Pool) → pool_next q empty ≤ pool_end q
+    within pools.Ticket = omega arith
+    within pools.Nonce = omega arith
 
 -- after any acts, each of which may come after those before it
 pub owned-lawful : (acts : List Act) (book : Book) → Lawful acts book → Owned acts book

@@ -22,7 +22,7 @@ pub record Owned (acts : List Act) (book : Book) : Type 0 where
   -- no association of the book has an SPI that the cluster may draw itself
   pub imported : (spir : ℕ) (e : Entry) → entry_of spir book.entries ≡ Some e → IsImport e.sa
   -- no pool is beyond its end
-  pub pools : (q : Pool) → pool_next q book ≤ pool_end q
+  pub within : (q : Pool) → pool_next q book ≤ pool_end q
   -- nothing is half open under an SPI that was not drawn
   pub opened : (spir : ℕ) (c : Counter) → IsNotIn spir (numbers_at (Pooled pools.Nonce) acts)
       → begun_at (Ours spir c) acts ≡ nothing
