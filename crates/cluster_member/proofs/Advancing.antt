@@ -9,10 +9,12 @@ use Rattle.events.specs.declared.verdict.Verdict.TheVariants as out
 use Rattle.ha_base.specs.declared.esp_outcomes.EspDrop.{EspDrop}
 use Rattle.ha_base.specs.declared.esp_outcomes.EspOpened.{EspOpened}
 use Rattle.horizons.specs.declared.stop.Stop.{Stop}
+use Rattle.keeper_book.specs.Asks.{AsksFor}
 use Rattle.keeper_book.specs.Counters.{five_at}
 use Rattle.keeper_book.specs.declared.calls.Call.{Call}
 use Rattle.keeper_book.specs.declared.counters.Counter.{Counter}
 use Rattle.keeper_book.specs.declared.counters.Counter.TheVariants as counter
+use Rattle.keeper_book.specs.declared.keepers.Keeper.{Ghosts}
 use Rattle.turn_rules.proofs.Readies.{AreCovers, AreVain, none-vain, ready-elim, ready-map}
 use Rattle.turn_rules.proofs.Ties.{received-refused, used-receiving, used-refused}
 use Rattle.turn_rules.specs.Draws.{Draws, counter_name, refusal_of_stop}
@@ -23,13 +25,8 @@ use Rattle.turn_rules.specs.Packets.{IsVerdictOf, SendsEsp}
 use Rattle.turn_rules.specs.Steps.{Says}
 use Rattle.turn_rules.specs.Tasks as task
 use Rattle.turn_rules.specs.Tasks.{Task}
-use Rattle.cluster_member.specs.Uses.{DrawsNext, Notes, SendsNext, received_below, sent_below}
-
--- its association is held as the turn makes it, and the turn makes nothing of others
-pub record Advances (old : Held) (asked : Task) (calls : List Call) (step : Step) (new : Held) : Type 0 where
-  pub no_grant : (spir : ℕ) → grant_in spir calls ≡ None
-  pub now : new ≡ advanced old.sa.spir asked calls step old
-  pub elsewhere : (spir : ℕ) → (old.sa.spir == spir) ≡ false → (held : Held) → advanced spir asked calls step held ≡ held
+use Rattle.cluster_member.proofs.Uses.{DrawsNext, Notes, SendsNext, received_below, sent_below}
+use Rattle.cluster_member.specs.Advances.{Advances, AdvancesBy}
 
 module _ (asked : Task) (calls : List Call) (step : Step) where
   -- a turn by which nothing was covered, used or received
@@ -172,3 +169,35 @@ module _ (held now : Held) (calls : List Call) (answer : EspVerdict) where
         (λ why rest vain s. refused-advances task.Receive calls step held now (refusal_of_stop why) vain (as_said (esp.Refused (refusal_of_stop why)) s.1) s.2)
         (λ high rest covers g. packet-advances calls step held now packet.number high covers (takes_number packet g.1) g.2)
         notes
+
+-- what a holding did by its horizons, it did by the rules
+module _ {K : Type 0} {keeper : Ghosts K} {old new : K} (was now : Held) where
+  pub drawn : (step : Step) → AsksFor keeper old new (λ calls. DrawsNext was calls step now) → AsksFor keeper old new (λ calls. Quietly (Draws was) calls step × Advances was (task.Draw was.sa.spir) calls step now)
+  drawn step asks = record {
+    calls = asks.calls;
+    follows = (draws-rule was now asks.calls step asks.follows, draws-advances was now asks.calls step asks.follows);
+    asked = asks.asked;
+    held = asks.held;
+  }
+
+  pub sent : (payload : List ℕ) (step : Step) → AsksFor keeper old new (λ calls. SendsNext was payload calls step now)
+      → AsksFor keeper old new (λ calls. SendsData was payload calls step × Advances was (task.Send was.sa.spir payload) calls step now)
+  sent payload step asks = record {
+    calls = asks.calls;
+    follows = (sends-rule was now asks.calls step payload asks.follows, sends-advances was now asks.calls step payload asks.follows);
+    asked = asks.asked;
+    held = asks.held;
+  }
+
+  pub taken : (packet : EspOpened) (answer : EspVerdict) → AsksFor keeper old new (λ calls. Notes was (Ok packet) calls answer now)
+      → AsksFor keeper old new (λ calls. TakesPacket was (Ok packet) calls answer × ((after : List ℕ) → AdvancesBy calls answer after was now))
+  taken packet answer asks = record {
+    calls = asks.calls;
+    follows = (notes-rule was now asks.calls answer (Ok packet) asks.follows, λ after step worded. notes-advances was now asks.calls answer after step worded (Ok packet) asks.follows);
+    asked = asks.asked;
+    held = asks.held;
+  }
+
+-- a packet that is dropped leaves the holding
+pub dropped-advances : (held : Held) (why : EspDrop) (after : List ℕ) → AdvancesBy [] (esp.Dropped why) after held held
+dropped-advances held why after step worded = notes-advances held held [] (esp.Dropped why) after step worded (Err why) (refl, refl, refl)

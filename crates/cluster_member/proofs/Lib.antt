@@ -6,3 +6,4 @@ pub mod Placed
 pub mod ReceiverLemmas
 pub mod Sending
 pub mod Taking
+pub mod Uses
