@@ -210,7 +210,7 @@ idle-held size spir calls step x none = subst (λ cs. held_after size spir task.
     go (Some held) = refl
 
 either-member : (b : Bool) (config : Configuration) (moment : Moment) (calls : List Call) (step : Step) (m : MemberHeld) → calls ≡ [] → (if b then member_after config moment None task.Nothing calls step m else m) ≡ m
-either-member true config moment calls step m none i = record { given = m.given; held = λ spir. idle-held config.window spir calls step (m.held spir) none i }
+either-member true config moment calls step m none = λ i. record { given = m.given; held = λ spir. idle-held config.window spir calls step (m.held spir) none i }
 either-member false config moment calls step m none = refl
 
 -- nobody is in the place of a member that ended

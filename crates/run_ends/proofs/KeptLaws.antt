@@ -12,7 +12,7 @@ use Rattle.turn_rules.specs.Datagrams.{PlainDatagram}
 use Rattle.turn_rules.specs.Fits.{Does}
 use Rattle.turn_rules.specs.Local.{AreShown, IsExplained, Local}
 use Rattle.turn_rules.specs.PeerStates.{peer_begun}
-use Rattle.turn_rules.specs.States.{RunState, no_member, state_after, state_by}
+use Rattle.turn_rules.specs.States.{RunState, has_turns, no_member, state_after, state_by}
 use Rattle.cluster_member.specs.Members.{Holder}
 use Rattle.run_ends.proofs.Verdicts.{does-few}
 use Rattle.run_ends.specs.Parties.{AreKept, EndsHeld, IsShort, Plays, holder_of, member_in, state_of}
@@ -63,6 +63,13 @@ none-played (turn ∷ past) turns count none =
     let more : turns ≡ suc (length past) = count in
     let both : true ≡ false = sym (lt-ltb 0 turns (omega (arith, more))) ∙ none in
     absurd (cc)
+
+-- and some are some
+pub some-played : (past : List Turn) (turns : ℕ) → turns ≡ length past → nat_lt 0 turns ≡ true → has_turns past ≡ true
+some-played [] turns count some =
+    let none : nat_lt 0 0 ≡ true = subst (λ n. nat_lt 0 n ≡ true) count some in
+    absurd (cc)
+some-played (turn ∷ past) turns count some = refl
 
 module _ (past : List Turn) (turn : Turn) (s new : EndsHeld) (k : AreKept past s) (fits : Fits (plain turn.event)) (shown : AreShown turn.calls) (answers : AreAnswers turn.calls) (p : Plays past s turn.moment turn.event turn.calls turn.step new) where
   pub few : length turn.calls ≤ 1
