@@ -171,32 +171,21 @@ module _ (held now : Held) (calls : List Call) (answer : EspVerdict) where
         notes
 
 -- what a holding did by its horizons, it did by the rules
-module _ {K : Type 0} {keeper : Ghosts K} {old new : K} (was now : Held) where
-  pub drawn : (step : Step) → AsksFor keeper old new (λ calls. DrawsNext was calls step now) → AsksFor keeper old new (λ calls. Quietly (Draws was) calls step × Advances was (task.Draw was.sa.spir) calls step now)
-  drawn step asks = record {
-    calls = asks.calls;
-    follows = (draws-rule was now asks.calls step asks.follows, draws-advances was now asks.calls step asks.follows);
-    asked = asks.asked;
-    held = asks.held;
-  }
+module _ {K : Type 0} {keeper : Ghosts K} {old new : K} where
+  asked-as : {P Q : List Call → Type 0} → ((calls : List Call) → P calls → Q calls) → AsksFor keeper old new P → AsksFor keeper old new Q
+  asked-as f it = record { calls = it.calls; follows = f it.calls it.follows; asked = it.asked; held = it.held }
 
-  pub sent : (payload : List ℕ) (step : Step) → AsksFor keeper old new (λ calls. SendsNext was payload calls step now)
-      → AsksFor keeper old new (λ calls. SendsData was payload calls step × Advances was (task.Send was.sa.spir payload) calls step now)
-  sent payload step asks = record {
-    calls = asks.calls;
-    follows = (sends-rule was now asks.calls step payload asks.follows, sends-advances was now asks.calls step payload asks.follows);
-    asked = asks.asked;
-    held = asks.held;
-  }
+  module _ (was now : Held) where
+    pub drawn : (step : Step) → AsksFor keeper old new (λ calls. DrawsNext was calls step now) → AsksFor keeper old new (λ calls. Quietly (Draws was) calls step × Advances was (task.Draw was.sa.spir) calls step now)
+    drawn step = asked-as (λ calls draws. (draws-rule was now calls step draws, draws-advances was now calls step draws))
 
-  pub taken : (packet : EspOpened) (answer : EspVerdict) → AsksFor keeper old new (λ calls. Notes was (Ok packet) calls answer now)
-      → AsksFor keeper old new (λ calls. TakesPacket was (Ok packet) calls answer × ((after : List ℕ) → AdvancesBy calls answer after was now))
-  taken packet answer asks = record {
-    calls = asks.calls;
-    follows = (notes-rule was now asks.calls answer (Ok packet) asks.follows, λ after step worded. notes-advances was now asks.calls answer after step worded (Ok packet) asks.follows);
-    asked = asks.asked;
-    held = asks.held;
-  }
+    pub sent : (payload : List ℕ) (step : Step) → AsksFor keeper old new (λ calls. SendsNext was payload calls step now)
+        → AsksFor keeper old new (λ calls. SendsData was payload calls step × Advances was (task.Send was.sa.spir payload) calls step now)
+    sent payload step = asked-as (λ calls sends. (sends-rule was now calls step payload sends, sends-advances was now calls step payload sends))
+
+    pub taken : (packet : EspOpened) (answer : EspVerdict) → AsksFor keeper old new (λ calls. Notes was (Ok packet) calls answer now)
+        → AsksFor keeper old new (λ calls. TakesPacket was (Ok packet) calls answer × ((after : List ℕ) → AdvancesBy calls answer after was now))
+    taken packet answer = asked-as (λ calls notes. (notes-rule was now calls answer (Ok packet) notes, λ after step worded. notes-advances was now calls answer after step worded (Ok packet) notes))
 
 -- a packet that is dropped leaves the holding
 pub dropped-advances : (held : Held) (why : EspDrop) (after : List ℕ) → AdvancesBy [] (esp.Dropped why) after held held

@@ -8,8 +8,8 @@ use Rattle.turn_rules.specs.Packets.{IsVerdictOf}
 use Rattle.turn_rules.specs.Tasks as task
 use Rattle.turn_rules.specs.Tasks.{Task}
 
--- The association is held as the turn makes it; the turn grants nothing, and makes nothing of what is
--- held of others.
+-- The association is held as the turn makes it; the turn grants nothing, and makes nothing of what
+-- is held of others.
 pub record Advances (old : Held) (asked : Task) (calls : List Call) (step : Step)
     (new : Held) : Type 0 where
   pub no_grant : (spir : ℕ) → grant_in spir calls ≡ None

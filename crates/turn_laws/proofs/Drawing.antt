@@ -11,11 +11,12 @@ use Rattle.keeper_book.specs.declared.counters.Counter.{Counter}
 use Rattle.keeper_book.specs.declared.counters.Counter.TheVariants as counter
 use Rattle.turn_laws.proofs.Covers.{ready-as, ready-calls}
 use Rattle.turn_laws.proofs.Deeds.{Deed, IsIdle, Rests, Spends, Used, UsesIt}
-use Rattle.turn_laws.proofs.Members.{member-performs, stop-of_member}
+use Rattle.turn_laws.proofs.Members.{member-performs}
 use Rattle.turn_laws.proofs.Names.{number-failed, number-passed}
 use Rattle.turn_laws.proofs.Uses.{Counts, number_at}
 use Rattle.turn_laws.specs.Places.{Ours}
 use Rattle.turn_laws.specs.Turns.{number_taken}
+use Rattle.turn_rules.proofs.Refusals.{stop-own}
 use Rattle.turn_rules.specs.Draws.{Concludes, Draws, reach_of, refusal_of_stop}
 use Rattle.turn_rules.specs.Ends.{Member, is_refused_by_run, own}
 use Rattle.turn_rules.specs.Fits.{Quietly}
@@ -45,7 +46,7 @@ module _ (past : List Turn) (step : Step) (member spir : ℕ) (held : Held) (own
   draw-not_run : is_refused_by_run step.verdict ≡ false
   draw-not_run = ready-calls (λ calls. is_refused_by_run step.verdict ≡ false) (reach_of held counter.EspOut) next Stopped Drew
       (λ call rest asked is. is)
-      (λ why rest c. rw c.said (stop-of_member why))
+      (λ why rest c. rw c.said (stop-own why))
       (λ high rest c. rw c.said)
       calls quietly.follows
 

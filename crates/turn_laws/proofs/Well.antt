@@ -20,7 +20,7 @@ use Rattle.keeper_book.specs.declared.counters.Counter.TheVariants as counter
 use Rattle.turn_laws.proofs.Deeds.{Asked, Deed, Ended, IsOpenTo, MemberUses, Rested, Rests, Used, Used_theirs, UsesIt, rest_of}
 use Rattle.turn_laws.proofs.Entries.{is_counter-same}
 use Rattle.turn_laws.proofs.Holdings.{is_actor-same}
-use Rattle.turn_laws.proofs.Names.{counter-named}
+use Rattle.turn_rules.proofs.Readies.{counter-named}
 use Rattle.turn_laws.proofs.Outcomes.{over-rest, rests-rest}
 use Rattle.turn_laws.proofs.Tells.{Tells, tells}
 use Rattle.turn_laws.proofs.Uses.{may-use}
