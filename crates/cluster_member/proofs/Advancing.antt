@@ -9,12 +9,10 @@ use Rattle.events.specs.declared.verdict.Verdict.TheVariants as out
 use Rattle.ha_base.specs.declared.esp_outcomes.EspDrop.{EspDrop}
 use Rattle.ha_base.specs.declared.esp_outcomes.EspOpened.{EspOpened}
 use Rattle.horizons.specs.declared.stop.Stop.{Stop}
-use Rattle.keeper_book.specs.Asks.{AsksFor}
 use Rattle.keeper_book.specs.Counters.{five_at}
 use Rattle.keeper_book.specs.declared.calls.Call.{Call}
 use Rattle.keeper_book.specs.declared.counters.Counter.{Counter}
 use Rattle.keeper_book.specs.declared.counters.Counter.TheVariants as counter
-use Rattle.keeper_book.specs.declared.keepers.Keeper.{Ghosts}
 use Rattle.turn_rules.proofs.Readies.{AreCovers, AreVain, none-vain, ready-elim, ready-map}
 use Rattle.turn_rules.proofs.Ties.{received-refused, used-receiving, used-refused}
 use Rattle.turn_rules.specs.Draws.{Draws, counter_name, refusal_of_stop}
@@ -25,8 +23,13 @@ use Rattle.turn_rules.specs.Packets.{IsVerdictOf, SendsEsp}
 use Rattle.turn_rules.specs.Steps.{Says}
 use Rattle.turn_rules.specs.Tasks as task
 use Rattle.turn_rules.specs.Tasks.{Task}
-use Rattle.cluster_member.proofs.Uses.{DrawsNext, Notes, SendsNext, received_below, sent_below}
-use Rattle.cluster_member.specs.Advances.{Advances, AdvancesBy}
+use Rattle.cluster_member.specs.Uses.{DrawsNext, Notes, SendsNext, received_below, sent_below}
+
+-- its association is held as the turn makes it, and the turn makes nothing of others
+pub record Advances (old : Held) (asked : Task) (calls : List Call) (step : Step) (new : Held) : Type 0 where
+  pub no_grant : (spir : ℕ) → grant_in spir calls ≡ None
+  pub now : new ≡ advanced old.sa.spir asked calls step old
+  pub elsewhere : (spir : ℕ) → (old.sa.spir == spir) ≡ false → (held : Held) → advanced spir asked calls step held ≡ held
 
 module _ (asked : Task) (calls : List Call) (step : Step) where
   -- a turn by which nothing was covered, used or received
@@ -169,24 +172,3 @@ module _ (held now : Held) (calls : List Call) (answer : EspVerdict) where
         (λ why rest vain s. refused-advances task.Receive calls step held now (refusal_of_stop why) vain (as_said (esp.Refused (refusal_of_stop why)) s.1) s.2)
         (λ high rest covers g. packet-advances calls step held now packet.number high covers (takes_number packet g.1) g.2)
         notes
-
--- what a holding did by its horizons, it did by the rules
-module _ {K : Type 0} {keeper : Ghosts K} {old new : K} where
-  asked-as : {P Q : List Call → Type 0} → ((calls : List Call) → P calls → Q calls) → AsksFor keeper old new P → AsksFor keeper old new Q
-  asked-as f it = record { calls = it.calls; follows = f it.calls it.follows; asked = it.asked; held = it.held }
-
-  module _ (was now : Held) where
-    pub drawn : (step : Step) → AsksFor keeper old new (λ calls. DrawsNext was calls step now) → AsksFor keeper old new (λ calls. Quietly (Draws was) calls step × Advances was (task.Draw was.sa.spir) calls step now)
-    drawn step = asked-as (λ calls draws. (draws-rule was now calls step draws, draws-advances was now calls step draws))
-
-    pub sent : (payload : List ℕ) (step : Step) → AsksFor keeper old new (λ calls. SendsNext was payload calls step now)
-        → AsksFor keeper old new (λ calls. SendsData was payload calls step × Advances was (task.Send was.sa.spir payload) calls step now)
-    sent payload step = asked-as (λ calls sends. (sends-rule was now calls step payload sends, sends-advances was now calls step payload sends))
-
-    pub taken : (packet : EspOpened) (answer : EspVerdict) → AsksFor keeper old new (λ calls. Notes was (Ok packet) calls answer now)
-        → AsksFor keeper old new (λ calls. TakesPacket was (Ok packet) calls answer × ((after : List ℕ) → AdvancesBy calls answer after was now))
-    taken packet answer = asked-as (λ calls notes. (notes-rule was now calls answer (Ok packet) notes, λ after step worded. notes-advances was now calls answer after step worded (Ok packet) notes))
-
--- a packet that is dropped leaves the holding
-pub dropped-advances : (held : Held) (why : EspDrop) (after : List ℕ) → AdvancesBy [] (esp.Dropped why) after held held
-dropped-advances held why after step worded = notes-advances held held [] (esp.Dropped why) after step worded (Err why) (refl, refl, refl)

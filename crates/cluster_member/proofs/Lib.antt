@@ -6,4 +6,3 @@ pub mod Placed
 pub mod ReceiverLemmas
 pub mod Sending
 pub mod Taking
-pub mod Uses

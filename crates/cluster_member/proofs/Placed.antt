@@ -14,8 +14,7 @@ use Rattle.turn_rules.specs.Held.{Held, accepted, advanced, held_begun, first_so
 use Rattle.turn_rules.specs.Packets.{IsVerdictOf}
 use Rattle.turn_rules.specs.Tasks as task
 use Rattle.turn_rules.specs.Tasks.{Task}
-use Rattle.cluster_member.proofs.Advancing.{refused-unmoved, unmoved}
-use Rattle.cluster_member.specs.Advances.{Advances}
+use Rattle.cluster_member.proofs.Advancing.{Advances, refused-unmoved, unmoved}
 use Rattle.cluster_member.specs.Members.{HoldsAfter, HoldsOn}
 use Rattle.cluster_member.specs.Places.{KeepsOthers}
 

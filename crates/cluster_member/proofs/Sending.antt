@@ -14,7 +14,7 @@ use Rattle.turn_rules.specs.Held.{Held}
 use Rattle.turn_rules.specs.MemberPackets.{outbound_of}
 use Rattle.turn_rules.specs.Packets.{SendsEsp}
 use Rattle.turn_rules.specs.Steps.{Says}
-use Rattle.cluster_member.proofs.Uses.{SendsNext, sent_below}
+use Rattle.cluster_member.specs.Uses.{SendsNext, sent_below}
 
 no-stop : (number : Drawn) (result : Result Drawn Stop) (why : Stop) → result ≡ Ok number → result ≡ Err why → ⊥
 no-stop number result why is other = cc

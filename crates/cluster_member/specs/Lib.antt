@@ -1,5 +1,5 @@
-pub mod Advances
 pub mod Genuine
 pub mod Holdings
 pub mod Members
 pub mod Places
+pub mod Uses

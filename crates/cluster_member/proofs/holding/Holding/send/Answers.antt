@@ -1,5 +1,5 @@
 -- A payload is sent under the next number.
-use Rattle.std.proofs.Common.{◌≡◌, ap, rules, subst}
+use Rattle.std.proofs.Common.{◌≡◌, ap, subst}
 use Rattle.horizons.specs.Reaches.{Reach}
 use Rattle.keeper_book.specs.declared.counters.Counter.TheVariants as counter
 use Rattle.spend_once.specs.Lot.{Drawn}
@@ -7,8 +7,7 @@ use Rattle.turn_rules.specs.Draws.{reach_of}
 use Rattle.turn_rules.specs.Held.{Held}
 use Rattle.turn_rules.specs.MemberPackets.{outbound_of}
 use Rattle.turn_rules.specs.Packets.{Outbound, SendsEsp}
-use Rattle.cluster_member.proofs.Advancing.{sent}
-use Rattle.cluster_member.proofs.Uses.{SendsNext}
+use Rattle.cluster_member.specs.Uses.{SendsNext}
 use Rattle.cluster_member.proofs.Sending.{sends-next}
 use Rattle.cluster_member.proofs.holding.Holding.send.Goals as goal
 
@@ -43,22 +42,19 @@ module _ (g : _) (c : goal.After-send g) where
       let of = c.self.invariant.packets in
       record { key = record { name = of.sent_name i; octets = of.sent_key i }; spi = of.sent_spi i }
 
-  was_sent : SendsEsp (outbound_of (holding_of c.self.inside.esp_out)) c.self.inside.esp_out.next c.args.payload.now c.send.result
-  was_sent =
+  sent : SendsEsp (outbound_of (holding_of c.self.inside.esp_out)) c.self.inside.esp_out.next c.args.payload.now c.send.result
+  sent =
       subst (λ (o : Outbound). SendsEsp o c.self.inside.esp_out.next c.args.payload.now c.send.result) outbound
       (subst (λ n. SendsEsp c.self.inside.outbound n c.args.payload.now c.send.result) (ap (λ (n : Drawn). n.value) c.in-Ok.ensures.number) c.send.ensures)
 
 pub returns-in-Ok-clause-sends : goal.returns-in-Ok-clause-sends
 returns-in-Ok-clause-sends g c =
     let asks = c.send_number.ensures.calls in
-    sent _ _ _ _ (record {
+    record {
       calls = asks.calls;
       follows = subst (λ (h : Held). SendsNext h c.args.payload.now asks.calls c.send.result (holding_of g c c.send_number.new.self)) c.self.view_is
           (sends-next (holding_of g c c.self.inside.esp_out) (holding_of g c c.send_number.new.self) c.self.inside.esp_out c.send_number.new.self c.args.payload.now asks.calls c.in-Ok.number c.send_number.result c.send.result
-          (reach g c) c.in-Ok.is (was_sent g c) (λ high after. ap (holding_of g c) after) asks.follows);
+          (reach g c) c.in-Ok.is (sent g c) (λ high after. ap (holding_of g c) after) asks.follows);
       asked = asks.asked;
       held = asks.held;
-    })
-
-pub returns-in-Err-clause-sends : goal.returns-in-Err-clause-sends
-returns-in-Err-clause-sends g c = sent _ _ _ _ (search rules)
+    }

@@ -2,15 +2,15 @@
 use Rattle.std.proofs.Common.{◌≡◌, None, Some, [], refl, ap, sym, ◌∙◌, subst}
 use Rattle.std.proofs.Math.ListN.{set}
 use Rattle.events.specs.declared.verdict.Refusal.TheVariants as refusal
-use Rattle.keeper_book.proofs.Asking.{asks_for_none}
+use Rattle.keeper_book.proofs.Asking.{asks_none}
 use Rattle.keeper_book.specs.declared.records.Record.{Record}
 use Rattle.turn_rules.specs.Fits.{DrawsOf}
 use Rattle.turn_rules.specs.Held.{held_at}
 use Rattle.turn_rules.specs.Tasks as task
+use Rattle.cluster_member.proofs.Advancing.{Advances, draws-advances, draws-rule}
 use Rattle.cluster_member.proofs.PlaceLemmas.{apart_set, found_at, others_at, put_at}
 use Rattle.cluster_member.proofs.Placed.{placed, refused-holds}
 use Rattle.cluster_member.proofs.holdings.Holdings.draw.Goals as goal
-use Rattle.cluster_member.specs.Advances.{Advances}
 use Rattle.cluster_member.specs.Places.{AllHeld, IsHoldingPlace, KeepsOthers}
 
 pub returns-in-Some : goal.returns-in-Some
@@ -25,12 +25,12 @@ returns-in-Some g c =
     let found : held_at c.args.self.now.held c.args.spir ≡ Some held = ap (λ (v : AllHeld). held_at v.held c.args.spir) (sym c.self.view_is) ∙ found_at c.args.spir c.in-Some.place items held place c.index_mut-holding.ensures.value in
     let others : KeepsOthers c.args.spir c.args.self.now.held (set items c.in-Some.place new) = λ other differs.
     others_at c.args.spir c.in-Some.place other items new same differs place ∙ ap (λ (v : AllHeld). held_at v.held other) c.self.view_is in
-    let advances : Advances held (task.Draw c.args.spir) it.calls c.draw.result new = subst (λ k. Advances held (task.Draw k) it.calls c.draw.result new) is it.follows.1 in
+    let advances : Advances held (task.Draw c.args.spir) it.calls c.draw.result new = subst (λ k. Advances held (task.Draw k) it.calls c.draw.result new) is (draws-advances held new it.calls c.draw.result it.follows) in
     record {
       draws = record {
         calls = it.calls;
         follows = (
-          subst (λ x. DrawsOf x it.calls c.draw.result) (sym found) it.follows.0,
+          subst (λ x. DrawsOf x it.calls c.draw.result) (sym found) (draws-rule held new it.calls c.draw.result it.follows),
           λ size. placed size (task.Draw c.args.spir) it.calls c.draw.result c.args.spir held new c.args.self.now.held (set items c.in-Some.place new) is found
               (put_at c.args.spir c.in-Some.place items new same place) others advances,
         );
@@ -54,8 +54,13 @@ returns-in-None g c =
     let none : held_at c.args.self.now.held c.args.spir ≡ None = ap (λ (v : AllHeld). held_at v.held c.args.spir) (sym c.self.view_is) ∙ (rw c.deref.ensures.value at c.in-None.ensures) in
     let same : items ≡ c.args.self.now.held = ap (λ (v : AllHeld). v.held) c.self.view_is in
     record {
-      draws = asks_for_none g.K.Keeper c.args.keeper.now (
+      draws = record {
+        calls = [];
+        follows = (
           subst (λ x. DrawsOf x [] c.not_owner.result) (sym none) (record { no_calls = refl; says = c.not_owner.ensures }),
           refused-holds (task.Draw c.args.spir) c.not_owner.result refusal.NotOwner c.args.self.now.held c.not_owner.ensures.said,
         );
+        asked = asks_none c.args.keeper.now;
+        held = refl;
+      };
     }

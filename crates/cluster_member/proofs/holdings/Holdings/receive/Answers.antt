@@ -1,6 +1,6 @@
 -- A packet that is long enough has an SPI.
 use Rattle.std.proofs.Common.{[], refl, arith}
-use Rattle.keeper_book.proofs.Asking.{asks_for_none}
+use Rattle.keeper_book.proofs.Asking.{asks_none}
 use Rattle.ha_base.specs.declared.esp_outcomes.EspDrop.TheVariants as drop
 use Rattle.cluster_member.proofs.Placed.{dropped-holds}
 use Rattle.cluster_member.proofs.holdings.Holdings.receive.Goals as goal
@@ -16,7 +16,12 @@ returns-in-Some-clause-receives g c =
     }
 
 pub returns-in-None-clause-receives : goal.returns-in-None-clause-receives
-returns-in-None-clause-receives g c = asks_for_none g.K.Keeper c.args.keeper.now (
+returns-in-None-clause-receives g c = record {
+  calls = [];
+  follows = (
     record { short = λ l. (refl, record { said = refl; same = refl }); long = λ l. absurd (omega (arith, l, c.in-None.ensures)) },
     λ step worded. dropped-holds step drop.Short c.args.bytes.now c.args.self.now.held worded,
-  )
+  );
+  asked = asks_none c.args.keeper.now;
+  held = refl;
+}

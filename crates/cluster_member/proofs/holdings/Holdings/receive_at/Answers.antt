@@ -3,11 +3,12 @@ use Rattle.std.proofs.Common.{◌≡◌, [], inl, inr, refl, ap, ◌∙◌, subs
 use Rattle.std.proofs.Math.ListN.{set}
 use Rattle.esp_packets.specs.Packet.{spi_of}
 use Rattle.ha_base.specs.declared.esp_outcomes.EspDrop.TheVariants as drop
-use Rattle.keeper_book.proofs.Asking.{asks_for_none}
+use Rattle.keeper_book.proofs.Asking.{asks_none}
 use Rattle.keeper_book.specs.declared.records.Record.{Record}
 use Rattle.turn_rules.specs.Held.{held_at}
 use Rattle.turn_rules.specs.MemberPackets.{IsReceiver}
 use Rattle.turn_rules.specs.Tasks as task
+use Rattle.cluster_member.proofs.Advancing.{notes-advances, notes-rule}
 use Rattle.cluster_member.proofs.PlaceLemmas.{apart_set, others_at, put_at}
 use Rattle.cluster_member.proofs.Placed.{dropped-holds, placed}
 use Rattle.cluster_member.proofs.ReceiverLemmas.{nowhere, place_is, receiver_at}
@@ -47,11 +48,11 @@ returns-in-Some-clause-receives g c =
           spir = holding.sa.spir;
           receiver = holding;
           is_receiver = receiver;
-          receives = it.follows.0;
+          receives = record { opened = it.follows.opened; opens = it.follows.opens; takes = notes-rule holding new it.calls c.receive.result it.follows.opened it.follows.notes };
         }),
         λ step worded size. placed size task.Receive it.calls step holding.sa.spir holding new c.args.self.now.held (set items c.in-Some.place new) refl receiver.is_held
             (put_at holding.sa.spir c.in-Some.place items new same place) others
-            (it.follows.1 step worded),
+            (notes-advances holding new it.calls c.receive.result c.receive.new.bytes step worded it.follows.opened it.follows.notes),
       );
       asked = it.asked;
       held = it.held;
@@ -62,10 +63,15 @@ returns-in-None-clause-receives g c =
     let items = c.self.inside.items.items in
     let old : items ≡ c.args.self.now.held = ap (λ (v : AllHeld). v.held) c.self.view_is in
     let none : NoneReceives c.args.spi items = rw c.deref.ensures.value at c.in-None.ensures in
-    asks_for_none g.K.Keeper c.args.keeper.now (
+    record {
+      calls = [];
+      follows = (
         inl (
           nowhere (spi_of c.args.bytes.now) c.args.self.now.held (subst (λ spi. NoneReceives spi c.args.self.now.held) c.requires.spi (subst (NoneReceives c.args.spi) old none)),
           (refl, record { said = refl; same = refl }),
         ),
         λ step worded. dropped-holds step drop.WrongSpi c.args.bytes.now c.args.self.now.held worded,
-      )
+      );
+      asked = asks_none c.args.keeper.now;
+      held = refl;
+    }

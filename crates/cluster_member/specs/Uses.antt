@@ -1,4 +1,5 @@
--- What a holding does with its next numbers and with packets, and what it is then, by the horizons that made the numbers ready.
+-- What a holding does with its next numbers and with packets, by the calls that were made, and what
+-- is held then.
 use Rattle.std.specs.Prelude.{ℕ, ◌+◌, ◌≡◌, List, [], Result, Ok, Err}
 use Rattle.events.specs.declared.turn.Step.{Step}
 use Rattle.events.specs.declared.verdict.EspVerdict.{EspVerdict}
@@ -13,7 +14,7 @@ use Rattle.keeper_book.specs.declared.counters.Counter.TheVariants as counter
 use Rattle.turn_rules.specs.Draws.{counter_name, reach_of, refusal_of_stop}
 use Rattle.turn_rules.specs.Held.{Held}
 use Rattle.turn_rules.specs.MemberPackets.{inbound_of, outbound_of}
-use Rattle.turn_rules.specs.Packets.{SendsEsp, noted}
+use Rattle.turn_rules.specs.Packets.{OpensEsp, SendsEsp, noted}
 use Rattle.turn_rules.specs.Steps.{Says}
 
 -- what is held once the next ESP number was used below this high
@@ -56,3 +57,10 @@ Notes held (Ok packet) calls answer now = Ready (reach_of held counter.EspIn) pa
     (λ why rest. (rest ≡ []) × (answer ≡ esp.Refused (refusal_of_stop why)) × (now ≡ held))
     (λ high rest. (rest ≡ []) × (answer ≡ esp.Accepted (counter_name held.sa counter.EspIn) packet)
     × (now ≡ received_below packet.number high held))
+
+-- what is done with the octets of a packet
+pub record NotesPacket (held : Held) (octets : List ℕ) (calls : List Call) (answer : EspVerdict)
+    (after : List ℕ) (now : Held) : Type 0 where
+  pub opened : Result EspOpened EspDrop
+  pub opens : OpensEsp (inbound_of held) octets opened after
+  pub notes : Notes held opened calls answer now
