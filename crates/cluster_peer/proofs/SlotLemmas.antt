@@ -1,7 +1,7 @@
 -- The first slot that passes a test, by the place where it stands.
 use Rattle.std.proofs.Common.{◌≡◌, ℕ, zero, suc, ◌<◌, Bool, true, false, List, [], ◌∷◌, ◌++◌, length, take, Some, None, get_or, refl, ap, sym, ◌∙◌, arith}
 use Rattle.turn_rules.specs.Slots.{Slot, first_slot}
-use Rattle.cluster_peer.specs.Slots.{IsFirst}
+use Rattle.cluster_peer.specs.Slots.{IsFirstSlot}
 
 module _ (test : Slot → Bool) where
   here : (s : Slot) (ss : List Slot) → test s ≡ true → first_slot test (s ∷ ss) ≡ Some s
@@ -32,5 +32,5 @@ module _ (test : Slot → Bool) where
       there x xs other ∙ first_within k xs s (omega arith) (sym (there x (take k xs) other) ∙ n) t at
 
   -- the first slot is found
-  pub first_at : (place : ℕ) (ss : List Slot) (s : Slot) → IsFirst test place ss → s ≡ get_or ss place s → first_slot test ss ≡ Some s
+  pub first_at : (place : ℕ) (ss : List Slot) (s : Slot) → IsFirstSlot test place ss → s ≡ get_or ss place s → first_slot test ss ≡ Some s
   first_at place ss s is at = first_within place ss s is.within is.none_before (is.here s at) at

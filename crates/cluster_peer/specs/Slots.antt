@@ -24,7 +24,7 @@ pub record Slotted : Type 0 where
   pub spare : ℕ
 
 -- the first slot that passes a test stands at this place
-pub record IsFirst (test : Slot → Bool) (place : ℕ) (slots : List Slot) : Type 0 where
+pub record IsFirstSlot (test : Slot → Bool) (place : ℕ) (slots : List Slot) : Type 0 where
   pub within : place < length slots
   pub none_before : first_slot test (take place slots) ≡ None
   pub here : (slot : Slot) → slot ≡ slice_index_or slots place slot → test slot ≡ true

@@ -5,7 +5,7 @@ ghost use Rattle.turn_rules.specs.Packets.{Drops, IsVerdictOf, LiesWithin};
 ghost use Rattle.turn_rules.specs.Peers.{admits};
 ghost use Rattle.turn_rules.specs.Slots.{PeerReceives, PeerSends, SlotReceives, entered_slot, first_slot, has_spir, receives_at, records, slot_after};
 ghost use Rattle.turn_rules.specs.Tasks as task;
-ghost use Rattle.cluster_peer.specs.Slots.{IsFirst};
+ghost use Rattle.cluster_peer.specs.Slots.{IsFirstSlot};
 ghost use Rattle.ha_base.specs.declared.esp_outcomes.EspDrop.TheVariants as drop;
 ghost use Rattle.ha_base.specs.declared.limits.TheConstants.{DATAGRAM_OCTETS, PAYLOAD_OCTETS};
 
@@ -43,7 +43,7 @@ impl Model for Slots {
 /// Where the association of a responder's SPI stands.
 fn place_of(items: &[Association], spir: u64) -> Option<usize>
     ensures { MatchOption result (first_slot (has_spir spir) items.now ≡ None)
-        (λ place. IsFirst (has_spir spir) place items.now) }
+        (λ place. IsFirstSlot (has_spir spir) place items.now) }
 {
     for (place, association) in items.iter().enumerate() {
         if association.spir() == spir {
@@ -56,7 +56,7 @@ fn place_of(items: &[Association], spir: u64) -> Option<usize>
 /// Where the association stands that receives at an SPI.
 fn receiver_at(items: &[Association], spi: u32) -> Option<usize>
     ensures { MatchOption result (first_slot (receives_at spi) items.now ≡ None)
-        (λ place. IsFirst (receives_at spi) place items.now) }
+        (λ place. IsFirstSlot (receives_at spi) place items.now) }
 {
     for (place, association) in items.iter().enumerate() {
         if association.spi() == spi {

@@ -26,7 +26,7 @@ use Rattle.turn_rules.specs.Tasks as task
 use Rattle.turn_rules.specs.Tasks.{member_task, peer_task}
 use Rattle.cluster_member.specs.Members.{Holder, IsAfter}
 use Rattle.run_ends.proofs.Seats.{more-gone, more-length, more-seen_here, more-seen_there, seat-any, seat-other, seat-same, seat_here, seat_there, unless-seen}
-use Rattle.run_ends.specs.Parties.{EndsHeld, given_to, holder_of, member_in, member_seen, nobody, state_of, state_then}
+use Rattle.run_ends.specs.Parties.{EndsHeld, given_to, holder_of, member_at, member_seen, nobody, state_of, state_then}
 
 abbrev pub Holds : List Turn → EndsHeld → Moment → Event → List Call → Step → EndsHeld → Type 0
 Holds past old moment at calls step new = state_then past step new ≡ state_after moment at calls step (state_of past old)
@@ -54,7 +54,7 @@ module _ (past : List Turn) (old : EndsHeld) (moment : Moment) (at : Event) (cal
   is_gone k = ends k at step.verdict || is_none (holder_of old.members k)
 
   abbrev acts : ℕ → MemberHeld
-  acts k = member_after old.config moment (fresh_in at step.verdict) (member_task at) calls step (member_in old.members k)
+  acts k = member_after old.config moment (fresh_in at step.verdict) (member_task at) calls step (member_at old.members k)
 
   abbrev peer_then : Option Performer → PeerHeld
   peer_then performer = if is_end Peer performer then peer_after old.config.window moment (peer_task at) step old.peer else old.peer
@@ -74,11 +74,11 @@ module _ (past : List Turn) (old : EndsHeld) (moment : Moment) (at : Event) (cal
     stay-gone : (k : ℕ) → is_gone k ≡ is_none (holder_of old.members k)
     stay-gone k = ap (λ x. is_number k x || is_none (holder_of old.members k)) stay.no_end
 
-    stay-member : (k : ℕ) → member_in old.members k ≡ member_unless (is_gone k) (if is_end (Member k) by then acts k else member_in old.members k)
+    stay-member : (k : ℕ) → member_at old.members k ≡ member_unless (is_gone k) (if is_end (Member k) by then acts k else member_at old.members k)
     stay-member k =
         unless-seen old.members k
-        ∙ ap (λ b. member_unless b (member_in old.members k)) (sym (stay-gone k))
-        ∙ ap (λ b. member_unless (is_gone k) (if b then acts k else member_in old.members k)) (sym (stay.nobody_acts k))
+        ∙ ap (λ b. member_unless b (member_at old.members k)) (sym (stay-gone k))
+        ∙ ap (λ b. member_unless (is_gone k) (if b then acts k else member_at old.members k)) (sym (stay.nobody_acts k))
 
     -- the configuration, and what the peer has, may change
     stay-holds : (config : Configuration) (peer : PeerHeld) → config ≡ unwrap_or (configured_in at step.verdict) old.config → peer ≡ peer_configured (configured_in at step.verdict) (peer_then by)
@@ -140,8 +140,8 @@ module _ (past : List Turn) (old : EndsHeld) (moment : Moment) (at : Event) (cal
 
   -- a member's own turn, which changes what is in its place
   seat-holds : ((k : ℕ) → is_none (holder_of (set old.members place x) k) ≡ (ends k at step.verdict || is_none (holder_of old.members k)))
-      → ((k : ℕ) → member_in (set old.members place x) k
-      ≡ member_unless (ends k at step.verdict || is_none (holder_of old.members k)) (if k == suc place then acts past old moment at calls step k else member_in old.members k))
+      → ((k : ℕ) → member_at (set old.members place x) k
+      ≡ member_unless (ends k at step.verdict || is_none (holder_of old.members k)) (if k == suc place then acts past old moment at calls step k else member_at old.members k))
       → Holds past old moment at calls step now
   seat-holds gone member i = record {
     boxes = old.boxes;
@@ -152,7 +152,7 @@ module _ (past : List Turn) (old : EndsHeld) (moment : Moment) (at : Event) (cal
     datagrams = (state_then past step old).datagrams;
     peer = peer-then past old moment at calls step (Some (Member (suc place))) None performs (of.no_config step.verdict) i;
     members = λ k. (member k
-        ∙ ap (λ y. member_unless (ends k at step.verdict || is_none (holder_of old.members k)) (if is_end (Member k) y then acts past old moment at calls step k else member_in old.members k)) (sym performs)) i;
+        ∙ ap (λ y. member_unless (ends k at step.verdict || is_none (holder_of old.members k)) (if is_end (Member k) y then acts past old moment at calls step k else member_at old.members k)) (sym performs)) i;
   }
 
 -- a member that is up acts, and stays up
@@ -186,9 +186,9 @@ module _ (past : List Turn) (old : EndsHeld) (moment : Moment) (at : Event) (cal
     held = λ spir. (after.holds spir ∙ ap (λ (c : Configuration). held_after c.window spir (member_task at) calls step (held_at was.held spir)) config) i;
   }
 
-  member-same : (k : ℕ) (b : Bool) → (k == suc place) ≡ b → member_in acted k ≡ member_unless (is_none (holder_of old.members k)) (if b then acts past old moment at calls step k else member_in old.members k)
+  member-same : (k : ℕ) (b : Bool) → (k == suc place) ≡ b → member_at acted k ≡ member_unless (is_none (holder_of old.members k)) (if b then acts past old moment at calls step k else member_at old.members k)
   member-same k true e =
-      ap (member_in acted) (eqb-true k (suc place) e)
+      ap (member_at acted) (eqb-true k (suc place) e)
       ∙ ap member_seen (seat-same None old.members place within (Some now))
       ∙ now-seen
       ∙ sym (ap (λ n. member_unless (is_none (holder_of old.members n)) (acts past old moment at calls step n)) (eqb-true k (suc place) e)
@@ -199,7 +199,7 @@ module _ (past : List Turn) (old : EndsHeld) (moment : Moment) (at : Event) (cal
   pub member-holds : Holds past old moment at calls step (record old { members = acted })
   member-holds = seat-holds past old moment at calls step place within of said (Some now)
       (λ k. gone-same k (k == suc place) refl ∙ not_ended k)
-      (λ k. member-same k (k == suc place) refl ∙ ap (λ b. member_unless b (if k == suc place then acts past old moment at calls step k else member_in old.members k)) (not_ended k))
+      (λ k. member-same k (k == suc place) refl ∙ ap (λ b. member_unless b (if k == suc place then acts past old moment at calls step k else member_at old.members k)) (not_ended k))
 
 -- a task that asks nothing makes nothing of what is held
 pub idle-held : (size spir : ℕ) (calls : List Call) (step : Step) (x : Option Held) → calls ≡ [] → held_after size spir task.Nothing calls step x ≡ x
@@ -229,8 +229,8 @@ module _ (past : List Turn) (old : EndsHeld) (moment : Moment) (calls : List Cal
   crash-gone k true e = ap (λ n. is_none (holder_of gone n)) (eqb-true k (suc place) e) ∙ ap is_none (seat_here old.members place within None)
   crash-gone k false e = ap is_none (seat_there old.members place within None k e)
 
-  crash-member : (k : ℕ) (b : Bool) → (k == suc place) ≡ b → member_in gone k ≡ member_unless (b || is_none (holder_of old.members k)) (member_in old.members k)
-  crash-member k true e = ap (member_in gone) (eqb-true k (suc place) e) ∙ ap member_seen (seat-same None old.members place within None)
+  crash-member : (k : ℕ) (b : Bool) → (k == suc place) ≡ b → member_at gone k ≡ member_unless (b || is_none (holder_of old.members k)) (member_at old.members k)
+  crash-member k true e = ap (member_at gone) (eqb-true k (suc place) e) ∙ ap member_seen (seat-same None old.members place within None)
   crash-member k false e = ap member_seen (seat-other None old.members place within None k e) ∙ unless-seen old.members k
 
   pub crash-holds : Holds past old moment crash calls step (record old { members = gone })
@@ -238,8 +238,8 @@ module _ (past : List Turn) (old : EndsHeld) (moment : Moment) (calls : List Cal
       (λ k. crash-gone k (k == suc place) refl ∙ ap (λ b. b || is_none (holder_of old.members k)) (sym (is_ended k (k == suc place) refl)))
       (λ k.
       crash-member k (k == suc place) refl
-      ∙ ap (λ b. member_unless (b || is_none (holder_of old.members k)) (member_in old.members k)) (sym (is_ended k (k == suc place) refl))
-      ∙ ap (member_unless (ends k crash step.verdict || is_none (holder_of old.members k))) (sym (either-member (k == suc place) old.config moment calls step (member_in old.members k) none)))
+      ∙ ap (λ b. member_unless (b || is_none (holder_of old.members k)) (member_at old.members k)) (sym (is_ended k (k == suc place) refl))
+      ∙ ap (member_unless (ends k crash step.verdict || is_none (holder_of old.members k))) (sym (either-member (k == suc place) old.config moment calls step (member_at old.members k) none)))
 
 -- a member that joined is the newest, and holds nothing
 module _ (past : List Turn) (old : EndsHeld) (moment : Moment) (fresh : List ℕ) (calls : List Call) (step : Step) (x : Holder) (empty : x.held ≡ []) (given : given_to x ≡ membership old.config fresh)
@@ -258,7 +258,7 @@ module _ (past : List Turn) (old : EndsHeld) (moment : Moment) (fresh : List ℕ
 
   -- it is given the configuration, and fresh octets of its own
   abbrev acts_as : ℕ → MemberHeld
-  acts_as k = member_after old.config moment (Some fresh) task.Nothing calls step (member_in old.members k)
+  acts_as k = member_after old.config moment (Some fresh) task.Nothing calls step (member_at old.members k)
 
   new-seen : member_seen (Some x) ≡ member_after old.config moment (Some fresh) task.Nothing calls step no_member
   new-seen i = record {
@@ -269,9 +269,9 @@ module _ (past : List Turn) (old : EndsHeld) (moment : Moment) (fresh : List ℕ
   free : is_none (holder_of old.members (suc (length old.members))) ≡ false
   free = ap is_none (get_or_past old.members (length old.members) (Some nobody) (omega arith))
 
-  member-more : (k : ℕ) (b : Bool) → (k == suc (length old.members)) ≡ b → member_in joined k ≡ member_unless (is_none (holder_of old.members k)) (if b then acts_as k else member_in old.members k)
+  member-more : (k : ℕ) (b : Bool) → (k == suc (length old.members)) ≡ b → member_at joined k ≡ member_unless (is_none (holder_of old.members k)) (if b then acts_as k else member_at old.members k)
   member-more k true e =
-      ap (member_in joined) (eqb-true k (suc (length old.members)) e)
+      ap (member_at joined) (eqb-true k (suc (length old.members)) e)
       ∙ more-seen_here old.members x
       ∙ new-seen
       ∙ sym (ap (λ n. member_unless (is_none (holder_of old.members n)) (acts_as n)) (eqb-true k (suc (length old.members)) e)
@@ -279,12 +279,12 @@ module _ (past : List Turn) (old : EndsHeld) (moment : Moment) (fresh : List ℕ
       ∙ ap (λ y. member_after old.config moment (Some fresh) task.Nothing calls step (member_seen y)) (get_or_past old.members (length old.members) None (omega arith)))
   member-more k false e = more-seen_there old.members x k e ∙ unless-seen old.members k
 
-  join-member : (k : ℕ) → member_in joined k ≡ member_unless (is_none (holder_of old.members k)) (if is_end (Member k) (performer_at join step.verdict) then acts past old moment join calls step k else member_in old.members k)
+  join-member : (k : ℕ) → member_at joined k ≡ member_unless (is_none (holder_of old.members k)) (if is_end (Member k) (performer_at join step.verdict) then acts past old moment join calls step k else member_at old.members k)
   join-member k =
       member-more k (k == suc (length old.members)) refl
-      ∙ ap (λ n. member_unless (is_none (holder_of old.members k)) (if k == n then acts_as k else member_in old.members k)) (sym last)
+      ∙ ap (λ n. member_unless (is_none (holder_of old.members k)) (if k == n then acts_as k else member_at old.members k)) (sym last)
       ∙ sym (ap (λ v. member_unless (is_none (holder_of old.members k))
-      (if is_end (Member k) (performer_at join v) then member_after old.config moment (fresh_in join v) task.Nothing calls step (member_in old.members k) else member_in old.members k)) said)
+      (if is_end (Member k) (performer_at join v) then member_after old.config moment (fresh_in join v) task.Nothing calls step (member_at old.members k) else member_at old.members k)) said)
 
   pub join-holds : Holds past old moment join calls step (record old { members = joined })
   join-holds i = record {

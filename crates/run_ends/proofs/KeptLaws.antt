@@ -15,7 +15,7 @@ use Rattle.turn_rules.specs.PeerStates.{peer_begun}
 use Rattle.turn_rules.specs.States.{RunState, has_turns, no_member, state_after, state_by}
 use Rattle.cluster_member.specs.Members.{Holder}
 use Rattle.run_ends.proofs.Verdicts.{does-few}
-use Rattle.run_ends.specs.Parties.{AreKept, EndsHeld, IsShort, Plays, holder_of, member_in, state_of}
+use Rattle.run_ends.specs.Parties.{AreKept, EndsHeld, IsShort, Plays, holder_of, member_at, state_of}
 
 all-append : (xs ys : List PlainDatagram) → AllByRecursion IsShort xs → AllByRecursion IsShort ys → AllByRecursion IsShort (xs ++ ys)
 all-append [] ys a b = b
@@ -35,7 +35,7 @@ first-gone : (k : ℕ) → is_none (holder_of [] k) ≡ false
 first-gone zero = refl
 first-gone (suc k) = refl
 
-first-member : (k : ℕ) → member_in [] k ≡ no_member
+first-member : (k : ℕ) → member_at [] k ≡ no_member
 first-member zero = refl
 first-member (suc k) = refl
 

@@ -7,7 +7,7 @@ use Rattle.std.proofs.lemmas.Option.{same_Some}
 use Rattle.std.specs.Prelude.{is_none, nat_le, nat_lt}
 use Rattle.turn_rules.specs.States.{member_unless}
 use Rattle.cluster_member.specs.Members.{Holder}
-use Rattle.run_ends.specs.Parties.{AreInPlace, EndsHeld, IsMember, IsMemberPlace, holder_of, member_in, member_seen, nobody, seat_or}
+use Rattle.run_ends.specs.Parties.{AreInPlace, EndsHeld, IsMember, IsMemberPlace, holder_of, member_at, member_seen, nobody, seat_or}
 
 -- the members are counted from 1
 pub counted : (member place : ℕ) (members : List (Option Holder)) → IsMemberPlace member place members → member ≡ suc place
@@ -25,11 +25,11 @@ pub put_back : (members : List (Option Holder)) (place : ℕ) (x : Option Holder
 put_back members place x at = ap (set members place) at ∙ set-get_or members place x
 
 -- nobody holds anything where nobody is
-pub unless-seen : (members : List (Option Holder)) (k : ℕ) → member_in members k ≡ member_unless (is_none (holder_of members k)) (member_in members k)
+pub unless-seen : (members : List (Option Holder)) (k : ℕ) → member_at members k ≡ member_unless (is_none (holder_of members k)) (member_at members k)
 unless-seen members zero = refl
 unless-seen members (suc k) = go members k
   where
-    go : (members : List (Option Holder)) (k : ℕ) → member_in members (suc k) ≡ member_unless (is_none (holder_of members (suc k))) (member_in members (suc k))
+    go : (members : List (Option Holder)) (k : ℕ) → member_at members (suc k) ≡ member_unless (is_none (holder_of members (suc k))) (member_at members (suc k))
     go [] k = refl
     go (None ∷ more) zero = refl
     go (Some x ∷ more) zero = refl
@@ -85,10 +85,10 @@ module _ (members : List (Option Holder)) (x : Holder) where
       (cases_lt k (length members))
 
   -- what the one more holds, and the others
-  pub more-seen_here : member_in more (suc (length members)) ≡ member_seen (Some x)
+  pub more-seen_here : member_at more (suc (length members)) ≡ member_seen (Some x)
   more-seen_here = ap member_seen (get_or_at members (Some x) [] None (length members) refl)
 
-  pub more-seen_there : (k : ℕ) → (k == suc (length members)) ≡ false → member_in more k ≡ member_in members k
+  pub more-seen_there : (k : ℕ) → (k == suc (length members)) ≡ false → member_at more k ≡ member_at members k
   more-seen_there zero other = refl
   more-seen_there (suc k) other = ⊎_elim
       (λ before. ap member_seen (get_or_append_left members (Some x ∷ []) None k before))

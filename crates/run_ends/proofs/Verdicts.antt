@@ -21,8 +21,6 @@ use Rattle.ha_base.specs.declared.counter_names.CounterName.{CounterName}
 use Rattle.ha_base.specs.declared.esp_outcomes.EspDrop.{EspDrop}
 use Rattle.ha_base.specs.declared.esp_outcomes.EspDrop.TheVariants as drop
 use Rattle.ha_base.specs.declared.esp_outcomes.EspOpened.{EspOpened}
-use Rattle.horizons.specs.declared.stop.Stop.{Stop}
-use Rattle.horizons.specs.declared.stop.Stop.TheVariants as stop
 use Rattle.ha_base.specs.declared.outside.Moment.{Moment}
 use Rattle.keeper_book.specs.Counters.{five_at}
 use Rattle.keeper_book.specs.Told.{seen}
@@ -36,6 +34,7 @@ use Rattle.keeper_book.specs.declared.faults.KeeperFault.TheVariants as fault
 use Rattle.keeper_book.specs.declared.records.Record.{Record}
 use Rattle.turn_rules.proofs.KeySizes.{sized_to_cluster, sized_to_peer}
 use Rattle.turn_rules.proofs.Readies.{ready-elim}
+use Rattle.turn_rules.proofs.Refusals.{stop-own}
 use Rattle.turn_rules.specs.Datagrams.{PlainDatagram, arrives, plain_datagram}
 use Rattle.turn_rules.specs.Deliveries.{MemberTakes, PeerTakes}
 use Rattle.turn_rules.specs.Draws.{Admits, Concludes, EntersRecord, Grants, TakesOver, counter_name, refusal_of_import, refusal_of_stop, refusal_of_takeover}
@@ -73,13 +72,6 @@ of-verdict verdict is own same = subst IsOfEnd (sym same) own
 
 of-refusal : (verdict : Verdict) (why : Refusal) → is_of_run why ≡ false → verdict ≡ out.Refused why → IsOfEnd verdict
 of-refusal verdict why own = of-verdict verdict (out.Refused why) (record { no_join = refl; heard = own })
-
-stop-own : (why : Stop) → is_of_run (refusal_of_stop why) ≡ false
-stop-own stop.Keeper = refl
-stop-own (stop.Replaced epoch) = refl
-stop-own stop.Exhausted = refl
-stop-own stop.Closed = refl
-stop-own stop.Unknown = refl
 
 abbrev own_of : Option Refusal → Bool
 own_of None = false

@@ -53,8 +53,8 @@ member_seen None = no_member
 member_seen (Some holder) = record { given = Some (given_to holder); held = held_at holder.held }
 
 -- what the member of this number holds, where it joined and did not end
-abbrev pub member_in : List (Option Holder) → ℕ → MemberHeld
-member_in members number = member_seen (seat_or None members number)
+abbrev pub member_at : List (Option Holder) → ℕ → MemberHeld
+member_at members number = member_seen (seat_or None members number)
 
 -- what the ends hold, whether anything was played, and what was given
 abbrev pub state_with : Bool → List PlainDatagram → EndsHeld → RunState
@@ -66,7 +66,7 @@ state_with started datagrams s = record {
   ended = λ member. is_none (holder_of s.members member);
   datagrams = datagrams;
   peer = s.peer;
-  members = λ member. member_in s.members member;
+  members = λ member. member_at s.members member;
 }
 
 -- what the ends hold after these turns

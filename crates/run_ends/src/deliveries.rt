@@ -46,12 +46,7 @@ impl Parties {
         }
     }
 
-    fn deliver_to_peer(
-        &mut self,
-        now: Moment,
-        trace: &Trace,
-        event: &Event,
-    ) -> Result<Step, Memory>
+    fn deliver_to_peer(&mut self, now: Moment, trace: &Trace, event: &Event) -> Result<Step, Memory>
         requires to { DeliversTo event.now parties.Peer }
         requires room { HasRoom trace.now.past }
         requires short { (datagram : PlainDatagram)

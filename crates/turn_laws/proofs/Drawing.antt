@@ -13,11 +13,12 @@ use Rattle.turn_laws.specs.Acts.{Uses}
 use Rattle.turn_laws.proofs.Covers.{ready-as, ready-calls}
 use Rattle.turn_laws.proofs.Single.{one-used}
 use Rattle.turn_laws.proofs.Deeds.{Deed, IsIdle, Rests, Spends, UsesOne, rest_of}
-use Rattle.turn_laws.proofs.Members.{member-performs, stop-of_member}
+use Rattle.turn_laws.proofs.Members.{member-performs}
 use Rattle.turn_laws.proofs.Names.{number-failed, number-passed}
 use Rattle.turn_laws.proofs.Uses.{Counts, number_at, used-alone}
 use Rattle.turn_laws.specs.Places.{Ours}
 use Rattle.turn_laws.specs.Turns.{number_taken}
+use Rattle.turn_rules.proofs.Refusals.{stop-own}
 use Rattle.turn_rules.specs.Draws.{Concludes, Draws, reach_of, refusal_of_stop}
 use Rattle.turn_rules.specs.Ends.{Member, is_refused_by_run, own}
 use Rattle.turn_rules.specs.Fits.{Quietly}
@@ -47,7 +48,7 @@ module _ (past : List Turn) (step : Step) (member spir : ℕ) (held : Held) (own
   draw-not_run : is_refused_by_run step.verdict ≡ false
   draw-not_run = ready-calls (λ calls. is_refused_by_run step.verdict ≡ false) (reach_of held counter.EspOut) next Stopped Drew
       (λ call rest asked is. is)
-      (λ why rest c. rw c.said (stop-of_member why))
+      (λ why rest c. rw c.said (stop-own why))
       (λ high rest c. rw c.said)
       calls quietly.follows
 

@@ -3,19 +3,9 @@ use Rattle.std.proofs.Common.{◌≡◌, ℕ, Bool, true, false, Some, List, ref
 use Rattle.events.specs.declared.event.Event.{Event}
 use Rattle.events.specs.declared.turn.Turn.{Turn}
 use Rattle.events.specs.declared.verdict.Verdict.{Verdict}
-use Rattle.horizons.specs.declared.stop.Stop.{Stop}
-use Rattle.horizons.specs.declared.stop.Stop.TheVariants as stop
-use Rattle.turn_rules.specs.Draws.{refusal_of_stop}
-use Rattle.turn_rules.specs.Ends.{Member, is_of_run, is_refused_by_run, own, performer_at, performer_of}
+use Rattle.turn_rules.specs.Ends.{Member, is_refused_by_run, own, performer_at, performer_of}
 use Rattle.turn_rules.specs.Held.{Held, held_by, window_by}
 use Rattle.turn_rules.specs.States.{has_ended, held_unless, told_state}
-
-pub stop-of_member : (why : Stop) → is_of_run (refusal_of_stop why) ≡ false
-stop-of_member stop.Keeper = refl
-stop-of_member (stop.Replaced epoch) = refl
-stop-of_member stop.Exhausted = refl
-stop-of_member stop.Closed = refl
-stop-of_member stop.Unknown = refl
 
 -- an event that comes to a member is one of its turns, unless the run refuses it
 pub member-performs : (event : Event) (verdict : Verdict) (member : ℕ) → performer_of event verdict ≡ Some (Member member) → is_refused_by_run verdict ≡ false → performer_at event verdict ≡ Some (Member member)

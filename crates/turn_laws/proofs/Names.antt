@@ -10,15 +10,9 @@ use Rattle.turn_laws.proofs.Pools.{is_pool-same}
 use Rattle.turn_laws.proofs.Same.{is_name-same}
 use Rattle.turn_laws.specs.Acts.{begun_named, begun_theirs}
 use Rattle.turn_laws.specs.Places.{Ours, Place, Pooled, Theirs, is_place, place_of}
+use Rattle.turn_rules.proofs.Readies.{counter-named}
 use Rattle.turn_rules.specs.Draws.{child_of, counter_name, counter_kind}
 use Rattle.turn_rules.specs.Slots.{peer_counter}
-
-pub counter-named : (c : Counter) → counter_named (counter_kind c) (child_of c) ≡ Some c
-counter-named counter.EspOut = refl
-counter-named counter.EspIn = refl
-counter-named counter.Iv = refl
-counter-named counter.Ask = refl
-counter-named counter.Answer = refl
 
 -- the cluster's counter
 pub place-ours : (sa : Record) (c : Counter) → place_of (counter_name sa c) ≡ Ours sa.spir c

@@ -27,11 +27,12 @@ use Rattle.turn_laws.specs.Acts.{Uses}
 use Rattle.turn_laws.proofs.Covers.{ready-as, ready-calls}
 use Rattle.turn_laws.proofs.Single.{one-used}
 use Rattle.turn_laws.proofs.Deeds.{number_theirs, Deed, IsIdle, Rested, Rests, Spends, Used_theirs, UsesOne, rest_of}
-use Rattle.turn_laws.proofs.Members.{member-performs, own-held, stop-of_member}
+use Rattle.turn_laws.proofs.Members.{member-performs, own-held}
 use Rattle.turn_laws.proofs.Names.{number-failed, number-passed, place-ours}
 use Rattle.turn_laws.proofs.Uses.{Counts, number_at, used-alone}
 use Rattle.turn_laws.specs.Places.{Ours, Place, Theirs, place_of}
 use Rattle.turn_laws.specs.Turns.{number_taken}
+use Rattle.turn_rules.proofs.Refusals.{stop-own}
 use Rattle.turn_rules.specs.Deliveries.{PeerTakes}
 use Rattle.turn_rules.specs.Draws.{counter_name, reach_of, refusal_of_stop}
 use Rattle.turn_rules.specs.Ends.{Member, Peer, end_of_party, is_refused_by_run, own, performer_of}
@@ -126,7 +127,7 @@ module _ (boxes : ℕ) (past : List Turn) (own_spir : (member spir : ℕ) (held 
     take-not_run : TakesPacket held (Ok packet) calls answer → is_refused_by_run step.verdict ≡ false
     take-not_run takes = ready-calls (λ calls. is_refused_by_run step.verdict ≡ false) (reach_of held counter.EspIn) packet.number Stopped Took
         (λ call rest asked is. is)
-        (λ why rest s. ap is_refused_by_run (refused why s.1) ∙ stop-of_member why)
+        (λ why rest s. ap is_refused_by_run (refused why s.1) ∙ stop-own why)
         (λ high rest s. ap is_refused_by_run (took s.1).said)
         calls takes
 

@@ -20,11 +20,12 @@ use Rattle.turn_laws.specs.Acts.{Seals}
 use Rattle.turn_laws.proofs.Covers.{ready-as, ready-calls}
 use Rattle.turn_laws.proofs.Single.{one-used}
 use Rattle.turn_laws.proofs.Deeds.{number_theirs, Deed, Rested, Rests, Spends, Used_theirs, UsesOne, says-rests, rest_of}
-use Rattle.turn_laws.proofs.Members.{member-performs, stop-of_member}
+use Rattle.turn_laws.proofs.Members.{member-performs}
 use Rattle.turn_laws.proofs.Names.{number-failed, number-passed, place-ours}
 use Rattle.turn_laws.proofs.Uses.{Seals_it, number_at, used-alone}
 use Rattle.turn_laws.specs.Places.{Ours, Place, Theirs, place_of}
 use Rattle.turn_laws.specs.Turns.{key_iv, number_taken}
+use Rattle.turn_rules.proofs.Refusals.{stop-own}
 use Rattle.turn_rules.proofs.SlotTies.{first-passes}
 use Rattle.turn_rules.specs.Draws.{reach_of, refusal_of_stop}
 use Rattle.turn_rules.specs.Ends.{Member, Peer, is_refused_by_run, own}
@@ -88,7 +89,7 @@ module _ (past : List Turn) (step : Step) (member spir : ℕ) (payload : WithRoo
   send-not_run : is_refused_by_run step.verdict ≡ false
   send-not_run = ready-calls (λ calls. is_refused_by_run step.verdict ≡ false) (reach_of held counter.EspOut) next Stopped Sent
       (λ call rest asked is. is)
-      (λ why rest s. let said : _ = s.1.said in rw said (stop-of_member why))
+      (λ why rest s. let said : _ = s.1.said in rw said (stop-own why))
       (λ high rest s. let said : _ = s.1.said in rw said refl)
       calls sends
 

@@ -24,7 +24,7 @@ use Rattle.turn_laws.proofs.Deeds.{AreReady, Asked, Deed, Ended, IsOpenTo, Last,
 use Rattle.turn_laws.proofs.Entries.{is_counter-same}
 use Rattle.turn_laws.proofs.Holdings.{is_actor-same}
 use Rattle.turn_rules.proofs.SlotTies.{all-weaker}
-use Rattle.turn_laws.proofs.Names.{counter-named}
+use Rattle.turn_rules.proofs.Readies.{counter-named}
 use Rattle.turn_laws.proofs.Outcomes.{over-rest, rests-rest}
 use Rattle.turn_laws.proofs.Tells.{Tells, tells}
 use Rattle.turn_laws.proofs.Uses.{may-use, spent_of}

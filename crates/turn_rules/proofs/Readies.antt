@@ -51,12 +51,12 @@ none-covers held c calls none = subst (λ cs. AreCovers held c cs (five_at held.
   here = same_high c held.highs;
 })
 
-named : (c : Counter) → counter_named (counter_kind c) (child_of c) ≡ Some c
-named counter.EspOut = refl
-named counter.EspIn = refl
-named counter.Iv = refl
-named counter.Ask = refl
-named counter.Answer = refl
+pub counter-named : (c : Counter) → counter_named (counter_kind c) (child_of c) ≡ Some c
+counter-named counter.EspOut = refl
+counter-named counter.EspIn = refl
+counter-named counter.Iv = refl
+counter-named counter.Ask = refl
+counter-named counter.Answer = refl
 
 -- one counter is raised, and the others stay
 raised : (c : Counter) (upto : ℕ) (highs : Five) → five_at highs c ≤ upto → five_of (λ d. greatest (five_at highs d) (cons_option (if is_counter d c then Some upto else None) [])) ≡ with_five c upto highs
@@ -87,7 +87,7 @@ module _ (held : Held) (c : Counter) (call : Call) (upto : ℕ) (asked : call.as
     covers-one spir d =
         ap (λ a. cons_option (covered spir d a (seen call)) []) asked
         ∙ ap (λ s. cons_option (covered spir d (ask.Cover held.sa.spir (counter_kind c) (child_of c) held.epoch upto) s) []) sees
-        ∙ ap (λ n. cons_option (if (held.sa.spir == spir) && is_named d n then Some upto else None) []) (named c)
+        ∙ ap (λ n. cons_option (if (held.sa.spir == spir) && is_named d n then Some upto else None) []) (counter-named c)
 
     one-covers : five_at held.highs c ≤ upto → AreCovers held c (call ∷ []) upto
     one-covers low = record {

@@ -8,11 +8,22 @@ use Rattle.events.specs.declared.turn.Medium.{Medium}
 use Rattle.events.specs.declared.turn.Medium.TheVariants as medium
 use Rattle.events.specs.declared.verdict.Refusal.{Refusal}
 use Rattle.events.specs.declared.verdict.Refusal.TheVariants as refusal
+use Rattle.horizons.specs.declared.stop.Stop.{Stop}
+use Rattle.horizons.specs.declared.stop.Stop.TheVariants as stop
 use Rattle.ha_base.specs.declared.limits.TheConstants.{MAX_DATAGRAMS}
 use Rattle.turn_rules.specs.Datagrams.{PlainDatagram, altered, changed, cut, datagram_at}
+use Rattle.turn_rules.specs.Draws.{refusal_of_stop}
 use Rattle.turn_rules.specs.Ends.{is_of_run}
 use Rattle.turn_rules.specs.Fits.{MAX_MEMBERS, has_joined, is_importable, is_of_datagrams, named_in, refused_absent, refused_arrival, refused_besides, refused_medium, refused_where, run_refusal}
 use Rattle.turn_rules.specs.States.{RunState}
+
+-- a stop is no refusal of the run's
+pub stop-own : (why : Stop) → is_of_run (refusal_of_stop why) ≡ false
+stop-own stop.Keeper = refl
+stop-own (stop.Replaced epoch) = refl
+stop-own stop.Exhausted = refl
+stop-own stop.Closed = refl
+stop-own stop.Unknown = refl
 
 abbrev AreOfRun : Option Refusal → Type 0
 AreOfRun x = (why : Refusal) → x ≡ Some why → is_of_run why ≡ true

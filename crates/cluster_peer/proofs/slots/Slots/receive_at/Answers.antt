@@ -3,7 +3,7 @@ use Rattle.std.proofs.Common.{◌≡◌, Some, ap, sym, ◌∙◌, map, refl}
 use Rattle.ha_base.specs.declared.esp_outcomes.EspDrop.TheVariants as drop
 use Rattle.turn_rules.specs.Slots.{first_slot, receives_at, slot_after}
 use Rattle.turn_rules.specs.Tasks as task
-use Rattle.cluster_peer.specs.Slots.{IsFirst, Slotted}
+use Rattle.cluster_peer.specs.Slots.{IsFirstSlot, Slotted}
 use Rattle.cluster_peer.proofs.SlotLaws.{distinct-set, dropped-kept, kept_all, packet-after}
 use Rattle.cluster_peer.proofs.SlotLemmas.{first_at}
 use Rattle.cluster_peer.proofs.slots.Slots.receive_at.Goals as goal
@@ -13,7 +13,7 @@ returns-in-Some-clause-receives c =
     let items = c.self.inside.items.items in
     let slot = c.index_mut-association.result.now in
     let test = receives_at c.args.spi in
-    let place : IsFirst test c.in-Some.place items = rw c.deref.ensures.value at c.in-Some.ensures in
+    let place : IsFirstSlot test c.in-Some.place items = rw c.deref.ensures.value at c.in-Some.ensures in
     let old : items ≡ c.args.self.now.slots = ap (λ (v : Slotted). v.slots) c.self.view_is in
     let found : first_slot test c.args.self.now.slots ≡ Some slot = ap (first_slot test) (sym old) ∙ first_at test c.in-Some.place items slot place c.index_mut-association.ensures.value in
     rw found c.receive.ensures.receives
@@ -21,7 +21,7 @@ returns-in-Some-clause-receives c =
 pub returns-in-Some-clause-after : goal.returns-in-Some-clause-after
 returns-in-Some-clause-after c = λ step worded.
     let items = c.self.inside.items.items in
-    let place : IsFirst (receives_at c.args.spi) c.in-Some.place items = rw c.deref.ensures.value at c.in-Some.ensures in
+    let place : IsFirstSlot (receives_at c.args.spi) c.in-Some.place items = rw c.deref.ensures.value at c.in-Some.ensures in
     let old : items ≡ c.args.self.now.slots = ap (λ (v : Slotted). v.slots) c.self.view_is in
     packet-after c.receive.result c.receive.new.bytes step worded c.in-Some.place items c.index_mut-association.result.now c.receive.new.self place.within
     c.index_mut-association.ensures.value c.self.invariant c.receive.ensures.noted c.args.bytes.now c.receive.ensures.receives
@@ -33,5 +33,5 @@ returns-in-None-clause-after c = λ step worded. kept_all (slot_after task.Recei
 pub invariant_of-self : goal.invariant_of-self
 invariant_of-self c =
     let items = c.self.inside.items.items in
-    let place : IsFirst (receives_at c.args.spi) c.in-Some.place items = rw c.deref.ensures.value at c.in-Some.ensures in
+    let place : IsFirstSlot (receives_at c.args.spi) c.in-Some.place items = rw c.deref.ensures.value at c.in-Some.ensures in
     distinct-set c.in-Some.place items c.index_mut-association.result.now c.receive.new.self place.within c.index_mut-association.ensures.value c.receive.ensures.sa c.self.invariant

@@ -4,7 +4,7 @@ use Rattle.std.proofs.lemmas.Bool.{eqb-true}
 use Rattle.events.specs.declared.verdict.Refusal.TheVariants as refusal
 use Rattle.turn_rules.specs.Slots.{first_slot, has_spir, slot_after}
 use Rattle.turn_rules.specs.Tasks as task
-use Rattle.cluster_peer.specs.Slots.{IsFirst, Slotted}
+use Rattle.cluster_peer.specs.Slots.{IsFirstSlot, Slotted}
 use Rattle.cluster_peer.proofs.SlotLaws.{distinct-set, kept_all, refused-kept, sent-after}
 use Rattle.cluster_peer.proofs.SlotLemmas.{first_at}
 use Rattle.cluster_peer.proofs.slots.Slots.send.Goals as goal
@@ -14,7 +14,7 @@ returns-in-Some-clause-sends c =
     let items = c.self.inside.items.items in
     let slot = c.index_mut-association.result.now in
     let test = has_spir c.args.spir in
-    let place : IsFirst test c.in-Some.place items = rw c.deref.ensures.value at c.in-Some.ensures in
+    let place : IsFirstSlot test c.in-Some.place items = rw c.deref.ensures.value at c.in-Some.ensures in
     let old : items ≡ c.args.self.now.slots = ap (λ (v : Slotted). v.slots) c.self.view_is in
     let found : first_slot test c.args.self.now.slots ≡ Some slot = ap (first_slot test) (sym old) ∙ first_at test c.in-Some.place items slot place c.index_mut-association.ensures.value in
     rw found c.send.ensures.sends
@@ -23,7 +23,7 @@ pub returns-in-Some-clause-after : goal.returns-in-Some-clause-after
 returns-in-Some-clause-after c =
     let items = c.self.inside.items.items in
     let slot = c.index_mut-association.result.now in
-    let place : IsFirst (has_spir c.args.spir) c.in-Some.place items = rw c.deref.ensures.value at c.in-Some.ensures in
+    let place : IsFirstSlot (has_spir c.args.spir) c.in-Some.place items = rw c.deref.ensures.value at c.in-Some.ensures in
     let old : items ≡ c.args.self.now.slots = ap (λ (v : Slotted). v.slots) c.self.view_is in
     let its = eqb-true slot.sa.spir c.args.spir (place.here slot c.index_mut-association.ensures.value) in
     sent-after c.args.spir c.args.payload.now c.send.result c.in-Some.place items slot c.send.new.self place.within c.index_mut-association.ensures.value c.self.invariant
@@ -37,5 +37,5 @@ returns-in-None-clause-after c = kept_all (slot_after (task.Send c.args.spir c.a
 pub invariant_of-self : goal.invariant_of-self
 invariant_of-self c =
     let items = c.self.inside.items.items in
-    let place : IsFirst (has_spir c.args.spir) c.in-Some.place items = rw c.deref.ensures.value at c.in-Some.ensures in
+    let place : IsFirstSlot (has_spir c.args.spir) c.in-Some.place items = rw c.deref.ensures.value at c.in-Some.ensures in
     distinct-set c.in-Some.place items c.index_mut-association.result.now c.send.new.self place.within c.index_mut-association.ensures.value c.send.ensures.sa c.self.invariant

@@ -3,7 +3,7 @@ use Rattle.std.proofs.Common.{◌≡◌, ◌∙◌, Option, Some, List, [], refl
 use Rattle.std.proofs.Math.ListN.{set}
 use Rattle.std.specs.Prelude.{false}
 use Rattle.events.specs.declared.event.Party.TheVariants as parties
-use Rattle.keeper_book.proofs.Asking.{asks_none}
+use Rattle.keeper_book.proofs.Asking.{asks_for_none}
 use Rattle.cluster_member.specs.Members.{Holder}
 use Rattle.run_ends.proofs.Acting.{WithRoomFor, absent-plays, brings, down-plays, has-room, up-refusal}
 use Rattle.run_ends.proofs.Plays.{asked-as, not_arrives, takes}
@@ -17,12 +17,7 @@ returns-in_default-clause-delivers g c =
     let at = c.args.event.now in
     let past = c.args.trace.now.past in
     let room : WithRoomFor (state_of past c.args.self.now) at = has-room (state_of past c.args.self.now) at c.requires.room in
-    record {
-      calls = [];
-      follows = absent-plays past c.args.self.now c.args.now at c.args.member (brings at (parties.Member c.args.member) c.requires.to).named room c.requires.in_place c.refused.result none c.refused.ensures;
-      asked = asks_none c.args.keeper.now;
-      held = refl;
-    }
+    asks_for_none g.K.Keeper c.args.keeper.now (absent-plays past c.args.self.now c.args.now at c.args.member (brings at (parties.Member c.args.member) c.requires.to).named room c.requires.in_place c.refused.result none c.refused.ensures)
 
 pub returns-in_default-index_mut-clause-delivers : goal.returns-in_default-index_mut-clause-delivers
 returns-in_default-index_mut-clause-delivers g c =
@@ -32,14 +27,9 @@ returns-in_default-index_mut-clause-delivers g c =
     let at = c.args.event.now in
     let past = c.args.trace.now.past in
     let room : WithRoomFor (state_of past c.args.self.now) at = has-room (state_of past c.args.self.now) at c.requires.room in
-    record {
-      calls = [];
-      follows = down-plays past c.args.self.now c.args.now at c.args.member (brings at (parties.Member c.args.member) c.requires.to).named room c.requires.in_place c.in-Some.place c.index_mut.result.now c.in-Some.ensures
+    asks_for_none g.K.Keeper c.args.keeper.now (down-plays past c.args.self.now c.args.now at c.args.member (brings at (parties.Member c.args.member) c.requires.to).named room c.requires.in_place c.in-Some.place c.index_mut.result.now c.in-Some.ensures
           (rw members_are at c.index_mut.ensures.value) c.refused-in_default-index_mut.result _ c.in_default-index_mut.is c.refused-in_default-index_mut.ensures
-          (ap with_members (put_back members c.in-Some.place c.index_mut.result.now c.index_mut.ensures.value) ∙ c.self.view_is);
-      asked = asks_none c.args.keeper.now;
-      held = refl;
-    }
+          (ap with_members (put_back members c.in-Some.place c.index_mut.result.now c.index_mut.ensures.value) ∙ c.self.view_is))
 
 pub returns-in-Err-clause-delivers : goal.returns-in-Err-clause-delivers
 returns-in-Err-clause-delivers g c =
@@ -50,15 +40,10 @@ returns-in-Err-clause-delivers g c =
     let at = c.args.event.now in
     let past = c.args.trace.now.past in
     let room : WithRoomFor (state_of past c.args.self.now) at = has-room (state_of past c.args.self.now) at c.requires.room in
-    record {
-      calls = [];
-      follows = not_arrives past c.args.self.now c.args.now c.requires.in_place c.refused-in-Err.result _ at (parties.Member c.args.member) c.requires.to c.in-Err.why (sym c.in_ok-arrival.ensures ∙ c.in-Err.is)
+    asks_for_none g.K.Keeper c.args.keeper.now (not_arrives past c.args.self.now c.args.now c.requires.in_place c.refused-in-Err.result _ at (parties.Member c.args.member) c.requires.to c.in-Err.why (sym c.in_ok-arrival.ensures ∙ c.in-Err.is)
           (up-refusal past c.args.self.now c.args.now at c.args.member (brings at (parties.Member c.args.member) c.requires.to).named room c.requires.in_place c.in-Some.place c.index_mut.result.now c.in-Some.ensures
           (rw members_are at c.index_mut.ensures.value) c.in-Some-index_mut.member c.in-Some-index_mut.is)
-          c.refused-in-Err.ensures (ap with_members back ∙ c.self.view_is);
-      asked = asks_none c.args.keeper.now;
-      held = refl;
-    }
+          c.refused-in-Err.ensures (ap with_members back ∙ c.self.view_is))
 
 pub returns-in-Ok-clause-delivers : goal.returns-in-Ok-clause-delivers
 returns-in-Ok-clause-delivers g c =

@@ -2,7 +2,7 @@
 use Rattle.std.proofs.Common.{◌≡◌, MatchOption, Some, [], ◌∷◌, ◌++◌, true, refl, ap, sym, ◌∙◌, subst, rules}
 use Rattle.std.specs.Prelude.{false}
 use Rattle.events.specs.declared.verdict.Verdict.TheVariants as out
-use Rattle.keeper_book.proofs.Asking.{asks_for_none, asks_none}
+use Rattle.keeper_book.proofs.Asking.{asks_for_none}
 use Rattle.cluster_peer.specs.Slots.{PeerWithRoom}
 use Rattle.turn_rules.specs.Draws.{Admits, refusal_of_import}
 use Rattle.turn_rules.specs.Fits.{is_importable}
@@ -16,12 +16,7 @@ pub returns-then-not-admits-clause-imports : goal.returns-then-not-admits-clause
 returns-then-not-admits-clause-imports g c =
     let within : is_importable c.args.sa.now ≡ true = search rules in
     let clash : admits (records c.args.self.now.peer.slots) c.args.sa.now ≡ false = search rules in
-    record {
-      calls = [];
-      follows = λ past moment. clashes past c.args.self.now moment c.requires.in_place c.args.sa.now [] c.refused-then-not-admits.result within clash c.refused-then-not-admits.ensures c.args.self.now refl;
-      asked = asks_none c.args.keeper.now;
-      held = refl;
-    }
+    asks_for_none g.K.Keeper c.args.keeper.now (λ past moment. clashes past c.args.self.now moment c.requires.in_place c.args.sa.now [] c.refused-then-not-admits.result within clash c.refused-then-not-admits.ensures c.args.self.now refl)
 
 pub returns-then-not-is_importable-clause-imports : goal.returns-then-not-is_importable-clause-imports
 returns-then-not-is_importable-clause-imports g c =

@@ -3,7 +3,7 @@ use Rattle.std.proofs.Common.{◌≡◌, ◌∙◌, Option, Some, List, [], refl
 use Rattle.std.proofs.Math.ListN.{set}
 use Rattle.std.specs.Prelude.{false}
 use Rattle.events.specs.declared.event.Event.TheVariants as event
-use Rattle.keeper_book.proofs.Asking.{asks_none}
+use Rattle.keeper_book.proofs.Asking.{asks_for_none}
 use Rattle.cluster_member.specs.Members.{Holder}
 use Rattle.run_ends.proofs.Acting.{absent-plays, down-plays}
 use Rattle.run_ends.proofs.Plays.{asked-as, if_ok-as, owns}
@@ -14,26 +14,16 @@ use Rattle.run_ends.specs.Parties.{EndsHeld, has_member}
 pub returns-in_default-clause-owns : goal.returns-in_default-clause-owns
 returns-in_default-clause-owns g c =
     let none : has_member c.args.member c.args.self.now.members ≡ false = search rules in
-    record {
-      calls = [];
-      follows = λ past moment. absent-plays past c.args.self.now moment (event.Own c.args.member c.args.spir) c.args.member refl refl c.requires.in_place c.refused.result none c.refused.ensures;
-      asked = asks_none c.args.keeper.now;
-      held = refl;
-    }
+    asks_for_none g.K.Keeper c.args.keeper.now (λ past moment. absent-plays past c.args.self.now moment (event.Own c.args.member c.args.spir) c.args.member refl refl c.requires.in_place c.refused.result none c.refused.ensures)
 
 pub returns-in-None-clause-owns : goal.returns-in-None-clause-owns
 returns-in-None-clause-owns g c =
     let members : List (Option Holder) = c.self.inside.members.items in
     let members_are : members ≡ c.args.self.now.members = ap (λ (s : EndsHeld). s.members) c.self.view_is in
     let with_members : List (Option Holder) → EndsHeld = λ ms. record { boxes = c.self.inside.boxes; config = c.self.inside.settings; peer = c.self.inside.peer.held; members = ms } in
-    record {
-      calls = [];
-      follows = λ past moment. down-plays past c.args.self.now moment (event.Own c.args.member c.args.spir) c.args.member refl refl c.requires.in_place c.in-Some.place c.index_mut.result.now c.in-Some.ensures
+    asks_for_none g.K.Keeper c.args.keeper.now (λ past moment. down-plays past c.args.self.now moment (event.Own c.args.member c.args.spir) c.args.member refl refl c.requires.in_place c.in-Some.place c.index_mut.result.now c.in-Some.ensures
           (rw members_are at c.index_mut.ensures.value) c.refused-in-None.result _ c.in-None.is c.refused-in-None.ensures
-          (ap with_members (put_back members c.in-Some.place c.index_mut.result.now c.index_mut.ensures.value) ∙ c.self.view_is);
-      asked = asks_none c.args.keeper.now;
-      held = refl;
-    }
+          (ap with_members (put_back members c.in-Some.place c.index_mut.result.now c.index_mut.ensures.value) ∙ c.self.view_is))
 
 pub returns-in-Some-index_mut-clause-owns : goal.returns-in-Some-index_mut-clause-owns
 returns-in-Some-index_mut-clause-owns g c =

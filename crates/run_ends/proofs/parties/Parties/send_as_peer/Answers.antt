@@ -12,8 +12,8 @@ returns-clause-sends c = λ past moment given room same.
     let asked = task.Send c.args.spir c.args.payload.now in
     let step = c.in_ok-step.step in
     let held = c.in_ok-step.ensures.after.holds moment
-        ∙ ap (λ w. peer_after w moment asked step c.self.inside.peer.held) c.self.invariant.1
-        ∙ ap (λ (s : EndsHeld). peer_after s.config.window moment asked step s.peer) c.self.view_is in
+    ∙ ap (λ w. peer_after w moment asked step c.self.inside.peer.held) c.self.invariant.1
+    ∙ ap (λ (s : EndsHeld). peer_after s.config.window moment asked step s.peer) c.self.view_is in
     peer_sends past c.args.self.now moment c.requires.in_place step _ c.args.spir given c.args.payload.now same c.requires.size room
     (subst (λ (s : EndsHeld). PeerSends c.args.spir s.peer.slots c.args.payload.now step) c.self.view_is c.in_ok-step.ensures.sends)
     (ap (λ (s : EndsHeld). record s { peer = c.send_data.new.self.held }) c.self.view_is ∙ ap (λ peer. record c.args.self.now { peer = peer }) held)
