@@ -32,6 +32,7 @@ fn ask_fits(ask: PlainAsk)
 {
     match ask {
         PlainAsk::Enter { .. } | PlainAsk::TakeOver { .. } | PlainAsk::Cover { .. } => {}
+        PlainAsk::Lease { .. } | PlainAsk::Settle { .. } | PlainAsk::Look { .. } => {}
     }
 }
 
@@ -40,7 +41,7 @@ fn answer_fits(answer: PlainAnswer)
 {
     match answer {
         PlainAnswer::Taken { epoch: _, bases } => bases_fit(bases),
-        PlainAnswer::Replaced(_) | PlainAnswer::Full(_) => {}
+        PlainAnswer::Number(_) | PlainAnswer::Replaced(_) | PlainAnswer::Full(_) => {}
         PlainAnswer::Done
         | PlainAnswer::Failed
         | PlainAnswer::Unknown

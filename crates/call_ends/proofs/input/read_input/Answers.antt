@@ -1,4 +1,4 @@
--- What memory was lacking for was read all the same.
+-- What there was no memory for was read all the same.
 use Rattle.std.proofs.Common.{◌+◌, ◌≤◌, ◌++◌, length, take, Result, Ok, Err, OnErr, arith}
 use Rattle.std.proofs.KnownBytes.{Consumes-trans}
 use Rattle.std.proofs.lemmas.Grind.{common_steps}
