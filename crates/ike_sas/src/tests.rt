@@ -30,7 +30,8 @@ const MEMBER_IVS: CounterName = CounterName {
     end: End::Cluster,
 };
 
-/// The request 1 with the octet 05, sealed by the peer with the IV 2 by another program.
+/// The request with Message ID 1 and the octet 05, sealed by the peer with the IV 2 by another
+/// program.
 const REQUEST: &str =
     "000100000000000100010000000000022e202508000000010000004229000026000000000000000229935872211464fd0c1ba43477a0893b7ebbe83a7af644222813";
 
@@ -38,7 +39,7 @@ const REQUEST: &str =
 const RESPONSE: &str =
     "000100000000000100010000000000022e20252000000001000000492900002d00000000000000018d3d1f6f3745ba97b72ec62053cc9971842045d03f00e0a8be90dc36d4c5892907";
 
-/// The request 0 to make a further association.
+/// The request with Message ID 0 to make a further association.
 const CREATE_CHILD: &str =
     "000100000000000100010000000000022e202408000000000000004d2800003100000000000003e787448864bd7a92446ec1a303f0121f00848d3fea700f520d3a873c2d6343b8ef122d42bea2";
 

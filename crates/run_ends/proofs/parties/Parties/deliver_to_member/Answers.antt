@@ -28,8 +28,8 @@ returns-in_default-index_mut-clause-delivers g c =
     let past = c.args.trace.now.past in
     let room : WithRoomFor (state_of past c.args.self.now) at = has-room (state_of past c.args.self.now) at c.requires.room in
     asks_for_none g.K.Keeper c.args.keeper.now (down-plays past c.args.self.now c.args.now at c.args.member (brings at (parties.Member c.args.member) c.requires.to).named room c.requires.in_place c.in-Some.place c.index_mut.result.now c.in-Some.ensures
-          (rw members_are at c.index_mut.ensures.value) c.refused-in_default-index_mut.result _ c.in_default-index_mut.is c.refused-in_default-index_mut.ensures
-          (ap with_members (put_back members c.in-Some.place c.index_mut.result.now c.index_mut.ensures.value) ∙ c.self.view_is))
+    (rw members_are at c.index_mut.ensures.value) c.refused-in_default-index_mut.result _ c.in_default-index_mut.is c.refused-in_default-index_mut.ensures
+    (ap with_members (put_back members c.in-Some.place c.index_mut.result.now c.index_mut.ensures.value) ∙ c.self.view_is))
 
 pub returns-in-Err-clause-delivers : goal.returns-in-Err-clause-delivers
 returns-in-Err-clause-delivers g c =
@@ -41,9 +41,9 @@ returns-in-Err-clause-delivers g c =
     let past = c.args.trace.now.past in
     let room : WithRoomFor (state_of past c.args.self.now) at = has-room (state_of past c.args.self.now) at c.requires.room in
     asks_for_none g.K.Keeper c.args.keeper.now (not_arrives past c.args.self.now c.args.now c.requires.in_place c.refused-in-Err.result _ at (parties.Member c.args.member) c.requires.to c.in-Err.why (sym c.in_ok-arrival.ensures ∙ c.in-Err.is)
-          (up-refusal past c.args.self.now c.args.now at c.args.member (brings at (parties.Member c.args.member) c.requires.to).named room c.requires.in_place c.in-Some.place c.index_mut.result.now c.in-Some.ensures
-          (rw members_are at c.index_mut.ensures.value) c.in-Some-index_mut.member c.in-Some-index_mut.is)
-          c.refused-in-Err.ensures (ap with_members back ∙ c.self.view_is))
+    (up-refusal past c.args.self.now c.args.now at c.args.member (brings at (parties.Member c.args.member) c.requires.to).named room c.requires.in_place c.in-Some.place c.index_mut.result.now c.in-Some.ensures
+    (rw members_are at c.index_mut.ensures.value) c.in-Some-index_mut.member c.in-Some-index_mut.is)
+    c.refused-in-Err.ensures (ap with_members back ∙ c.self.view_is))
 
 pub returns-in-Ok-clause-delivers : goal.returns-in-Ok-clause-delivers
 returns-in-Ok-clause-delivers g c =

@@ -25,8 +25,8 @@ returns-in-None g c =
     let with_members : List (Option Holder) → EndsHeld = λ ms. record { boxes = c.self.inside.boxes; config = c.self.inside.settings; peer = c.self.inside.peer.held; members = ms } in
     record {
       draws = asks_for_none g.K.Keeper c.args.keeper.now (λ past moment. down-plays past c.args.self.now moment (event.Draw c.args.member c.args.spir) c.args.member refl refl c.requires.in_place c.in-Some.place c.index_mut.result.now c.in-Some.ensures
-            (rw members_are at c.index_mut.ensures.value) c.refused-in-None.result _ c.in-None.is c.refused-in-None.ensures
-            (ap with_members (put_back members c.in-Some.place c.index_mut.result.now c.index_mut.ensures.value) ∙ c.self.view_is));
+          (rw members_are at c.index_mut.ensures.value) c.refused-in-None.result _ c.in-None.is c.refused-in-None.ensures
+          (ap with_members (put_back members c.in-Some.place c.index_mut.result.now c.index_mut.ensures.value) ∙ c.self.view_is));
     }
 
 pub returns-in-Some-index_mut : goal.returns-in-Some-index_mut

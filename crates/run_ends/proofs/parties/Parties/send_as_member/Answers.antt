@@ -23,8 +23,8 @@ returns-in-None-clause-sends g c =
     let members_are : members ≡ c.args.self.now.members = ap (λ (s : EndsHeld). s.members) c.self.view_is in
     let with_members : List (Option Holder) → EndsHeld = λ ms. record { boxes = c.self.inside.boxes; config = c.self.inside.settings; peer = c.self.inside.peer.held; members = ms } in
     asks_for_none g.K.Keeper c.args.keeper.now (λ past moment given room same. down-plays past c.args.self.now moment (event.Send (parties.Member c.args.member) c.args.spir given) c.args.member refl room c.requires.in_place c.in-Some.place c.index_mut.result.now c.in-Some.ensures
-          (rw members_are at c.index_mut.ensures.value) c.refused-in-None.result _ c.in-None.is c.refused-in-None.ensures
-          (ap with_members (put_back members c.in-Some.place c.index_mut.result.now c.index_mut.ensures.value) ∙ c.self.view_is))
+    (rw members_are at c.index_mut.ensures.value) c.refused-in-None.result _ c.in-None.is c.refused-in-None.ensures
+    (ap with_members (put_back members c.in-Some.place c.index_mut.result.now c.index_mut.ensures.value) ∙ c.self.view_is))
 
 pub returns-in-Some-index_mut-clause-sends : goal.returns-in-Some-index_mut-clause-sends
 returns-in-Some-index_mut-clause-sends g c =
