@@ -43,7 +43,7 @@ fixed_takes bytes fits long large =
       rest_fits = IsOctets-drop 4 bytes fits;
     }
 
-attribute_takes : (end : ℕ) (bytes : List ℕ) (x : AttributeValue × List ℕ) → IsOctets bytes → attribute_at end bytes ≡ Ok x → TakesAttribute bytes x
+pub attribute_takes : (end : ℕ) (bytes : List ℕ) (x : AttributeValue × List ℕ) → IsOctets bytes → attribute_at end bytes ≡ Ok x → TakesAttribute bytes x
 unfolding attribute_at
 attribute_takes end bytes x fits e =
     let u = unless_ok (attribute_tests end bytes) (formed_at end bytes) x e in
@@ -61,7 +61,7 @@ fixed_same k k' v v' r e f = rw (e, f) refl
 free_same : (k k' : ℕ) (v v' r r' : List ℕ) → k ≡ k' → v ≡ v' → r ≡ r' → (let made : AttributeValue × List ℕ = (free k v, r) in done made) ≡ (let made : AttributeValue × List ℕ = (free k' v', r') in done made)
 free_same k k' v v' r r' e f g = rw (e, f, g) refl
 
-when_true : {A : Type 0} (b : Bool) (x y : A) → b ≡ true → cond b x y ≡ x
+pub when_true : {A : Type 0} (b : Bool) (x y : A) → b ≡ true → cond b x y ≡ x
 when_true true x y e = refl
 when_true false x y e = absurd cc
 

@@ -3,7 +3,7 @@ use Rattle.std.proofs.Common.{◌≡◌, ℕ, zero, suc, ◌<◌, ◌⊎◌, Boo
 use Rattle.std.proofs.lemmas.Bool.{eqb-true}
 use Rattle.std.proofs.lemmas.Bool.Decides.{nat_tests}
 use Rattle.std.specs.Prelude.{◌&&◌}
-use Rattle.ike_grammar.specs.declared.fault.Bad.{Bad}
+use Rattle.ike_values.specs.declared.fault.Bad.{Bad}
 use Rattle.ike_grammar.specs.Faults.{◌>>=◌, unless, Passes}
 
 -- the value of a step that did not fail

@@ -5,8 +5,8 @@ use Rattle.std.proofs.lemmas.Bool.{ltb-false, le-ltb}
 use Rattle.std.proofs.lemmas.List.{nil_from_length}
 use Rattle.ike_values.specs.Values.{PayloadValue, sk, other}
 use Rattle.ike_values.specs.Spelling.{type_of, SpellsBody, Front, GoesOn, Spells}
-use Rattle.ike_grammar.specs.declared.fault.Bad.{Bad}
-use Rattle.ike_grammar.specs.declared.fault.Reason.{Reason}
+use Rattle.ike_values.specs.declared.fault.Bad.{Bad}
+use Rattle.ike_values.specs.declared.fault.Reason.{Reason}
 use Rattle.ike_grammar.specs.OctetRange.{IsOctets}
 use Rattle.ike_grammar.specs.Kinds.{payload_kind, is_sk}
 use Rattle.ike_grammar.specs.Faults.{◌>>=◌}
@@ -51,7 +51,7 @@ chain_by_found (suc n) end inner (suc number) bytes xs fits l e =
 pub chain_found : (end : ℕ) (inner : Bool) (first : ℕ) (bytes : List ℕ) (xs : List PayloadValue) → IsOctets bytes → chain_at end inner first bytes ≡ Ok xs → Spells xs first inner bytes
 chain_found end inner first bytes xs fits e = chain_by_found (length bytes + 1) end inner first bytes xs fits (omega arith) e
 
-some_first : (x : PayloadValue) (body : List ℕ) → SpellsBody x body → 0 < type_of x
+pub some_first : (x : PayloadValue) (body : List ℕ) → SpellsBody x body → 0 < type_of x
 some_first (other x) body s = some_type x.kind s.1
 some_first item body s = omega arith
 

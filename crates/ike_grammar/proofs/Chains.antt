@@ -4,8 +4,8 @@ use Rattle.std.specs.Prelude.{slice_index, nat_lt}
 use Rattle.std.proofs.lemmas.Bool.{ltb-false, lt-ltb, le-ltb, or_parts}
 use Rattle.std.proofs.lemmas.List.{length-drop, append-nil}
 use Rattle.ike_values.specs.Values.{PayloadValue}
-use Rattle.ike_grammar.specs.declared.fault.Bad.{Bad}
-use Rattle.ike_grammar.specs.declared.fault.Reason.TheVariants.{Trailing}
+use Rattle.ike_values.specs.declared.fault.Bad.{Bad}
+use Rattle.ike_values.specs.declared.fault.Reason.TheVariants.{Trailing}
 use Rattle.ike_grammar.specs.declared.fault.Unread.{Unread}
 use Rattle.ike_grammar.specs.declared.fault.Unread.TheVariants as unread
 use Rattle.ike_grammar.specs.declared.kind.Kind.{Kind}

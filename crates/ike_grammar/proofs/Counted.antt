@@ -1,7 +1,7 @@
 -- This many items, as a loop reads them. Reading is a family over how many are left.
 use Rattle.std.proofs.Common.{◌≡◌, ℕ, suc, List, [], ◌∷◌, ◌++◌, Result, Ok, Err, refl, sym, ap, ◌∙◌, append_assoc}
 use Rattle.std.proofs.lemmas.List.{append-nil}
-use Rattle.ike_grammar.specs.declared.fault.Bad.{Bad}
+use Rattle.ike_values.specs.declared.fault.Bad.{Bad}
 use Rattle.ike_grammar.specs.declared.fault.Unread.{Unread}
 use Rattle.ike_grammar.specs.declared.fault.Unread.TheVariants as unread
 use Rattle.ike_grammar.specs.Faults.{◌>>=◌, Fails}

@@ -16,3 +16,10 @@ pub mod PayloadLaws
 pub mod ChainLaws
 pub mod MessageLaws
 pub mod Decoded
+pub mod Alike
+pub mod Faulty
+pub mod BodyFaults
+pub mod ListFaults
+pub mod PayloadFaults
+pub mod PlaceLaws
+pub mod MessageFaults

@@ -1,6 +1,6 @@
 -- Items one after another: what is read is spelled so and read again, by a law of one item.
 use Rattle.std.proofs.Common.{◌≡◌, ℕ, zero, suc, ◌≤◌, List, [], ◌∷◌, length, Result, Ok, ap, subst, ◌∙◌, arith}
-use Rattle.ike_grammar.specs.declared.fault.Bad.{Bad}
+use Rattle.ike_values.specs.declared.fault.Bad.{Bad}
 use Rattle.ike_grammar.specs.OctetRange.{IsOctets}
 use Rattle.ike_grammar.specs.Faults.{◌>>=◌, many_by, many}
 use Rattle.ike_grammar.proofs.Binds.{bind_ok, ok_is}

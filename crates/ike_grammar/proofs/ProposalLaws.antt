@@ -5,7 +5,7 @@ use Rattle.std.proofs.lemmas.Bool.{ltb-false}
 use Rattle.std.proofs.lemmas.List.{take-append-drop, take_at, drop_at, length-take}
 use Rattle.ike_values.specs.Values.{TransformValue, ProposalValue}
 use Rattle.ike_values.specs.Spelling.{is_last, ProposalParts, SpellsProposal, SpellsProposals}
-use Rattle.ike_grammar.specs.declared.fault.Bad.{Bad}
+use Rattle.ike_values.specs.declared.fault.Bad.{Bad}
 use Rattle.ike_grammar.specs.OctetRange.{IsOctets}
 use Rattle.ike_grammar.specs.Faults.{◌>>=◌, Passes, two_at, many}
 use Rattle.ike_grammar.specs.Proposals.{item_tests, within, behind_item, transforms_at, proposal_tests, left_tests, proposal_read, inside_at, proposal_made, proposal_at, proposals_tests, proposals_at}

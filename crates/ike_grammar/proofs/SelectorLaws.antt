@@ -6,7 +6,7 @@ use Rattle.std.proofs.lemmas.Bool.{ltb-false, le-ltb, eqb-true, not-false, not_f
 use Rattle.std.proofs.lemmas.List.{take-append-drop, take_at, drop_at, length-take, length-drop, nil_from_length, append-nil}
 use Rattle.ike_values.specs.Values.{SelectorValue}
 use Rattle.ike_values.specs.Spelling.{address_len, selector_spelling, FitsSelector, selectors_spelling, SpellsTraffic}
-use Rattle.ike_grammar.specs.declared.fault.Bad.{Bad}
+use Rattle.ike_values.specs.declared.fault.Bad.{Bad}
 use Rattle.ike_grammar.specs.OctetRange.{IsOctets}
 use Rattle.ike_grammar.specs.Faults.{◌>>=◌, two_at, so_many}
 use Rattle.ike_grammar.specs.Selectors.{selector_tests, selector_read, selector_at, traffic_tests, behind_tests, traffic_made, traffic_at}
@@ -31,7 +31,7 @@ unknown false false e = absurd cc
 same_ports : {a b c d e f g h c' d' e' f' g' h' : ℕ} {r r' : List ℕ} → c ≡ c' → d ≡ d' → e ≡ e' → f ≡ f' → g ≡ g' → h ≡ h' → r ≡ r' → a ∷ b ∷ c ∷ d ∷ e ∷ f ∷ g ∷ h ∷ r ≡ a ∷ b ∷ c' ∷ d' ∷ e' ∷ f' ∷ g' ∷ h' ∷ r'
 same_ports p q r s t u v = cc
 
-selector_takes : (end : ℕ) (bytes : List ℕ) (x : SelectorValue × List ℕ) → IsOctets bytes → selector_at end bytes ≡ Ok x → TakesSelector bytes x
+pub selector_takes : (end : ℕ) (bytes : List ℕ) (x : SelectorValue × List ℕ) → IsOctets bytes → selector_at end bytes ≡ Ok x → TakesSelector bytes x
 unfolding selector_at
 selector_takes end bytes x fits e =
     let u = unless_ok (selector_tests end bytes) (Ok (selector_read bytes)) x e in
@@ -59,7 +59,7 @@ selector_same : (kind protocol sp sp' ep ep' : ℕ) (s s' e e' r r' : List ℕ) 
     ≡ (let made : SelectorValue × List ℕ = (record { kind = kind; protocol = protocol; start_port = sp'; end_port = ep'; start = s'; end = e' }, r') in done made)
 selector_same kind protocol sp sp' ep ep' s s' e e' r r' a b c d f = rw (a, b, c, d, f) refl
 
-selector_again : (end : ℕ) (x : SelectorValue) (rest : List ℕ) → FitsSelector x → selector_at end (selector_spelling x ++ rest) ≡ Ok (x, rest)
+pub selector_again : (end : ℕ) (x : SelectorValue) (rest : List ℕ) → FitsSelector x → selector_at end (selector_spelling x ++ rest) ≡ Ok (x, rest)
 unfolding selector_at
 selector_again end x rest fits =
     let bytes : List ℕ = selector_spelling x ++ rest in

@@ -4,7 +4,7 @@ use Rattle.std.specs.Prelude.{slice_index, ◌==◌}
 use Rattle.std.proofs.lemmas.List.{nil_from_length}
 use Rattle.ike_values.specs.Values.{AttributeValue, TransformValue}
 use Rattle.ike_values.specs.Spelling.{two, is_last, last_mark, attributes_spelling, TransformParts, SpellsTransform, SpellsTransforms}
-use Rattle.ike_grammar.specs.declared.fault.Bad.{Bad}
+use Rattle.ike_values.specs.declared.fault.Bad.{Bad}
 use Rattle.ike_grammar.specs.OctetRange.{IsOctets}
 use Rattle.ike_grammar.specs.Faults.{◌>>=◌, two_at, many}
 use Rattle.ike_grammar.specs.Proposals.{attribute_at, item_tests, within, behind_item, transform_read, transform_at, transforms_at}

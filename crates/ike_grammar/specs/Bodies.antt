@@ -2,8 +2,8 @@
 use Rattle.std.specs.Prelude.{ℕ, ◌+◌, ◌-◌, ◌*◌, ◌==◌, nat_lt, not, ◌||◌, List, [], ◌∷◌, length, slice_index, take, drop, Bool, Result, Ok}
 use Rattle.std.specs.Int.{w64, from_be_bytes}
 use Rattle.ike_values.specs.Values.{IdValue, AuthValue, NotifyValue, DeleteValue, SkValue}
-use Rattle.ike_grammar.specs.declared.fault.Bad.{Bad}
-use Rattle.ike_grammar.specs.declared.fault.Reason.TheVariants.{Short, Length}
+use Rattle.ike_values.specs.declared.fault.Bad.{Bad}
+use Rattle.ike_values.specs.declared.fault.Reason.TheVariants.{Short, Length}
 use Rattle.ike_grammar.specs.Faults.{refuse, unless, two_at}
 
 -- a number, three reserved octets and content

@@ -2,9 +2,9 @@
 use Rattle.std.specs.Prelude.{◌≡◌, ℕ, zero, suc, ◌+◌, ◌-◌, Bool, ◌||◌, ◌&&◌, nat_lt, nat_le, List, [], ◌∷◌, length, slice_index, take, drop, Result, Ok, Err}
 use Rattle.ike_values.specs.Values.{PayloadValue}
 use Rattle.ike_values.specs.Values as values
-use Rattle.ike_grammar.specs.declared.fault.Bad.{Bad}
-use Rattle.ike_grammar.specs.declared.fault.Reason.{Reason}
-use Rattle.ike_grammar.specs.declared.fault.Reason.TheVariants.{Short, Length, Field, Trailing, UnknownCritical, SkNotLast}
+use Rattle.ike_values.specs.declared.fault.Bad.{Bad}
+use Rattle.ike_values.specs.declared.fault.Reason.{Reason}
+use Rattle.ike_values.specs.declared.fault.Reason.TheVariants.{Short, Length, Field, Trailing, UnknownCritical, SkNotLast}
 use Rattle.ike_grammar.specs.declared.kind.Kind.{Kind}
 use Rattle.ike_grammar.specs.declared.kind.Kind.TheVariants.{Sa, Ke, IdI, IdR, Cert, CertReq, Auth, Nonce, Notify, Delete, Vendor, TsI, TsR, Sk, Cp, Eap, Other}
 use Rattle.ike_grammar.specs.Kinds.{payload_kind, is_sk, is_other}

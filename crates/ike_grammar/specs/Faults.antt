@@ -1,8 +1,8 @@
 -- Tests in order, each with the place and the reason of its refusal, and reading that ends at the
 -- first one that is met.
 use Rattle.std.specs.Prelude.{◌≡◌, ℕ, zero, suc, ◌+◌, ◌*◌, Bool, false, List, [], ◌∷◌, length, slice_index, Result, Ok, Err, if◌then◌else◌}
-use Rattle.ike_grammar.specs.declared.fault.Reason.{Reason}
-use Rattle.ike_grammar.specs.declared.fault.Bad.{Bad}
+use Rattle.ike_values.specs.declared.fault.Reason.{Reason}
+use Rattle.ike_values.specs.declared.fault.Bad.{Bad}
 use Rattle.ike_grammar.specs.declared.fault.Unread.{Unread}
 use Rattle.ike_grammar.specs.declared.fault.Unread.TheVariants as unread
 

@@ -4,9 +4,9 @@ use Rattle.std.specs.Int.{w32, w64, from_be_bytes}
 use Rattle.ike_values.specs.declared.header.Header.{Header}
 use Rattle.ike_values.specs.declared.header.Message.{Message}
 use Rattle.ike_values.specs.Headers.{has_flag}
-use Rattle.ike_grammar.specs.declared.fault.Bad.{Bad}
-use Rattle.ike_grammar.specs.declared.fault.Reason.{Reason}
-use Rattle.ike_grammar.specs.declared.fault.Reason.TheVariants.{Short, Length, Version}
+use Rattle.ike_values.specs.declared.fault.Bad.{Bad}
+use Rattle.ike_values.specs.declared.fault.Reason.{Reason}
+use Rattle.ike_values.specs.declared.fault.Reason.TheVariants.{Short, Length, Version}
 use Rattle.ike_grammar.specs.Faults.{◌>>=◌, refuse, unless}
 use Rattle.ike_grammar.specs.Chain.{chain_at}
 

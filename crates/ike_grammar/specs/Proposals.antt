@@ -2,8 +2,8 @@
 use Rattle.std.specs.Prelude.{ℕ, zero, suc, ◌+◌, ◌-◌, Bool, ◌||◌, ◌&&◌, ◌==◌, nat_lt, not, if◌then◌else◌, List, [], ◌∷◌, length, slice_index, take, drop, Result, Ok}
 use Rattle.ike_values.specs.Values.{AttributeValue, fixed, free, TransformValue, ProposalValue}
 use Rattle.ike_values.specs.Spelling.{last_mark}
-use Rattle.ike_grammar.specs.declared.fault.Bad.{Bad}
-use Rattle.ike_grammar.specs.declared.fault.Reason.TheVariants.{Short, Length, Field, Trailing}
+use Rattle.ike_values.specs.declared.fault.Bad.{Bad}
+use Rattle.ike_values.specs.declared.fault.Reason.TheVariants.{Short, Length, Field, Trailing}
 use Rattle.ike_grammar.specs.Faults.{◌>>=◌, refuse, unless, two_at, many}
 
 -- ---- attributes: type and value, or type, length and value; the first bit tells which

@@ -2,8 +2,8 @@
 use Rattle.std.specs.Prelude.{ℕ, ◌+◌, ◌-◌, ◌*◌, Bool, ◌&&◌, ◌==◌, nat_lt, not, List, [], ◌∷◌, length, slice_index, take, drop, Result, Ok}
 use Rattle.ike_values.specs.Values.{SelectorValue}
 use Rattle.ike_values.specs.Spelling.{address_len}
-use Rattle.ike_grammar.specs.declared.fault.Bad.{Bad}
-use Rattle.ike_grammar.specs.declared.fault.Reason.TheVariants.{Short, Length, Field, Trailing}
+use Rattle.ike_values.specs.declared.fault.Bad.{Bad}
+use Rattle.ike_values.specs.declared.fault.Reason.TheVariants.{Short, Length, Field, Trailing}
 use Rattle.ike_grammar.specs.Faults.{◌>>=◌, refuse, unless, two_at, so_many}
 
 -- type, IP protocol, length, start port, end port, start address, end address

@@ -5,10 +5,10 @@ ghost use Rattle.ike_values.specs.PayloadView.{id_value, auth_value, notify_valu
 ghost use Rattle.ike_grammar.specs.Faults.{Gives};
 ghost use Rattle.ike_grammar.specs.Bodies.{id_at, auth_at, nonce_at, notify_at, delete_at, sk_at};
 
-use crate::fault::{Reason, Unread, bad_at};
+use crate::fault::{Unread, bad_at};
 use crate::octets::{octets_of, place, two};
 use ha_base::{Octets, read_u64};
-use ike_values::{AuthBody, DeleteBody, IdBody, NotifyBody, SkBody};
+use ike_values::{AuthBody, DeleteBody, IdBody, NotifyBody, Reason, SkBody};
 use std::alloc::Global;
 
 #[tactic(auto, unfolding(crate::specs::Bodies::id_at))]

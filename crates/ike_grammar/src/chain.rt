@@ -6,12 +6,12 @@ ghost use Rattle.ike_grammar.specs.Faults.{Gives};
 ghost use Rattle.ike_grammar.specs.Chain.{body_at, leads_to, payload_at, chain_at};
 
 use crate::bodies::{auth_of, delete_of, id_of, nonce_of, notify_of, sk_of};
-use crate::fault::{Reason, Unread, bad_at};
+use crate::fault::{Unread, bad_at};
 use crate::kind::{Kind, is_other, is_sk, kind_of};
 use crate::octets::{octets_of, place, two};
 use crate::proposals::proposals_of;
 use crate::selectors::traffic_of;
-use ike_values::{OtherBody, Payload, Payloads};
+use ike_values::{OtherBody, Payload, Payloads, Reason};
 use std::alloc::Global;
 
 #[tactic(auto, unfolding(crate::specs::Chain::chain_by))]

@@ -9,9 +9,9 @@ ghost use Rattle.ike_grammar.specs.Chain.{chain_at, Refused};
 ghost use Rattle.ike_grammar.specs.Messages.{header_at, message_at, MessageRefused};
 
 use crate::chain::chain_of;
-use crate::fault::{Bad, Unread};
+use crate::fault::Unread;
 use crate::messages::{header_of, message_of};
-use ike_values::{Header, Message, Payloads};
+use ike_values::{Bad, Header, Message, Payloads};
 use std::alloc::Global;
 
 /// The header of a message, all of whose octets these are (RFC 7296, section 3.1). An error is the

@@ -16,9 +16,10 @@ mod selectors;
 
 pub use decode::{decode_chain, decode_header, decode_message};
 pub use encode::encode_message;
-pub use fault::{Bad, Reason, Unread};
+pub use fault::Unread;
 pub use ike_encoding::{encode_body, encode_chain, fits_message};
-pub use laws::{one_message, one_reading};
+pub use ike_values::{Bad, Reason};
+pub use laws::{first_fault, first_fault_of_message, one_message, one_reading};
 
 #[cfg(test)]
 mod tests;

@@ -6,9 +6,9 @@ ghost use Rattle.ike_grammar.specs.Faults.{Gives};
 ghost use Rattle.ike_grammar.specs.Messages.{header_at, message_at};
 
 use crate::chain::chain_of;
-use crate::fault::{Bad, Reason, Unread};
+use crate::fault::Unread;
 use ha_base::{read_u32, read_u64};
-use ike_values::{HEADER_OCTETS, Header, INITIATOR, Message, RESPONSE};
+use ike_values::{Bad, HEADER_OCTETS, Header, INITIATOR, Message, RESPONSE, Reason};
 use std::alloc::Global;
 
 #[tactic(auto, unfolding(crate::specs::Messages::header_at))]

@@ -8,10 +8,10 @@ ghost use Rattle.ike_grammar.specs.Faults.{Gives, many, two_at, unless};
 ghost use Rattle.ike_grammar.specs.declared.proposals.TheConstants.{FIXED};
 ghost use Rattle.ike_grammar.specs.Proposals.{attribute_at, fixed_read, free_read, free_tests, transform_at, transforms_at, proposal_at, proposals_at};
 
-use crate::fault::{Reason, Unread, bad_at};
+use crate::fault::{Unread, bad_at};
 use crate::octets::{octets_of, place, two};
 use ike_encoding::last_mark;
-use ike_values::{Attribute, Attributes, Proposal, Proposals, Transform, Transforms};
+use ike_values::{Attribute, Attributes, Proposal, Proposals, Reason, Transform, Transforms};
 use std::alloc::Global;
 
 /// The first bit of an attribute: its value has two octets.

@@ -6,10 +6,10 @@ ghost use Rattle.ike_values.specs.Spelling.{address_len};
 ghost use Rattle.ike_grammar.specs.Faults.{Gives, so_many};
 ghost use Rattle.ike_grammar.specs.Selectors.{selector_at, traffic_at};
 
-use crate::fault::{Reason, Unread, bad_at};
+use crate::fault::{Unread, bad_at};
 use crate::octets::{place, two};
 use ha_base::OctetList;
-use ike_values::{IPV4_RANGE, IPV6_RANGE, Selector, Selectors};
+use ike_values::{IPV4_RANGE, IPV6_RANGE, Reason, Selector, Selectors};
 use std::alloc::Global;
 
 #[tactic(auto, unfolding(crate::specs::Selectors::traffic_at))]

@@ -38,6 +38,12 @@ attributes_spelling (x ∷ xs) = attribute_spelling x ++ attributes_spelling xs
 
 -- ---- transforms (section 3.3.2): 0 or 3, reserved, length, type, reserved, ID, attributes
 
+-- the octets of a transform, the free ones given
+abbrev pub transform_spelling : TransformValue → Bool → ℕ → ℕ → List ℕ
+transform_spelling x last reserved reserved_behind = last_mark 3 last ∷ reserved
+    ∷ two (8 + length (attributes_spelling x.attributes))
+    ++ (x.kind ∷ reserved_behind ∷ two x.id) ++ attributes_spelling x.attributes
+
 -- what is free in a transform, and what stands behind it
 pub record TransformParts : Type 0 where
   pub reserved : ℕ
@@ -46,9 +52,7 @@ pub record TransformParts : Type 0 where
 
 pub record SpellsTransform (x : TransformValue) (last : Bool) (bytes : List ℕ)
     (p : TransformParts) : Type 0 where
-  pub bytes_are : bytes ≡ last_mark 3 last ∷ p.reserved
-      ∷ two (8 + length (attributes_spelling x.attributes))
-      ++ (x.kind ∷ p.reserved_behind ∷ two x.id) ++ attributes_spelling x.attributes ++ p.rest
+  pub bytes_are : bytes ≡ transform_spelling x last p.reserved p.reserved_behind ++ p.rest
   pub length_fits : 8 + length (attributes_spelling x.attributes) < LENGTH_END
   pub attributes : AllByRecursion FitsAttribute x.attributes
 
@@ -60,6 +64,12 @@ SpellsTransforms (x ∷ xs) bytes = (p : TransformParts) × SpellsTransform x (i
 -- ---- proposals (section 3.3.1): 0 or 2, reserved, length, number, protocol, SPI size, number of
 -- transforms, SPI, transforms
 
+-- the octets of a proposal, the free one and those of its transforms given
+abbrev pub proposal_spelling : ProposalValue → Bool → ℕ → List ℕ → List ℕ
+proposal_spelling x last reserved inside = last_mark 2 last ∷ reserved
+    ∷ two (8 + length (x.spi ++ inside))
+    ++ (x.number ∷ x.protocol ∷ length x.spi ∷ length x.transforms ∷ []) ++ (x.spi ++ inside)
+
 -- what is free in a proposal, the octets of its transforms, and what stands behind it
 pub record ProposalParts : Type 0 where
   pub reserved : ℕ
@@ -68,9 +78,7 @@ pub record ProposalParts : Type 0 where
 
 pub record SpellsProposal (x : ProposalValue) (last : Bool) (bytes : List ℕ)
     (p : ProposalParts) : Type 0 where
-  pub bytes_are : bytes ≡ last_mark 2 last ∷ p.reserved ∷ two (8 + length (x.spi ++ p.inside))
-      ++ (x.number ∷ x.protocol ∷ length x.spi ∷ length x.transforms ∷ []) ++ (x.spi ++ p.inside)
-      ++ p.rest
+  pub bytes_are : bytes ≡ proposal_spelling x last p.reserved p.inside ++ p.rest
   pub length_fits : 8 + length (x.spi ++ p.inside) < LENGTH_END
   pub spi_fits : length x.spi < 256
   pub count_fits : length x.transforms < 256
@@ -100,20 +108,23 @@ abbrev pub selectors_spelling : List SelectorValue → List ℕ
 selectors_spelling [] = []
 selectors_spelling (x ∷ xs) = selector_spelling x ++ selectors_spelling xs
 
+-- a number, three reserved octets and content
+abbrev pub numbered_spelling : ℕ → ℕ × ℕ × ℕ → List ℕ → List ℕ
+numbered_spelling number reserved content = number ∷ reserved.0 ∷ reserved.1 ∷ reserved.2 ∷ content
+
 -- number of selectors, three reserved octets, selectors
 pub record SpellsTraffic (xs : List SelectorValue) (body : List ℕ)
     (reserved : ℕ × ℕ × ℕ) : Type 0 where
-  pub bytes_are : body ≡ length xs ∷ reserved.0 ∷ reserved.1 ∷ reserved.2 ∷ selectors_spelling xs
+  pub bytes_are : body ≡ numbered_spelling (length xs) reserved (selectors_spelling xs)
   pub some : 0 < length xs
   pub count_fits : length xs < 256
   pub selectors : AllByRecursion FitsSelector xs
 
 -- ---- bodies without an inner list
 
--- a number, three reserved octets and content: an identity (section 3.5) or authentication data
--- (section 3.8)
+-- an identity (section 3.5) or authentication data (section 3.8)
 pub record SpellsNumbered (number : ℕ) (content body : List ℕ) (reserved : ℕ × ℕ × ℕ) : Type 0 where
-  pub bytes_are : body ≡ number ∷ reserved.0 ∷ reserved.1 ∷ reserved.2 ∷ content
+  pub bytes_are : body ≡ numbered_spelling number reserved content
 
 -- section 3.9
 pub record SpellsNonce (octets body : List ℕ) : Type 0 where
@@ -122,19 +133,28 @@ pub record SpellsNonce (octets body : List ℕ) : Type 0 where
   pub short : length octets ≤ 256
 
 -- section 3.10: protocol, SPI size, type, SPI, data
+abbrev pub notify_spelling : NotifyValue → List ℕ
+notify_spelling x = x.protocol ∷ length x.spi ∷ two x.kind ++ x.spi ++ x.content
+
 pub record SpellsNotify (x : NotifyValue) (body : List ℕ) : Type 0 where
-  pub bytes_are : body ≡ x.protocol ∷ length x.spi ∷ two x.kind ++ x.spi ++ x.content
+  pub bytes_are : body ≡ notify_spelling x
   pub spi_fits : length x.spi < 256
 
 -- section 3.11: protocol, SPI size, number of SPIs, SPIs
+abbrev pub delete_spelling : DeleteValue → List ℕ
+delete_spelling x = x.protocol ∷ x.size ∷ two x.number ++ x.spis
+
 pub record SpellsDelete (x : DeleteValue) (body : List ℕ) : Type 0 where
-  pub bytes_are : body ≡ x.protocol ∷ x.size ∷ two x.number ++ x.spis
+  pub bytes_are : body ≡ delete_spelling x
   pub spis_fit : length x.spis ≡ x.size * x.number
 
 -- section 3.14 and RFC 5282: IV, ciphertext, integrity check value. With no padding the ciphertext
 -- still has the pad length, so it is not empty.
+abbrev pub sk_spelling : SkValue → List ℕ
+sk_spelling x = to_be_bytes w64 x.iv ++ x.ciphertext ++ x.icv
+
 pub record SpellsSk (x : SkValue) (body : List ℕ) : Type 0 where
-  pub bytes_are : body ≡ to_be_bytes w64 x.iv ++ x.ciphertext ++ x.icv
+  pub bytes_are : body ≡ sk_spelling x
   pub iv_fits : x.iv < 2 ^ 64
   pub some : 0 < length x.ciphertext
   pub icv_len : length x.icv ≡ 16
@@ -189,6 +209,10 @@ abbrev pub MayHave : PayloadValue → ℕ → Type 0
 MayHave (other x) flags = flags < 128
 MayHave item flags = flags < 256
 
+-- the octets of a payload, those of its body given
+abbrev pub payload_spelling : ℕ → ℕ → List ℕ → List ℕ
+payload_spelling next flags body = next ∷ flags ∷ two (4 + length body) ++ body
+
 -- what a payload's spelling is made of, and what stands behind it
 pub record Front : Type 0 where
   pub next : ℕ
@@ -198,7 +222,7 @@ pub record Front : Type 0 where
 
 pub record SpellsFront (item : PayloadValue) (first : ℕ) (bytes : List ℕ) (f : Front) : Type 0 where
   pub first_is : first ≡ type_of item
-  pub bytes_are : bytes ≡ f.next ∷ f.flags ∷ two (4 + length f.body) ++ f.body ++ f.rest
+  pub bytes_are : bytes ≡ payload_spelling f.next f.flags f.body ++ f.rest
   pub length_fits : 4 + length f.body < LENGTH_END
   pub flags_fit : MayHave item f.flags
   pub body_is : SpellsBody item f.body

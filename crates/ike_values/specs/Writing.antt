@@ -1,15 +1,12 @@
 -- The spelling with reserved bits 0, and the values that have one.
 use Rattle.std.specs.Prelude.{◌≡◌, ℕ, ◌+◌, ◌*◌, ◌<◌, ◌≤◌, ◌^◌, Bool, false, IsTrue, List, [], ◌∷◌, ◌++◌, length}
 use Rattle.std.specs.List.{AllByRecursion}
-use Rattle.std.specs.Int.{w64, to_be_bytes}
 use Rattle.ike_values.specs.declared.lengths.TheConstants.{LENGTH_END}
 use Rattle.ike_values.specs.Values.{TransformValue, ProposalValue, SelectorValue, SkValue, PayloadValue, sa, ke, idi, idr, cert, certreq, auth, nonce, notify, delete, vendor, tsi, tsr, sk, cp, eap, other}
-use Rattle.ike_values.specs.Spelling.{two, is_last, last_mark, attributes_spelling, FitsAttribute, selectors_spelling, FitsSelector, is_unknown, type_of}
+use Rattle.ike_values.specs.Spelling.{is_last, attributes_spelling, FitsAttribute, transform_spelling, proposal_spelling, selectors_spelling, FitsSelector, numbered_spelling, notify_spelling, delete_spelling, sk_spelling, is_unknown, type_of, payload_spelling}
 
 abbrev pub transform_written : TransformValue → Bool → List ℕ
-transform_written x last = last_mark 3 last ∷ 0 ∷ two
-    (8 + length (attributes_spelling x.attributes)) ++ (x.kind ∷ 0 ∷ two x.id)
-    ++ attributes_spelling x.attributes
+transform_written x last = transform_spelling x last 0 0
 
 abbrev pub transforms_written : List TransformValue → List ℕ
 transforms_written [] = []
@@ -20,10 +17,7 @@ pub record FitsTransform (x : TransformValue) : Type 0 where
   pub length_fits : 8 + length (attributes_spelling x.attributes) < LENGTH_END
 
 abbrev pub proposal_written : ProposalValue → Bool → List ℕ
-proposal_written x last = last_mark 2 last ∷ 0 ∷ two
-    (8 + length (x.spi ++ transforms_written x.transforms))
-    ++ (x.number ∷ x.protocol ∷ length x.spi ∷ length x.transforms ∷ [])
-    ++ (x.spi ++ transforms_written x.transforms)
+proposal_written x last = proposal_spelling x last 0 (transforms_written x.transforms)
 
 abbrev pub proposals_written : List ProposalValue → List ℕ
 proposals_written [] = []
@@ -36,7 +30,7 @@ pub record FitsProposal (x : ProposalValue) : Type 0 where
   pub length_fits : 8 + (length x.spi + length (transforms_written x.transforms)) < LENGTH_END
 
 abbrev pub numbered_written : ℕ → List ℕ → List ℕ
-numbered_written number content = number ∷ 0 ∷ 0 ∷ 0 ∷ content
+numbered_written number content = numbered_spelling number (0, 0, 0) content
 
 abbrev pub body_written : PayloadValue → List ℕ
 body_written (sa x) = proposals_written x
@@ -47,12 +41,12 @@ body_written (cert x) = x
 body_written (certreq x) = x
 body_written (auth x) = numbered_written x.method x.content
 body_written (nonce x) = x
-body_written (notify x) = x.protocol ∷ length x.spi ∷ two x.kind ++ x.spi ++ x.content
-body_written (delete x) = x.protocol ∷ x.size ∷ two x.number ++ x.spis
+body_written (notify x) = notify_spelling x
+body_written (delete x) = delete_spelling x
 body_written (vendor x) = x
 body_written (tsi x) = numbered_written (length x) (selectors_spelling x)
 body_written (tsr x) = numbered_written (length x) (selectors_spelling x)
-body_written (sk x) = to_be_bytes w64 x.iv ++ x.ciphertext ++ x.icv
+body_written (sk x) = sk_spelling x
 body_written (cp x) = x
 body_written (eap x) = x
 body_written (other x) = x.body
@@ -93,8 +87,8 @@ next_type_of item items = first_type_of items
 
 abbrev pub chain_written : List PayloadValue → List ℕ
 chain_written [] = []
-chain_written (item ∷ items) = next_type_of item items ∷ 0 ∷ two (4 + length (body_written item))
-    ++ body_written item ++ chain_written items
+chain_written (item ∷ items) = payload_spelling (next_type_of item items) 0 (body_written item)
+    ++ chain_written items
 
 -- whether SK may stand here, in an inner chain or not, before these payloads
 abbrev pub MayStand : PayloadValue → Bool → List PayloadValue → Type 0

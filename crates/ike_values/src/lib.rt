@@ -3,6 +3,7 @@
 #![tactic(auto)]
 
 mod attribute;
+mod fault;
 mod header;
 mod lengths;
 mod notifications;
@@ -15,6 +16,7 @@ mod transform;
 mod validity;
 
 pub use attribute::{Attribute, Attributes};
+pub use fault::{Bad, Reason};
 pub use ha_base::{GatewayId, Identity};
 pub use header::{HEADER_OCTETS, Header, INITIATOR, Message, RESPONSE, VERSION};
 pub use lengths::{LENGTH_END, attributes_len, body_len, proposal_len};

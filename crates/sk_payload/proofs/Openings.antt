@@ -7,8 +7,8 @@ use Rattle.ike_values.specs.Values.{SkValue, PayloadValue, sk}
 use Rattle.ike_values.specs.Spelling.{Spells}
 use Rattle.ike_values.specs.Headers.{IsMessage}
 use Rattle.ike_values.specs.Writing.{first_type_of, chain_written}
-use Rattle.ike_grammar.specs.declared.fault.Bad.{Bad as Fault}
-use Rattle.ike_grammar.specs.declared.fault.Reason.{Reason}
+use Rattle.ike_values.specs.declared.fault.Bad.{Bad as Fault}
+use Rattle.ike_values.specs.declared.fault.Reason.{Reason}
 use Rattle.ike_grammar.specs.Chain.{Refused}
 use Rattle.ike_grammar.specs.Messages.{MessageRefused}
 use Rattle.sk_payload.specs.declared.open.Opened.{Opened}

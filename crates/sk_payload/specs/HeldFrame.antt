@@ -4,7 +4,7 @@ use Rattle.ha_base.specs.declared.limits.TheConstants.{DATAGRAM_OCTETS}
 use Rattle.ike_values.specs.Values.{PayloadValue}
 use Rattle.ike_values.specs.Spelling.{two, type_of}
 use Rattle.ike_values.specs.Writing.{body_written, AreValid}
-use Rattle.ike_grammar.specs.declared.fault.Bad.{Bad}
+use Rattle.ike_values.specs.declared.fault.Bad.{Bad}
 use Rattle.ike_grammar.specs.Chain.{chain_at}
 use Rattle.sk_payload.specs.Framed.{Framed}
 use Rattle.sk_payload.specs.declared.front.TheConstants.{CHECK_VALUE}

@@ -8,8 +8,8 @@ use Rattle.ike_values.specs.Spelling.{Spells}
 use Rattle.ike_values.specs.Headers.{IsMessage}
 use Rattle.ike_values.specs.Writing.{first_type_of, chain_written}
 use Rattle.ike_encoding.specs.Messages.{message_written}
-use Rattle.ike_grammar.specs.declared.fault.Bad.{Bad}
-use Rattle.ike_grammar.specs.declared.fault.Reason.TheVariants.{Length}
+use Rattle.ike_values.specs.declared.fault.Bad.{Bad}
+use Rattle.ike_values.specs.declared.fault.Reason.TheVariants.{Length}
 use Rattle.ike_grammar.specs.Chain.{Refused}
 
 -- the message whose only payload is SK
