@@ -1,15 +1,17 @@
 -- What an end keeps of the requests that it answered, as it is kept.
 use Rattle.std.proofs.Common.{◌≡◌, ℕ, ◌+◌, ◌-◌, ◌^◌, ◌<◌, ◌≤◌, ◌⊎◌, inl, inr, ⊎_elim, Bool, true, false, nat_le, max, ◌==◌, ◌&&◌, ◌||◌, List, filter, refl, sym, ap, ◌∙◌, arith}
-use Rattle.std.proofs.lemmas.Bool.{cases_lt, eqb-true}
+use Rattle.std.proofs.lemmas.Bool.{cases_lt}
 use Rattle.std.proofs.lemmas.Bool.Decides.{nat_tests}
 use Rattle.std.specs.List.{Contains}
-use Rattle.ike_window.specs.Kept.{AllBelow, KeptMessage, message_ids_of, has_message_id, with_kept}
+use Rattle.ike_window.specs.Kept.{AllBelow, KeptMessage, RiseFrom, message_ids_of, has_message_id, with_kept}
 use Rattle.ike_window.specs.Requests.{IsLeastFree, IsNewRequest, IsRepeat}
 use Rattle.ike_window.specs.Slots.{SlidingRing}
-use Rattle.ike_window.specs.Windows.{IsAnswered, IsWindow, Jumps, ResponseWindow, Stores, is_repeatable}
-use Rattle.ike_window.proofs.Lows.{among_from, from_among}
-use Rattle.ike_window.proofs.Orders.{among_inserted}
-use Rattle.ike_window.proofs.Rising.{among_where, below_filtered, below_higher, below_inserted, none_among}
+use Rattle.ike_window.specs.Stored.{least_free, with_response}
+use Rattle.ike_window.specs.Windows.{IsAnswered, IsWindow, Jumps, ResponseWindow, is_repeatable}
+use Rattle.ike_window.proofs.Lows.{among_from, from_among, one_least_free}
+use Rattle.ike_window.proofs.Orders.{NotFalling, all_other, among_inserted, inserted_not_falling}
+use Rattle.ike_window.proofs.Rising.{among_where, below_filtered, below_higher, below_inserted, none_among, rise_filtered, rise_inserted}
+use Rattle.ike_window.proofs.Stored.{least_free_is, rising_not_falling}
 
 abbrev pub seen : ℕ → ℕ → SlidingRing → ResponseWindow
 seen floor low ring = record { floor = floor; low = low; responses = ring.kept }
@@ -46,12 +48,13 @@ passed : (floor low id : ℕ) (b : Bool) → floor ≤ id → low ≤ id + 8 →
 passed floor low id b from near is = grind (arith, nat_tests)
 
 -- what is left after responses were dropped
-pub settled : (floor from low : ℕ) (kept : List KeptMessage) (ring : SlidingRing) → floor ≤ from → AllBelow (from + 8) kept → AllBelow (2 ^ 32 - 1) kept →
+pub settled : (floor from low : ℕ) (kept : List KeptMessage) (ring : SlidingRing) → floor ≤ from → RiseFrom 0 kept → AllBelow (from + 8) kept → AllBelow (2 ^ 32 - 1) kept →
     ((id : ℕ) → floor ≤ id → id < from → from ≤ id + 8 → has_message_id (message_ids_of kept) id ≡ true) →
     IsLeastFree from (Contains (message_ids_of kept)) low → ring.first ≡ max floor (low - 8) → ring.kept ≡ filter (is_repeatable floor low) kept →
     IsWindow floor low ring
-settled floor from low kept ring up below end whole least first is = record {
+settled floor from low kept ring up rising below end whole least first is = record {
   ordered = let above = least.from in omega arith;
+  rising = rw is (rise_filtered (is_repeatable floor low) 0 kept rising);
   room_below = let above = least.from in omega arith;
   room_above = omega arith;
   from = λ id among. (left id among).0;
@@ -84,6 +87,7 @@ module _ (floor low new_low : ℕ) (old ring : SlidingRing) (message : KeptMessa
   pub stored_window : IsNewRequest low (IsAnswered (seen floor low old)) message.id → ring.first ≡ max floor (new_low - 8) → IsWindow floor new_low ring
   stored_window new first =
       settled floor low new_low (with_kept message old.kept) ring is.ordered
+      (rise_inserted 0 message old.kept (omega arith) is.rising (all_other (message_ids_of old.kept) message.id (new_not_among floor low old message.id new)))
       (below_inserted (low + 8) message old.kept new.within is.below) (below_inserted (2 ^ 32 - 1) message old.kept new.below_the_end is.below_the_end)
       (λ id above under near. among_inserted message old.kept id
       ∙ either (message.id == id) (has_message_id (message_ids_of old.kept) id) (among_from (message_ids_of old.kept) id (is.whole id above under near)))
@@ -93,35 +97,17 @@ module _ (floor low new_low : ℕ) (old ring : SlidingRing) (message : KeptMessa
       either true b so = refl
       either false b so = so
 
-  pub stores_of : Stores message (seen floor low old) (seen floor new_low ring)
-  stores_of = record {
-    floor = refl;
-    low = record {
-      from = let a = is.ordered in let b = least.from in omega arith;
-      taken = λ m above under. ⊎_elim (λ less. inr (inl (above, less))) (λ more. split m (among_from (message_ids_of all) m (least.taken m more under)))
-          (cases_lt m low);
-      free = λ either. least.free (from_among (message_ids_of all) new_low (among_inserted message old.kept new_low ∙ joined either));
-    };
-    responses = kept;
-  }
+  pub stored_as : seen floor new_low ring ≡ with_response message (seen floor low old)
+  stored_as = λ i. record { floor = floor; low = lows i; responses = (kept ∙ ap (λ n. filter (is_repeatable floor n) all) lows) i }
     where
       all : List KeptMessage
       all = with_kept message old.kept
 
-      split : (m : ℕ) → has_message_id (message_ids_of all) m ≡ true → (m ≡ message.id) ⊎ IsAnswered (seen floor low old) m
-      split m among = go (message.id == m) refl (sym (among_inserted message old.kept m) ∙ among)
-        where
-          go : (b : Bool) → (message.id == m) ≡ b → (b || has_message_id (message_ids_of old.kept) m) ≡ true →
-              (m ≡ message.id) ⊎ IsAnswered (seen floor low old) m
-          go true same so = inl (sym (eqb-true message.id m same))
-          go false other so = inr (inr (from_among (message_ids_of old.kept) m so))
+      falls : NotFalling 0 all
+      falls = inserted_not_falling message 0 old.kept (omega arith) (rising_not_falling 0 old.kept is.rising)
 
-      joined : (new_low ≡ message.id) ⊎ IsAnswered (seen floor low old) new_low →
-          ((message.id == new_low) || has_message_id (message_ids_of old.kept) new_low) ≡ true
-      joined (inl same) = grind (arith, nat_tests)
-      joined (inr (inl below)) = let up = least.from in absurd (omega (arith, below.1))
-      joined (inr (inr among)) = let there : has_message_id (message_ids_of old.kept) new_low ≡ true = among_from (message_ids_of old.kept) new_low among in
-          grind (arith, nat_tests)
+      lows : new_low ≡ least_free low all
+      lows = one_least_free low new_low (least_free low all) (Contains (message_ids_of all)) least (least_free_is low 0 all falls)
 
 -- what a jump leaves
 module _ (floor low to new_low : ℕ) (old ring : SlidingRing) (is : IsWindow floor low old)
@@ -129,7 +115,7 @@ module _ (floor low to new_low : ℕ) (old ring : SlidingRing) (is : IsWindow fl
     (kept : ring.kept ≡ filter (is_repeatable (max floor to) new_low) old.kept) where
   pub jumped_window : ring.first ≡ max (max floor to) (new_low - 8) → IsWindow (max floor to) new_low ring
   jumped_window first =
-      settled (max floor to) (max low to) new_low old.kept ring (let a = is.ordered in omega arith)
+      settled (max floor to) (max low to) new_low old.kept ring (let a = is.ordered in omega arith) is.rising
       (below_higher (low + 8) (max low to + 8) old.kept (omega arith) is.below) is.below_the_end
       (λ id above under near. among_from (message_ids_of old.kept) id (is.whole id (omega arith) (omega arith) (omega arith)))
       least first kept

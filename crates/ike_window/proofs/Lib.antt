@@ -5,4 +5,5 @@ pub mod Putting
 pub mod Rings
 pub mod Rising
 pub mod Slots
+pub mod Stored
 pub mod Windows

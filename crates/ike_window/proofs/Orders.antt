@@ -110,11 +110,11 @@ abbrev pub NotFalling : ℕ → List KeptMessage → Type 0
 NotFalling least [] = ⊤
 NotFalling least (message ∷ rest) = (least ≤ message.id) × NotFalling message.id rest
 
-lower_not_falling : (least from : ℕ) (kept : List KeptMessage) → least ≤ from → NotFalling from kept → NotFalling least kept
+pub lower_not_falling : (least from : ℕ) (kept : List KeptMessage) → least ≤ from → NotFalling from kept → NotFalling least kept
 lower_not_falling least from [] lower falls = tt
 lower_not_falling least from (message ∷ rest) lower (above, rising) = (omega arith, rising)
 
-inserted_not_falling : (message : KeptMessage) (least : ℕ) (kept : List KeptMessage) → least ≤ message.id → NotFalling least kept →
+pub inserted_not_falling : (message : KeptMessage) (least : ℕ) (kept : List KeptMessage) → least ≤ message.id → NotFalling least kept →
     NotFalling least (with_kept message kept)
 inserted_not_falling message least [] from rising = (from, tt)
 inserted_not_falling message least (other ∷ kept) from (above, rising) =
@@ -129,7 +129,7 @@ pub ascending_not_falling : (stored : List KeptMessage) → NotFalling 0 (by_mes
 ascending_not_falling [] = tt
 ascending_not_falling (message ∷ stored) = inserted_not_falling message 0 (by_message_id stored) (omega arith) (ascending_not_falling stored)
 
-filter_not_falling : (test : KeptMessage → Bool) (least : ℕ) (kept : List KeptMessage) → NotFalling least kept → NotFalling least (filter test kept)
+pub filter_not_falling : (test : KeptMessage → Bool) (least : ℕ) (kept : List KeptMessage) → NotFalling least kept → NotFalling least (filter test kept)
 filter_not_falling test least [] rising = tt
 filter_not_falling test least (message ∷ kept) (from, rising) = go (test message) (filter_not_falling test message.id kept rising)
   where

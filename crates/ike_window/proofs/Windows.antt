@@ -4,11 +4,13 @@ use Rattle.std.proofs.lemmas.Bool.{cases_lt, or_right}
 use Rattle.std.proofs.lemmas.Bool.Decides.{nat_tests}
 use Rattle.std.specs.List.{Contains}
 use Rattle.ike_window.specs.Kept.{KeptMessage, by_message_id, message_ids_of, has_message_id, kept_octets, with_kept}
-use Rattle.ike_window.specs.Laws.{AnsweredAreStored, JumpingRaisesTheFloor, NothingIsStored, RepeatsAreTheResponses, ResponsesGiveOneWindow, ResponsesHaveAWindow, StoringAddsTheResponse}
+use Rattle.ike_window.specs.Laws.{AnsweredAreStored, AnsweredHaveAResponse, IsWindowOf, JumpingRaisesTheFloor, NewHaveNoResponse, NothingIsStored, RepeatsAreTheResponses, ResponsesGiveOneWindow, ResponsesHaveAWindow, StoringAddsTheResponse}
 use Rattle.ike_window.specs.Requests.{IsLeastFree}
+use Rattle.ike_window.specs.Stored.{least_free, window_of_responses, with_response}
 use Rattle.ike_window.specs.Windows.{IsAnswered, ResponseWindow, is_repeatable}
-use Rattle.ike_window.proofs.Lows.{Contains-cases, Contains-more, Contains-nil, among_from, free_alike, from_among, low_is_free, low_of, one_least_free}
-use Rattle.ike_window.proofs.Orders.{among_ascending, among_filter, ascending_not_falling, filter_again, inserted_filter, octets_ascending, octets_filter}
+use Rattle.ike_window.proofs.Lows.{Contains-cases, Contains-more, among_from, free_alike, from_among, one_least_free}
+use Rattle.ike_window.proofs.Orders.{NotFalling, among_ascending, among_filter, ascending_not_falling, filter_again, filter_not_falling, inserted_filter, inserted_not_falling, octets_ascending, octets_filter}
+use Rattle.ike_window.proofs.Stored.{inserted_among, inserted_cases, least_free_is}
 
 pub repeatable_true : (floor low id : ℕ) → floor ≤ id → low ≤ id + 8 → (nat_le floor id && nat_le low (id + 8)) ≡ true
 repeatable_true floor low id from near = grind (arith, nat_tests)
@@ -59,11 +61,7 @@ answered_are floor stored window id is from = (there, back)
             ∙ among_ascending stored id ∙ among_from (message_ids_of stored) id among))
 
 pub nothing_stored : NothingIsStored
-nothing_stored floor = record {
-  same_floor = refl;
-  low = record { from = omega arith; taken = λ m from below. absurd (omega arith); free = λ among. Contains-nil floor among };
-  responses = refl;
-}
+nothing_stored floor = refl
 
 -- the least that was not answered does not fall
 low_rises : (floor : ℕ) (old : ResponseWindow) (low : ℕ) → old.floor ≤ floor → floor ≤ low → ¬ IsAnswered old low → old.low ≤ low
@@ -73,34 +71,43 @@ low_rises floor old low up from free = go (cases_lt low old.low)
     go (inl below) = absurd (free (inl (omega arith, below)))
     go (inr above) = above
 
-pub storing_adds : StoringAddsTheResponse
-storing_adds floor stored response old new is stores = record {
-  same_floor = stores.floor ∙ is.same_floor;
-  low = free_alike floor new.low (λ id. (id ≡ response.id) ⊎ IsAnswered old id) (Contains (message_ids_of (response ∷ stored))) alike low;
+-- a response that is stored beside what is kept of others
+with_response_is : (floor : ℕ) (stored : List KeptMessage) (response : KeptMessage) (old : ResponseWindow) → IsWindowOf floor stored old →
+    IsWindowOf floor (response ∷ stored) (with_response response old)
+with_response_is floor stored response old is = record {
+  same_floor = is.same_floor;
+  low = record {
+    from = let up = is.low.from in let more = least.from in omega arith;
+    taken = λ m from below. ⊎_elim (λ less. Contains-more response.id (message_ids_of stored) m (is.low.taken m from less))
+        (λ more. there m from (inserted_cases response old.responses m (least.taken m more below))) (cases_lt m old.low);
+    free = λ among. least.free (inserted_among response old.responses low
+        (⊎_elim (λ same. inl (sym same)) (λ later. inr (back later)) (Contains-cases response.id (message_ids_of stored) low among)));
+  };
   responses =
-      stores.responses
-      ∙ (λ i. filter (is_repeatable (floor_is i) new.low) (with_kept response (is.responses i)))
-      ∙ inserted_filter (is_repeatable floor new.low) (is_repeatable floor old.low) response 0 (by_message_id stored) (ascending_not_falling stored)
-      (λ message passed. repeatable_more floor old.low floor new.low message.id (omega arith) up passed);
+      (λ i. filter (is_repeatable (is.same_floor i) low) (with_kept response (is.responses i)))
+      ∙ inserted_filter (is_repeatable floor low) (is_repeatable floor old.low) response 0 (by_message_id stored) (ascending_not_falling stored)
+      (λ message passed. repeatable_more floor old.low floor low message.id (omega arith) least.from passed);
 }
   where
-    floor_is : new.floor ≡ floor
-    floor_is = stores.floor ∙ is.same_floor
+    low : ℕ
+    low = least_free old.low (with_kept response old.responses)
 
-    low : IsLeastFree floor (λ id. (id ≡ response.id) ⊎ IsAnswered old id) new.low
-    low = subst (λ n. IsLeastFree n (λ id. (id ≡ response.id) ⊎ IsAnswered old id) new.low) is.same_floor stores.low
+    falls : NotFalling 0 old.responses
+    falls = rw is.responses (filter_not_falling (is_repeatable floor old.low) 0 (by_message_id stored) (ascending_not_falling stored))
 
-    up : old.low ≤ new.low
-    up = low_rises floor old new.low (omega (arith, is.same_floor)) low.from (λ answered. low.free (inr answered))
+    least : IsLeastFree old.low (Contains (message_ids_of (with_kept response old.responses))) low
+    least = least_free_is old.low 0 (with_kept response old.responses) (inserted_not_falling response 0 old.responses (omega arith) falls)
 
-    alike : (m : ℕ) → floor ≤ m → ((m ≡ response.id) ⊎ IsAnswered old m → Contains (message_ids_of (response ∷ stored)) m) ×
-        (Contains (message_ids_of (response ∷ stored)) m → (m ≡ response.id) ⊎ IsAnswered old m)
-    alike m from = (
-      (λ either. ⊎_elim (λ same. (zero, omega arith, sym same))
-          (λ answered. Contains-more response.id (message_ids_of stored) m ((answered_are floor stored old m is from).0 answered)) either),
-      (λ among. ⊎_elim (λ same. inl (sym same)) (λ later. inr ((answered_are floor stored old m is from).1 later))
-          (Contains-cases response.id (message_ids_of stored) m among)),
-    )
+    there : (m : ℕ) → floor ≤ m → (m ≡ response.id) ⊎ Contains (message_ids_of old.responses) m → Contains (message_ids_of (response ∷ stored)) m
+    there m from (inl same) = (zero, omega arith, sym same)
+    there m from (inr among) = Contains-more response.id (message_ids_of stored) m ((answered_are floor stored old m is from).0 (inr among))
+
+    back : Contains (message_ids_of stored) low → Contains (message_ids_of old.responses) low
+    back among = go ((answered_are floor stored old low is (let up = is.low.from in let more = least.from in omega arith)).1 among)
+      where
+        go : IsAnswered old low → Contains (message_ids_of old.responses) low
+        go (inl below) = let more = least.from in absurd (omega (arith, below.1))
+        go (inr kept) = kept
 
 pub jumping_raises : JumpingRaisesTheFloor
 jumping_raises floor to stored old new is jumps = record {
@@ -142,13 +149,31 @@ one_window floor stored first second is so =
     responses : first.responses ≡ second.responses
     responses = is.responses ∙ ap (λ low. filter (is_repeatable floor low) (by_message_id stored)) lows ∙ sym so.responses
 
-pub some_window : ResponsesHaveAWindow
-some_window floor stored = (
-  record {
-    floor = floor;
-    low = low_of floor (message_ids_of stored);
-    responses = filter (is_repeatable floor (low_of floor (message_ids_of stored)))
-        (by_message_id stored);
-  },
-  record { same_floor = refl; low = low_is_free floor (message_ids_of stored); responses = refl },
-)
+pub made_window : ResponsesHaveAWindow
+made_window floor stored = record {
+  same_floor = refl;
+  low = free_alike floor (least_free floor (by_message_id stored)) (Contains (message_ids_of (by_message_id stored))) (Contains (message_ids_of stored))
+      alike (least_free_is floor 0 (by_message_id stored) (ascending_not_falling stored));
+  responses = refl;
+}
+  where
+    alike : (m : ℕ) → floor ≤ m → (Contains (message_ids_of (by_message_id stored)) m → Contains (message_ids_of stored) m) ×
+        (Contains (message_ids_of stored) m → Contains (message_ids_of (by_message_id stored)) m)
+    alike m from = (
+      (λ among. from_among (message_ids_of stored) m (sym (among_ascending stored m) ∙ among_from (message_ids_of (by_message_id stored)) m among)),
+      (λ among. from_among (message_ids_of (by_message_id stored)) m (among_ascending stored m ∙ among_from (message_ids_of stored) m among)),
+    )
+
+pub storing_adds : StoringAddsTheResponse
+storing_adds floor stored response =
+    one_window floor (response ∷ stored) (window_of_responses floor (response ∷ stored)) (with_response response (window_of_responses floor stored))
+    (made_window floor (response ∷ stored))
+    (with_response_is floor stored response (window_of_responses floor stored) (made_window floor stored))
+
+pub answered_have : AnsweredHaveAResponse
+answered_have floor stored id from = answered_are floor stored (window_of_responses floor stored) id (made_window floor stored) from
+
+pub new_have_none : NewHaveNoResponse
+new_have_none floor stored id new among =
+    new.unanswered ((answered_have floor stored id (let up : floor ≤ (window_of_responses floor stored).low = (made_window floor stored).low.from in
+    let more = new.from in omega arith)).1 among)

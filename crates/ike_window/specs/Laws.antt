@@ -2,8 +2,9 @@
 use Rattle.std.specs.Prelude.{◌≡◌, ℕ, ◌+◌, ◌≤◌, ◌↔◌, max, List, [], ◌∷◌, filter, Contains}
 use Rattle.ike_window.specs.declared.TheConstants.{WINDOW}
 use Rattle.ike_window.specs.Kept.{KeptMessage, by_message_id, message_ids_of, kept_octets}
-use Rattle.ike_window.specs.Requests.{IsLeastFree}
-use Rattle.ike_window.specs.Windows.{IsAnswered, Jumps, ResponseWindow, Stores, is_repeatable}
+use Rattle.ike_window.specs.Requests.{IsLeastFree, IsNewRequest}
+use Rattle.ike_window.specs.Stored.{no_responses, window_of_responses, with_response}
+use Rattle.ike_window.specs.Windows.{IsAnswered, Jumps, ResponseWindow, is_repeatable}
 
 -- what is kept of all responses that were stored, the newest first, where this is the floor
 pub record IsWindowOf (floor : ℕ) (stored : List KeptMessage) (window : ResponseWindow) :
@@ -14,13 +15,13 @@ pub record IsWindowOf (floor : ℕ) (stored : List KeptMessage) (window : Respon
       window.responses ≡ filter (is_repeatable floor window.low) (by_message_id stored)
 
 abbrev pub NothingIsStored : Type 0
-NothingIsStored =
-    (floor : ℕ) → IsWindowOf floor [] (record { floor = floor; low = floor; responses = [] })
+NothingIsStored = (floor : ℕ) → window_of_responses floor [] ≡ no_responses floor
 
 abbrev pub StoringAddsTheResponse : Type 0
 StoringAddsTheResponse =
-    (floor : ℕ) (stored : List KeptMessage) (response : KeptMessage) (old new : ResponseWindow) →
-    IsWindowOf floor stored old → Stores response old new → IsWindowOf floor (response ∷ stored) new
+    (floor : ℕ) (stored : List KeptMessage) (response : KeptMessage) →
+    window_of_responses floor (response ∷ stored) ≡
+    with_response response (window_of_responses floor stored)
 
 abbrev pub JumpingRaisesTheFloor : Type 0
 JumpingRaisesTheFloor =
@@ -49,4 +50,18 @@ ResponsesGiveOneWindow =
 abbrev pub ResponsesHaveAWindow : Type 0
 ResponsesHaveAWindow =
     (floor : ℕ) (stored : List KeptMessage) →
-    (window : ResponseWindow) × IsWindowOf floor stored window
+    IsWindowOf floor stored (window_of_responses floor stored)
+
+-- the same of the window that is made of the responses
+abbrev pub AnsweredHaveAResponse : Type 0
+AnsweredHaveAResponse =
+    (floor : ℕ) (stored : List KeptMessage) (id : ℕ) → floor ≤ id →
+    IsAnswered (window_of_responses floor stored) id ↔ Contains (message_ids_of stored) id
+
+-- no request is new there to which a response was stored
+abbrev pub NewHaveNoResponse : Type 0
+NewHaveNoResponse =
+    (floor : ℕ) (stored : List KeptMessage) (id : ℕ) →
+    IsNewRequest (window_of_responses floor stored).low
+    (IsAnswered (window_of_responses floor stored)) id →
+    ¬ Contains (message_ids_of stored) id

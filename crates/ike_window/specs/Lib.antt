@@ -3,4 +3,5 @@ pub mod Kept
 pub mod Laws
 pub mod Requests
 pub mod Slots
+pub mod Stored
 pub mod Windows

@@ -1,7 +1,7 @@
 -- What an end keeps of the requests that it answered.
 use Rattle.std.specs.Prelude.{◌≡◌, ℕ, ◌+◌, ◌<◌, ◌≤◌, ◌⊎◌, ◌&&◌, max, nat_le, true, Bool, List, filter, Contains}
 use Rattle.ike_window.specs.declared.TheConstants.{LAST_ID, WINDOW}
-use Rattle.ike_window.specs.Kept.{AllBelow, KeptMessage, message_ids_of, has_message_id, with_kept}
+use Rattle.ike_window.specs.Kept.{AllBelow, KeptMessage, RiseFrom, message_ids_of, has_message_id}
 use Rattle.ike_window.specs.Requests.{IsLeastFree}
 use Rattle.ike_window.specs.Slots.{SlidingRing}
 
@@ -21,13 +21,6 @@ IsAnswered window id =
 abbrev pub is_repeatable : ℕ → ℕ → KeptMessage → Bool
 is_repeatable floor low response = nat_le floor response.id && nat_le low (response.id + WINDOW)
 
--- a response is stored
-pub record Stores (response : KeptMessage) (old new : ResponseWindow) : Type 0 where
-  pub floor : new.floor ≡ old.floor
-  pub low : IsLeastFree old.floor (λ id. (id ≡ response.id) ⊎ IsAnswered old id) new.low
-  pub responses :
-      new.responses ≡ filter (is_repeatable new.floor new.low) (with_kept response old.responses)
-
 -- the floor is raised to this Message ID, where it is above it
 pub record Jumps (to : ℕ) (old new : ResponseWindow) : Type 0 where
   pub floor : new.floor ≡ max old.floor to
@@ -37,6 +30,7 @@ pub record Jumps (to : ℕ) (old new : ResponseWindow) : Type 0 where
 -- the responses are those that may be asked for again, in the slots of a ring
 pub record IsWindow (floor low : ℕ) (ring : SlidingRing) : Type 0 where
   pub ordered : floor ≤ low
+  pub rising : RiseFrom 0 ring.kept
   pub room_below : ring.first ≤ low
   pub room_above : low ≤ ring.first + WINDOW
   pub from : (id : ℕ) → has_message_id (message_ids_of ring.kept) id ≡ true → floor ≤ id

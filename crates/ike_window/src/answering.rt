@@ -1,8 +1,9 @@
-ghost use Rattle.std.specs.Prelude.{◌≡◌, ◌↔◌, ◌≤◌, ◌+◌, ◌-◌, [], Some, None, IsSome, MatchOption, Contains, filter, max};
+ghost use Rattle.std.specs.Prelude.{◌≡◌, ◌↔◌, ◌≤◌, ◌+◌, ◌-◌, Some, None, IsSome, MatchOption, Contains, filter, max};
 ghost use Rattle.ike_window.specs.declared.TheConstants.{LAST_ID, WINDOW};
 ghost use Rattle.ike_window.specs.Kept.{AllBelow, message_ids_of, kept_octets};
 ghost use Rattle.ike_window.specs.Requests.{IsRequestJudgedBy, IsLeastFree, IsNewRequest, IsRepeat};
-ghost use Rattle.ike_window.specs.Windows.{IsAnswered, Jumps, Stores, is_repeatable};
+ghost use Rattle.ike_window.specs.Stored.{no_responses, with_response};
+ghost use Rattle.ike_window.specs.Windows.{IsAnswered, Jumps, is_repeatable};
 
 use crate::judged::Judged;
 use crate::ring::Ring;
@@ -32,7 +33,7 @@ impl Model for Answering {
 impl Answering {
     /// No response is stored, and no request below the floor is new.
     pub fn new(floor: u32) -> Answering
-        ensures { result ≡ record { floor = floor; low = floor; responses = [] } }
+        ensures { result ≡ no_responses floor }
     {
         Answering {
             floor,
@@ -74,7 +75,8 @@ impl Answering {
     /// Stores the response to a new request.
     pub fn store(&mut self, id: u32, response: Octets)
         requires { IsNewRequest self.old.low (IsAnswered self.old) id }
-        ensures { Stores (record { id = id; octets = response.octets }) self.old self.new }
+        ensures { self.new
+            ≡ with_response (record { id = id; octets = response.octets }) self.old }
     {
         self.ring.insert(id, response);
         self.low = settle(&mut self.ring, self.floor, self.low);

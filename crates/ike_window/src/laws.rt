@@ -1,11 +1,11 @@
-ghost use Rattle.ike_window.specs.Laws.{AnsweredAreStored, JumpingRaisesTheFloor, NothingIsStored, RepeatsAreTheResponses, ResponsesGiveOneWindow, ResponsesHaveAWindow, StoringAddsTheResponse};
+ghost use Rattle.ike_window.specs.Laws.{AnsweredAreStored, AnsweredHaveAResponse, JumpingRaisesTheFloor, NewHaveNoResponse, NothingIsStored, RepeatsAreTheResponses, ResponsesGiveOneWindow, ResponsesHaveAWindow, StoringAddsTheResponse};
 
-/// A new window is what is kept of no responses.
+/// What is kept of no responses is a new window.
 pub fn nothing_is_stored()
     ensures { NothingIsStored }
 {}
 
-/// To store a response beside what is kept of some gives what is kept of these and that one.
+/// What is kept of some responses and one more is what storing that one beside the others leaves.
 pub fn storing_adds_the_response()
     ensures { StoringAddsTheResponse }
 {}
@@ -30,7 +30,17 @@ pub fn responses_give_one_window()
     ensures { ResponsesGiveOneWindow }
 {}
 
-/// Something is kept of whatever responses.
+/// The window that is made of some responses is what is kept of them.
 pub fn responses_have_a_window()
     ensures { ResponsesHaveAWindow }
+{}
+
+/// From the floor on, the window that is made of some responses has answered just their requests.
+pub fn answered_have_a_response()
+    ensures { AnsweredHaveAResponse }
+{}
+
+/// No request that is new in the window of some responses is one of theirs: none is taken twice.
+pub fn new_have_no_response()
+    ensures { NewHaveNoResponse }
 {}

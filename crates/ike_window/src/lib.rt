@@ -18,8 +18,9 @@ pub use answering::Answering;
 pub use asking::Asking;
 pub use judged::Judged;
 pub use laws::{
-    answered_are_stored, jumping_raises_the_floor, nothing_is_stored, repeats_are_the_responses,
-    responses_give_one_window, responses_have_a_window, storing_adds_the_response,
+    answered_are_stored, answered_have_a_response, jumping_raises_the_floor, new_have_no_response,
+    nothing_is_stored, repeats_are_the_responses, responses_give_one_window,
+    responses_have_a_window, storing_adds_the_response,
 };
 
 /// How many requests an end may send before the least of them is answered (RFC 7296, section 2.3).

@@ -1,7 +1,7 @@
 use Rattle.std.proofs.Common.{◌+◌, lit<, arith}
 use Rattle.ike_window.specs.Requests.{IsNewRequest}
 use Rattle.ike_window.specs.Windows.{IsAnswered}
-use Rattle.ike_window.proofs.Keeping.{new_not_among, seen, stored_window, stores_of}
+use Rattle.ike_window.proofs.Keeping.{new_not_among, seen, stored_window, stored_as}
 use Rattle.ike_window.proofs.Rising.{below_inserted}
 use Rattle.ike_window.proofs.answering.Answering.store.Goals as goal
 
@@ -45,6 +45,6 @@ invariant_of-self c =
 pub returns : goal.returns
 returns c =
     rw (← c.self.view_is)
-    (stores_of c.self.inside.floor c.self.inside.low c.settle-self-inside.result c.self.inside.ring c.settle-self-inside.new.ring
+    (stored_as c.self.inside.floor c.self.inside.low c.settle-self-inside.result c.self.inside.ring c.settle-self-inside.new.ring
     (record { id = c.args.id; octets = c.args.response.octets }) c.self.invariant
     (rw c.insert.ensures at c.settle-self-inside.ensures.low) (rw c.insert.ensures at c.settle-self-inside.ensures.kept))
