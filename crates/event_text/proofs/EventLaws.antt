@@ -9,12 +9,12 @@ use Rattle.line_fields.specs.Words.{Cursor}
 use Rattle.line_fields.specs.Fields.{◌>>=◌, behind_field, word_at, word_in}
 use Rattle.line_fields.proofs.FieldLaws.{column_behind, ok_is, pick, then_words, walk}
 use Rattle.line_fields.proofs.SpacelessLaws.{is_plain}
-use Rattle.events.specs.Events.{PlainEvent, Cluster, Import, Join, Own, Draw, Crash, Send, Deliver, Alter, Cut, Inject}
-use Rattle.events.specs.EventTable.{EventFields, Whole, Then, EventRow, alter_row, cluster_row, crash_row, cut_row, deliver_row, draw_row, event_table, import_row, inject_row, join_row, own_row, read_fields, read_row, send_row}
+use Rattle.events.specs.Events.{PlainEvent, Cluster, Import, Join, Own, Draw, Crash, Send, Ask, Again, Deliver, Alter, Cut, Inject}
+use Rattle.events.specs.EventTable.{EventFields, Whole, Then, EventRow, again_row, alter_row, ask_row, cluster_row, crash_row, cut_row, deliver_row, draw_row, event_table, import_row, inject_row, join_row, own_row, read_fields, read_row, send_row}
 use Rattle.events.specs.FilledRows.{FilledRow, Filled, Values, event_of, event_words, filled_row, row_words, value_words}
 use Rattle.events.specs.Ranges.{AreWithinRanges, Fits, IsMadeBy}
 use Rattle.event_text.specs.Reading.{event_at}
-use Rattle.event_text.proofs.KindLaws.{IsKind, datagram_kind, domain_name_kind, end_kind, esp_keys_kind, esp_spi_kind, identity_kind, ike_keys_kind, key_size_kind, lifetime_kind, medium_kind, member_kind, octet_kind, octets_kind, place_kind, spi_kind, starts_kind, ticket_key_kind, window_kind}
+use Rattle.event_text.proofs.KindLaws.{IsKind, datagram_kind, domain_name_kind, end_kind, esp_keys_kind, esp_spi_kind, identity_kind, ike_keys_kind, key_size_kind, lifetime_kind, medium_kind, member_kind, message_id_kind, octet_kind, octets_kind, place_kind, spi_kind, starts_kind, ticket_key_kind, window_kind}
 
 -- ---- fields in a row
 
@@ -75,6 +75,10 @@ send_kinds : AreKinds send_row.fields
 unfolding AreKinds
 send_kinds = (end_kind, λ from. (spi_kind, λ spir. (octets_kind 0 1400, λ payload. tt)))
 
+ask_kinds : AreKinds ask_row.fields
+unfolding AreKinds
+ask_kinds = (end_kind, λ from. (spi_kind, λ spir. (octets_kind 0 256, λ request. tt)))
+
 inject_kinds : AreKinds inject_row.fields
 unfolding AreKinds
 inject_kinds = (end_kind, λ to. (medium_kind, λ medium. (octets_kind 0 2048, λ octets. tt)))
@@ -119,6 +123,10 @@ crash_kinds : AreKinds crash_row.fields
 unfolding AreKinds
 crash_kinds = (member_kind, λ member. tt)
 
+again_kinds : AreKinds again_row.fields
+unfolding AreKinds
+again_kinds = (end_kind, λ from. (spi_kind, λ spir. (message_id_kind, λ id. tt)))
+
 deliver_kinds : AreKinds deliver_row.fields
 unfolding AreKinds
 deliver_kinds = (datagram_kind, λ which. (end_kind, λ to. tt))
@@ -143,6 +151,9 @@ record IsRow (row : EventRow) : Type 0 where
 send_is : IsRow send_row
 send_is = record { kinds = send_kinds; spelled = λ v. refl; fits = λ v h. record { ranges = h; made = refl }; found = λ c s. refl; plain = refl }
 
+ask_is : IsRow ask_row
+ask_is = record { kinds = ask_kinds; spelled = λ v. refl; fits = λ v h. record { ranges = h; made = refl }; found = λ c s. refl; plain = refl }
+
 inject_is : IsRow inject_row
 inject_is = record { kinds = inject_kinds; spelled = λ v. refl; fits = λ v h. record { ranges = h; made = refl }; found = λ c s. refl; plain = refl }
 
@@ -164,6 +175,9 @@ draw_is = record { kinds = draw_kinds; spelled = λ v. refl; fits = λ v h. reco
 crash_is : IsRow crash_row
 crash_is = record { kinds = crash_kinds; spelled = λ v. refl; fits = λ v h. record { ranges = h; made = refl }; found = λ c s. refl; plain = refl }
 
+again_is : IsRow again_row
+again_is = record { kinds = again_kinds; spelled = λ v. refl; fits = λ v h. record { ranges = h; made = refl }; found = λ c s. refl; plain = refl }
+
 deliver_is : IsRow deliver_row
 deliver_is = record { kinds = deliver_kinds; spelled = λ v. refl; fits = λ v h. record { ranges = h; made = refl }; found = λ c s. refl; plain = refl }
 
@@ -179,7 +193,7 @@ AreRows (row ∷ rows) = IsRow row × AreRows rows
 
 table_rows : AreRows event_table
 unfolding AreRows
-table_rows = (send_is, (inject_is, (cluster_is, (import_is, (join_is, (own_is, (draw_is, (crash_is, (deliver_is, (alter_is, (cut_is, tt)))))))))))
+table_rows = (send_is, (ask_is, (inject_is, (cluster_is, (import_is, (join_is, (own_is, (draw_is, (crash_is, (again_is, (deliver_is, (alter_is, (cut_is, tt)))))))))))))
 
 HasRow : FilledRow → Type 0
 HasRow (Filled row values) = IsRow row
@@ -193,6 +207,8 @@ event_row (Own member spir) = own_is
 event_row (Draw member spir) = draw_is
 event_row (Crash member) = crash_is
 event_row (Send from spir payload) = send_is
+event_row (Ask from spir request) = ask_is
+event_row (Again from spir id) = again_is
 event_row (Deliver which to) = deliver_is
 event_row (Alter which to place octet) = alter_is
 event_row (Cut which to keep) = cut_is

@@ -6,7 +6,7 @@ use Rattle.ha_base.specs.declared.key_material.KeySize.{KeySize}
 use Rattle.line_fields.specs.declared.fault.LineReason.{LineReason}
 use Rattle.line_fields.proofs.FieldLaws.{IsField, IsReader, domain_name_field, esp_spi_field, identity_field, key_size_field, octet_field, reader, sized_field, spi_field}
 use Rattle.line_fields.proofs.SpacelessLaws.{is_plain, number_word, word_domain_name, word_esp_spi, word_identity, word_octet, word_octets, word_size, word_spi}
-use Rattle.events.specs.FieldKinds.{FieldKind, a_datagram, a_medium, an_end, any_identity, datagram_place, domain_name, esp_keys, esp_spi, five_starts, ike_keys, ike_spi, key_size, lifetime_seconds, member_number, octets_from, one_octet, one_word, ticket_key, window_size}
+use Rattle.events.specs.FieldKinds.{FieldKind, a_datagram, a_medium, an_end, any_identity, datagram_place, domain_name, esp_keys, esp_spi, five_starts, ike_keys, ike_spi, key_size, lifetime_seconds, member_number, message_id, octets_from, one_octet, one_word, ticket_key, window_size}
 use Rattle.events.specs.FieldRanges.{IsParty, IsWhich}
 use Rattle.events.specs.FieldWords.{medium_word, party_text, which_text}
 use Rattle.events.specs.declared.event.Party.{Party}
@@ -45,6 +45,9 @@ lifetime_kind = word_kind count_field (λ n h. number_word n (2 ^ 32) h.1 (lit�
 
 pub place_kind : IsKind datagram_place
 place_kind = word_kind place_field (λ n h. number_word n (2 ^ 32) h (lit≤ tt))
+
+pub message_id_kind : IsKind message_id
+message_id_kind = place_kind
 
 pub spi_kind : IsKind ike_spi
 spi_kind = word_kind spi_field (λ n h. word_spi n)

@@ -10,8 +10,8 @@ mod read_fault;
 mod reading;
 
 pub use events::{
-    Datagram, EspVerdict, Event, Medium, Party, Refusal, Seal, Seals, Served, Step, Turn, Verdict,
-    Which,
+    Datagram, EspVerdict, Event, IkeDrop, Kept, Mark, Medium, Party, Refusal, Seal, Seals, Served,
+    Step, Turn, Verdict, Which,
 };
 pub use ha_base::EspDrop;
 pub use input::EventReader;

@@ -10,7 +10,7 @@ ghost use Rattle.ha_base.specs.declared.outside.Moment.{Moment};
 ghost use Rattle.line_fields.specs.Fields.{Reads};
 ghost use Rattle.event_text.specs.InMemory.{FailsInLine, GivesInLine};
 ghost use Rattle.events.specs.KeyFields.{sa_keys_at, child_keys_at, starts_at};
-ghost use Rattle.events.specs.EventTable.{alter_row, cluster_row, crash_row, cut_row, deliver_row, draw_row, event_table, import_row, inject_row, join_row, own_row, read_fields, read_row, send_row};
+ghost use Rattle.events.specs.EventTable.{again_row, alter_row, ask_row, cluster_row, crash_row, cut_row, deliver_row, draw_row, event_table, import_row, inject_row, join_row, own_row, read_fields, read_row, send_row};
 ghost use Rattle.event_text.specs.Reading.{event_at, line_at, moment_at, moment_and_event_at};
 
 use crate::event_fields::{medium, octets_in_memory, party, ticket_key, which, window};
@@ -18,8 +18,8 @@ use crate::keys::sealing_key;
 use crate::read_fault::ReadFault;
 use events::Event;
 use ha_base::{
-    ChildKeys, DATAGRAM_OCTETS, IV_END, KeySize, LINE_OCTETS, MESSAGE_ID_END, Moment, NUMBER_END,
-    Origin, PAYLOAD_OCTETS, SEQUENCE_END, SaKeys,
+    ChildKeys, DATAGRAM_OCTETS, IV_END, KeySize, LINE_OCTETS, LONGEST_REQUEST, MESSAGE_ID_END,
+    Moment, NUMBER_END, Origin, PAYLOAD_OCTETS, SEQUENCE_END, SaKeys,
 };
 use keeper_book::{Five, Record};
 use line_fields::{
@@ -167,6 +167,28 @@ fn send(alloc: Global, words: &mut Words<'_>) -> Result<Event, ReadFault>
     })
 }
 
+fn ask(alloc: Global, words: &mut Words<'_>) -> Result<Event, ReadFault>
+    ensures { GivesInLine plain result words.new (read_fields ask_row.fields words.old) }
+{
+    let from = party(words)?;
+    let spir = spi(words)?;
+    let request = octets_in_memory(alloc, words, LONGEST_REQUEST)?;
+    Ok(Event::Ask {
+        from,
+        spir,
+        request,
+    })
+}
+
+fn again(words: &mut Words<'_>) -> Result<Event, LineFault>
+    ensures { Reads plain result words.new (read_fields again_row.fields words.old) }
+{
+    let from = party(words)?;
+    let spir = spi(words)?;
+    let id = short_number(words, 0)?;
+    Ok(Event::Again { from, spir, id })
+}
+
 fn deliver(words: &mut Words<'_>) -> Result<Event, LineFault>
     ensures { Reads plain result words.new (read_fields deliver_row.fields words.old) }
 {
@@ -211,7 +233,7 @@ fn inject(alloc: Global, words: &mut Words<'_>) -> Result<Event, ReadFault>
 /// An event whose fields take no memory, by its word.
 fn short_event(column: u32, word: &[u8], words: &mut Words<'_>) -> Result<Event, LineFault>
     ensures { Reads plain result words.new (read_row
-        (drop 2 event_table) column word.now words.old) }
+        (drop 3 event_table) column word.now words.old) }
 {
     if word == b"cluster".as_slice() {
         return cluster(words);
@@ -230,6 +252,9 @@ fn short_event(column: u32, word: &[u8], words: &mut Words<'_>) -> Result<Event,
     }
     if word == b"crash".as_slice() {
         return crash(words);
+    }
+    if word == b"again".as_slice() {
+        return again(words);
     }
     if word == b"deliver".as_slice() {
         return deliver(words);
@@ -254,6 +279,9 @@ fn event(alloc: Global, words: &mut Words<'_>) -> Result<Event, ReadFault>
     let word = words.word()?;
     if word == b"send".as_slice() {
         return send(alloc, words);
+    }
+    if word == b"ask".as_slice() {
+        return ask(alloc, words);
     }
     if word == b"inject".as_slice() {
         return inject(alloc, words);

@@ -3,12 +3,13 @@ use Rattle.std.specs.Prelude.{ℕ, List, [], ◌∷◌, codes, Result, Ok, Err, 
 use Rattle.std.specs.Str.{bytes_eq}
 use Rattle.ha_base.specs.declared.counter_names.Origin.TheVariants.{Imported}
 use Rattle.ha_base.specs.declared.limits.TheConstants.{DATAGRAM_OCTETS, PAYLOAD_OCTETS}
+use Rattle.ha_base.specs.declared.services.TheConstants.{LONGEST_REQUEST}
 use Rattle.line_fields.specs.declared.fault.LineReason.TheVariants as reasons
 use Rattle.line_fields.specs.declared.fault.LineFault.{LineFault}
 use Rattle.line_fields.specs.Words.{Cursor}
 use Rattle.line_fields.specs.Fields.{◌>>=◌, fault_at}
-use Rattle.events.specs.Events.{PlainEvent, Cluster, Import, Join, Own, Draw, Crash, Send, Deliver, Alter, Cut, Inject}
-use Rattle.events.specs.FieldKinds.{FieldKind, a_datagram, a_medium, an_end, any_identity, datagram_place, domain_name, esp_keys, esp_spi, five_starts, ike_keys, ike_spi, key_size, lifetime_seconds, member_number, octets_from, one_octet, ticket_key, window_size}
+use Rattle.events.specs.Events.{PlainEvent, Cluster, Import, Join, Own, Draw, Crash, Send, Ask, Again, Deliver, Alter, Cut, Inject}
+use Rattle.events.specs.FieldKinds.{FieldKind, a_datagram, a_medium, an_end, any_identity, datagram_place, domain_name, esp_keys, esp_spi, five_starts, ike_keys, ike_spi, key_size, lifetime_seconds, member_number, message_id, octets_from, one_octet, ticket_key, window_size}
 
 -- the kinds of an event's fields in their order, and the event that their values make
 pub data EventFields : Type 1 where
@@ -28,6 +29,16 @@ send_row = record {
       Then ike_spi (λ spir.
       Then (octets_from 0 PAYLOAD_OCTETS) (λ payload.
       Whole (Send from spir payload))));
+}
+
+abbrev pub ask_row : EventRow
+ask_row = record {
+  word = codes "ask";
+  fields =
+      Then an_end (λ from.
+      Then ike_spi (λ spir.
+      Then (octets_from 0 LONGEST_REQUEST) (λ request.
+      Whole (Ask from spir request))));
 }
 
 abbrev pub inject_row : EventRow
@@ -112,6 +123,16 @@ crash_row = record {
       Whole (Crash member));
 }
 
+abbrev pub again_row : EventRow
+again_row = record {
+  word = codes "again";
+  fields =
+      Then an_end (λ from.
+      Then ike_spi (λ spir.
+      Then message_id (λ id.
+      Whole (Again from spir id))));
+}
+
 abbrev pub deliver_row : EventRow
 deliver_row = record {
   word = codes "deliver";
@@ -146,6 +167,7 @@ cut_row = record {
 abbrev pub event_table : List EventRow
 event_table =
     send_row
+    ∷ ask_row
     ∷ inject_row
     ∷ cluster_row
     ∷ import_row
@@ -153,6 +175,7 @@ event_table =
     ∷ own_row
     ∷ draw_row
     ∷ crash_row
+    ∷ again_row
     ∷ deliver_row
     ∷ alter_row
     ∷ cut_row

@@ -50,6 +50,8 @@ pub data PlainEvent : Type 0 where
   Draw : ℕ → ℕ → PlainEvent
   Crash : ℕ → PlainEvent
   Send : Party → ℕ → List ℕ → PlainEvent
+  Ask : Party → ℕ → List ℕ → PlainEvent
+  Again : Party → ℕ → ℕ → PlainEvent
   Deliver : Which → Party → PlainEvent
   Alter : Which → Party → ℕ → ℕ → PlainEvent
   Cut : Which → Party → ℕ → PlainEvent
@@ -64,6 +66,8 @@ plain (events.Own member spir) = Own member spir
 plain (events.Draw member spir) = Draw member spir
 plain (events.Crash member) = Crash member
 plain (events.Send from spir payload) = Send from spir payload.octets
+plain (events.Ask from spir request) = Ask from spir request.octets
+plain (events.Again from spir id) = Again from spir id
 plain (events.Deliver which to) = Deliver which to
 plain (events.Alter which to place octet) = Alter which to place octet
 plain (events.Cut which to keep) = Cut which to keep

@@ -45,6 +45,10 @@ lifetime_seconds = one_word decimal (λ n. (1 ≤ n) × (n < 2 ^ 32)) (number_in
 abbrev pub datagram_place : FieldKind ℕ
 datagram_place = one_word decimal (λ n. n < 2 ^ 32) (number_in_word 0 (2 ^ 32))
 
+-- the Message ID of a request (RFC 7296, section 2.2)
+abbrev pub message_id : FieldKind ℕ
+message_id = one_word decimal (λ n. n < 2 ^ 32) (number_in_word 0 (2 ^ 32))
+
 abbrev pub ike_spi : FieldKind ℕ
 ike_spi = one_word spi_text (λ n. n < 2 ^ 64) spi_in_word
 

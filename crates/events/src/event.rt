@@ -58,6 +58,20 @@ pub enum Event {
         spir: u64,
         payload: Octets,
     },
+    /// An end sends a request with data of its own, of at most 256 octets, in an IKE message of the
+    /// association with this SPIr (RFC 7296, section 1.4).
+    Ask {
+        from: Party,
+        spir: u64,
+        request: Octets,
+    },
+    /// An end sends again, with the same octets, the request of this Message ID whose response did
+    /// not come yet (RFC 7296, section 2.1).
+    Again {
+        from: Party,
+        spir: u64,
+        id: u32,
+    },
     /// A datagram is delivered to an end.
     Deliver {
         which: Which,

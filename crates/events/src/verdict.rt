@@ -1,5 +1,6 @@
 //! How an event came out.
 
+use crate::ike_outcomes::{IkeDrop, Kept, Mark};
 use ha_base::{CounterName, EspDrop, EspOpened, Octets};
 use keeper_book::Five;
 
@@ -31,6 +32,39 @@ pub enum Verdict {
         next_header: u8,
         payload: Octets,
     },
+    /// A request was sent: its Message ID (RFC 7296, section 2.2).
+    Asked(u32),
+    /// A request was sent again, with the same octets: its Message ID.
+    Resent(u32),
+    /// A service executed a new request: the counter of the requests that this end answers, its
+    /// Message ID, and what the response tells besides the reply.
+    Executed {
+        counter: CounterName,
+        id: u32,
+        mark: Mark,
+    },
+    /// A request came once more, and its response was sent again, with the same octets: its Message
+    /// ID (RFC 7296, section 2.1).
+    Repeated(u32),
+    /// A new request was answered with an error: the counter of the requests that this end answers,
+    /// its Message ID, and the notify type of the error (RFC 7296, section 3.10.1).
+    Refusing {
+        counter: CounterName,
+        id: u32,
+        notify: u16,
+    },
+    /// The response to a request came: the counter of the requests that this end asks, their Message
+    /// ID, the service's reply, what was kept of it besides, and the notify type of the first error
+    /// in it, if there is one.
+    Reply {
+        counter: CounterName,
+        id: u32,
+        reply: Octets,
+        kept: Kept,
+        error: Option<u16>,
+    },
+    /// An IKE message was dropped.
+    DroppedIke(IkeDrop),
     /// An ESP packet was dropped.
     DroppedEsp(EspDrop),
     /// Nothing was done, but for what the keeper recorded.
@@ -57,10 +91,17 @@ pub enum Refusal {
     NotOwner,
     /// A later epoch began: the epoch in the keeper's book.
     Replaced(u64),
+    /// The member has yet to synchronise its Message IDs with the peer (RFC 6311, section 5.1).
+    NotSynced,
+    /// The next Message ID lies beyond the other end's window (RFC 7296, section 2.3): the least one
+    /// that is outstanding.
+    WindowFull(u32),
     /// The counter is at its end.
     Exhausted,
     /// A call of the keeper failed, or its answer did not arrive.
     KeeperFault,
+    /// No request of this Message ID is outstanding.
+    NotOutstanding(u32),
     /// The association is closed.
     Closed,
     /// There is no such association.

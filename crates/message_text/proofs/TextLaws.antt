@@ -6,7 +6,7 @@ use Rattle.ike_values.specs.Writing.{AreValid}
 use Rattle.ike_values.specs.declared.header.Message.{Message}
 use Rattle.ike_values.proofs.SpellingLaws.{spelled_fits}
 use Rattle.ike_grammar.specs.Messages.{MessageRefused}
-use Rattle.ike_grammar.specs.declared.fault.Reason.{Reason}
+use Rattle.ike_values.specs.declared.fault.Reason.{Reason}
 use Rattle.ike_grammar.proofs.MessageLaws.{message_again}
 use Rattle.message_text.specs.Shown.{bad_text, message_text, read_text, shown}
 

@@ -4,13 +4,13 @@ use Rattle.std.specs.Prelude.{ℕ, List, [], ◌∷◌, ◌++◌, codes, Result,
 use Rattle.std.specs.Fmt.{decimal}
 use Rattle.std.specs.List.{flat_map}
 use Rattle.hex.specs.Hex.{encode_lower}
+use Rattle.fault_text.specs.FaultWords.{bad_words}
 use Rattle.line_fields.specs.Octets.{octets_text, spi_text}
 use Rattle.line_fields.specs.Writing.{line_text}
 use Rattle.ike_encoding.specs.Messages.{flags_of}
 use Rattle.ike_grammar.specs.Messages.{message_at}
-use Rattle.ike_grammar.specs.declared.fault.Bad.{Bad}
-use Rattle.ike_grammar.specs.declared.fault.Reason.{Reason}
-use Rattle.ike_grammar.specs.declared.fault.Reason.TheVariants.{Short, Length, Version, Field, Trailing, UnknownCritical, SkNotLast}
+use Rattle.ike_values.specs.declared.fault.Bad.{Bad}
+use Rattle.ike_values.specs.declared.fault.Reason.{Reason}
 use Rattle.ike_values.specs.Spelling.{type_of}
 use Rattle.ike_values.specs.Values.{NotifyValue, PayloadValue, SkValue, notify, sk}
 use Rattle.ike_values.specs.Writing.{body_written}
@@ -47,19 +47,6 @@ unfoldable pub message_text : Message → List ℕ
 message_text m = line_text (codes "ok" ∷ header_words m.header) ++ flat_map payload_text m.payloads
 
 -- ---- where octets are refused
-
-abbrev pub reason_words : Reason → List (List ℕ)
-reason_words Short = codes "short" ∷ []
-reason_words Length = codes "length" ∷ []
-reason_words Version = codes "version" ∷ []
-reason_words Field = codes "field" ∷ []
-reason_words Trailing = codes "trailing" ∷ []
-reason_words (UnknownCritical kind) = codes "unknown-critical" ∷ decimal kind ∷ []
-reason_words SkNotLast = codes "sk-not-last" ∷ []
-
--- the place, counted in octets from 0, and the reason
-unfoldable pub bad_words : ℕ → Reason → List (List ℕ)
-bad_words place reason = decimal place ∷ reason_words reason
 
 abbrev pub bad_text : ℕ → Reason → List ℕ
 bad_text place reason = line_text (codes "bad" ∷ bad_words place reason)

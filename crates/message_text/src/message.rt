@@ -8,15 +8,16 @@ ghost use Rattle.ike_values.specs.Headers.{IsMessage};
 ghost use Rattle.ike_values.specs.PayloadView.{payload_value};
 ghost use Rattle.ike_values.specs.Writing.{AreValid};
 ghost use Rattle.ike_values.specs.declared.header.Message.{Message};
-ghost use Rattle.ike_grammar.specs.declared.fault.Reason.{Reason};
+ghost use Rattle.ike_values.specs.declared.fault.Reason.{Reason};
 ghost use Rattle.ike_grammar.specs.Messages.{MessageRefused};
-ghost use Rattle.message_text.specs.Shown.{bad_text, bad_words, header_words, message_text, payload_text, reason_words, shown};
+ghost use Rattle.message_text.specs.Shown.{bad_text, header_words, message_text, payload_text, shown};
 
 use crate::payload::put_payload;
+use fault_text::put_fault;
 use ha_base::{Memory, Octets};
 use ike_encoding::flags_of;
-use ike_grammar::{Bad, Reason, Unread, decode_message};
-use ike_values::{Header, Message, Payload};
+use ike_grammar::{Unread, decode_message};
+use ike_values::{Bad, Header, Message, Payload};
 use std::alloc::Global;
 use word_text::{put_digits, put_number, put_spi, put_word};
 
@@ -65,39 +66,13 @@ fn message_text(alloc: Global, message: &Message) -> Result<Octets, Memory>
     Ok(text)
 }
 
-fn put_reason(alloc: Global, out: &mut Octets, reason: Reason) -> Result<(), Memory>
-    ensures { OnOk result (out.new.octets ≡ with_words out.old.octets (reason_words reason)) }
-{
-    match reason {
-        Reason::Short => put_word(out, b"short"),
-        Reason::Length => put_word(out, b"length"),
-        Reason::Version => put_word(out, b"version"),
-        Reason::Field => put_word(out, b"field"),
-        Reason::Trailing => put_word(out, b"trailing"),
-        Reason::UnknownCritical(kind) => {
-            put_word(out, b"unknown-critical")?;
-            put_number(alloc, out, u64::from(kind))
-        }
-        Reason::SkNotLast => put_word(out, b"sk-not-last"),
-    }
-}
-
-#[tactic(auto, unfolding(crate::specs::Shown::bad_words))]
-fn put_bad_words(alloc: Global, out: &mut Octets, bad: Bad) -> Result<(), Memory>
-    ensures { OnOk result (out.new.octets ≡ with_words out.old.octets
-        (bad_words bad.place bad.reason)) }
-{
-    put_number(alloc, out, bad.place as u64)?;
-    put_reason(alloc, out, bad.reason)
-}
-
 #[tactic(auto, using(line_fields::proofs::WritingLaws::line_put))]
 fn bad_text(alloc: Global, bad: Bad) -> Result<Octets, Memory>
     ensures { IfOk result (λ text. text.octets ≡ bad_text bad.place bad.reason) }
 {
     let mut text = Octets::new(alloc);
     text.extend(b"bad")?;
-    put_bad_words(alloc, &mut text, bad)?;
+    put_fault(alloc, &mut text, bad)?;
     text.push(b'\n')?;
     Ok(text)
 }

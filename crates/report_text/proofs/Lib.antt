@@ -1,4 +1,5 @@
 pub mod WordReading
+pub mod DropReading
 pub mod OriginReading
 pub mod CallReading
 pub mod VerdictReading

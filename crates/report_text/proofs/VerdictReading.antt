@@ -1,17 +1,22 @@
 -- How an event came out is read back from its words.
-use Rattle.std.proofs.Common.{◌≡◌, ℕ, List, [], ◌∷◌, Ok, Err, refl, codes, if◌then◌else◌}
+use Rattle.std.proofs.Common.{◌≡◌, ℕ, List, [], ◌∷◌, Option, Some, None, Ok, Err, refl, codes, if◌then◌else◌}
 use Rattle.std.specs.Str.{bytes_eq}
+use Rattle.events.specs.declared.ike_outcomes.Kept.TheVariants as keeps
+use Rattle.events.specs.declared.ike_outcomes.Mark.{Mark}
+use Rattle.events.specs.declared.ike_outcomes.Mark.TheVariants as marks
 use Rattle.events.specs.declared.verdict.Refusal.{Refusal}
 use Rattle.events.specs.declared.verdict.Refusal.TheVariants as refusals
 use Rattle.line_fields.specs.declared.fault.LineReason.TheVariants.{Word}
-use Rattle.report_text.specs.LineRanges.{FitsRefusal, FitsVerdict}
-use Rattle.report_text.specs.Lines.{PlainVerdict, Configured, Entered, Down, Member, Owned, Number, Sent, Accepted, DroppedEsp, Refused}
-use Rattle.report_text.specs.Spelling.{refusal_words, verdict_words}
-use Rattle.report_text.proofs.WordReading.{◌>>=◌, Reading, drop_again, drop_in, five_again, five_in, named, number_again, number_in, numbered, octets_again, octets_in}
+use Rattle.report_text.specs.LineRanges.{FitsError, FitsRefusal, FitsVerdict}
+use Rattle.report_text.specs.Lines.{PlainVerdict, Configured, Entered, Down, Member, Owned, Number, Sent, Asked, Resent, Executed, Repeated, Refusing, Reply, Accepted, Dropped, Refused}
+use Rattle.report_text.specs.Spelling.{error_words, mark_words, refusal_words, verdict_words}
+use Rattle.report_text.proofs.DropReading.{drop_again, drop_in}
+use Rattle.report_text.proofs.WordReading.{◌>>=◌, Reading, five_again, five_in, named, number_again, number_in, numbered, octets_again, octets_in}
 
 abbrev refusal_names : List (List ℕ × Refusal)
 refusal_names =
     (codes "not-owner", refusals.NotOwner)
+    ∷ (codes "not-synced", refusals.NotSynced)
     ∷ (codes "exhausted", refusals.Exhausted)
     ∷ (codes "keeper-fault", refusals.KeeperFault)
     ∷ (codes "closed", refusals.Closed)
@@ -27,16 +32,28 @@ refusal_names =
     ∷ (codes "not-built", refusals.NotBuilt)
     ∷ []
 
+abbrev numbered_refusals : List (List ℕ × (ℕ → Refusal))
+numbered_refusals =
+    (codes "replaced", refusals.Replaced)
+    ∷ (codes "window-full", refusals.WindowFull)
+    ∷ (codes "not-outstanding", refusals.NotOutstanding)
+    ∷ (codes "full", refusals.Full)
+    ∷ (codes "no-room", refusals.NoRoom)
+    ∷ []
+
 abbrev refusal_in : List (List ℕ) → Reading Refusal
 refusal_in (w ∷ []) = named refusal_names w
-refusal_in (w ∷ n ∷ []) = numbered ((codes "replaced", refusals.Replaced) ∷ (codes "full", refusals.Full) ∷ (codes "no-room", refusals.NoRoom) ∷ []) w n
+refusal_in (w ∷ n ∷ []) = numbered numbered_refusals w n
 refusal_in other = Err Word
 
 refusal_again : (refusal : Refusal) → FitsRefusal refusal → refusal_in (refusal_words refusal) ≡ Ok refusal
 refusal_again refusals.NotOwner fits = refl
 refusal_again (refusals.Replaced epoch) fits = rw (number_again epoch fits) refl
+refusal_again refusals.NotSynced fits = refl
+refusal_again (refusals.WindowFull id) fits = rw (number_again id fits) refl
 refusal_again refusals.Exhausted fits = refl
 refusal_again refusals.KeeperFault fits = refl
+refusal_again (refusals.NotOutstanding id) fits = rw (number_again id fits) refl
 refusal_again refusals.Closed fits = refl
 refusal_again refusals.Unknown fits = refl
 refusal_again (refusals.Full limit) fits = rw (number_again limit fits) refl
@@ -63,20 +80,61 @@ abbrev owned_in : List (List ℕ) → Reading PlainVerdict
 owned_in (n ∷ ws) = number_in n >>= (λ epoch. five_in ws >>= (λ five. Ok (Owned epoch five)))
 owned_in other = Err Word
 
-abbrev dropped_in : List (List ℕ) → Reading PlainVerdict
-dropped_in (w ∷ []) = drop_in w >>= (λ why. Ok (DroppedEsp why))
-dropped_in other = Err Word
+abbrev mark_in : List (List ℕ) → Reading Mark
+mark_in [] = Ok marks.Plain
+mark_in other = Err Word
+
+mark_again : (mark : Mark) → mark_in (mark_words mark) ≡ Ok mark
+mark_again marks.Plain = refl
+
+abbrev executed_in : List (List ℕ) → Reading PlainVerdict
+executed_in (n ∷ ws) = number_in n >>= (λ id. mark_in ws >>= (λ mark. Ok (Executed id mark)))
+executed_in other = Err Word
+
+abbrev refusing_in : List (List ℕ) → Reading PlainVerdict
+refusing_in (n ∷ t ∷ []) = number_in n >>= (λ id. number_in t >>= (λ notify. Ok (Refusing id notify)))
+refusing_in other = Err Word
+
+abbrev error_in : List (List ℕ) → Reading (Option ℕ)
+error_in [] = Ok None
+error_in (w ∷ n ∷ []) = numbered ((codes "error", Some) ∷ []) w n
+error_in other = Err Word
+
+error_again : (error : Option ℕ) → FitsError error → error_in (error_words error) ≡ Ok error
+error_again None fits = refl
+error_again (Some notify) fits = rw (number_again notify fits) refl
+
+abbrev reply_in : List (List ℕ) → Reading PlainVerdict
+reply_in (n ∷ o ∷ ws) = do
+  id ← number_in n
+  reply ← octets_in o
+  error ← error_in ws
+  Ok (Reply id reply keeps.Plain error)
+reply_in other = Err Word
+
+abbrev numbered_verdicts : List (List ℕ × (ℕ → PlainVerdict))
+numbered_verdicts =
+    (codes "member", Member)
+    ∷ (codes "number", Number)
+    ∷ (codes "sent", Sent)
+    ∷ (codes "asked", Asked)
+    ∷ (codes "resent", Resent)
+    ∷ (codes "repeated", Repeated)
+    ∷ []
 
 abbrev other_in : List ℕ → List (List ℕ) → Reading PlainVerdict
 other_in w [] = named ((codes "configured", Configured) ∷ (codes "entered", Entered) ∷ (codes "down", Down) ∷ []) w
-other_in w (n ∷ ws) = numbered ((codes "member", Member) ∷ (codes "number", Number) ∷ (codes "sent", Sent) ∷ []) w n
+other_in w (n ∷ ws) = numbered numbered_verdicts w n
 
 abbrev pub verdict_in : List (List ℕ) → Reading PlainVerdict
 verdict_in [] = Err Word
 verdict_in (w ∷ ws) =
     if bytes_eq w (codes "owned") then owned_in ws
     else if bytes_eq w (codes "accepted") then accepted_in ws
-    else if bytes_eq w (codes "dropped") then dropped_in ws
+    else if bytes_eq w (codes "executed") then executed_in ws
+    else if bytes_eq w (codes "refusing") then refusing_in ws
+    else if bytes_eq w (codes "reply") then reply_in ws
+    else if bytes_eq w (codes "dropped") then drop_in ws >>= (λ why. Ok (Dropped why))
     else if bytes_eq w (codes "refused") then refusal_in ws >>= (λ refusal. Ok (Refused refusal))
     else other_in w ws
 
@@ -89,5 +147,11 @@ verdict_again (Owned epoch bases) fits = rw (number_again epoch fits.0, five_aga
 verdict_again (Number number) fits = rw (number_again number fits) refl
 verdict_again (Sent number) fits = rw (number_again number fits) refl
 verdict_again (Accepted number next_header payload) fits = rw (number_again number fits.0, number_again next_header fits.1, octets_again payload fits.2) refl
-verdict_again (DroppedEsp why) fits = rw (drop_again why) refl
+verdict_again (Asked id) fits = rw (number_again id fits) refl
+verdict_again (Resent id) fits = rw (number_again id fits) refl
+verdict_again (Executed id mark) fits = rw (number_again id fits, mark_again mark) refl
+verdict_again (Repeated id) fits = rw (number_again id fits) refl
+verdict_again (Refusing id notify) fits = rw (number_again id fits.0, number_again notify fits.1) refl
+verdict_again (Reply id reply keeps.Plain error) fits = rw (number_again id fits.0, octets_again reply fits.1, error_again error fits.2) refl
+verdict_again (Dropped why) fits = rw (drop_again why fits) refl
 verdict_again (Refused refusal) fits = rw (refusal_again refusal fits) refl

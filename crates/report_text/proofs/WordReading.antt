@@ -2,8 +2,6 @@
 use Rattle.std.proofs.Common.{◌≡◌, ℕ, ◌^◌, List, [], ◌∷◌, Result, Ok, Err, refl, codes, lit≤, if◌then◌else◌}
 use Rattle.std.specs.Fmt.{decimal}
 use Rattle.std.specs.Str.{bytes_eq}
-use Rattle.ha_base.specs.declared.esp_outcomes.EspDrop.{EspDrop}
-use Rattle.ha_base.specs.declared.esp_outcomes.EspDrop.TheVariants as drops
 use Rattle.keeper_book.specs.declared.counters.Counter.{Counter}
 use Rattle.keeper_book.specs.declared.counters.Counter.TheVariants as counters
 use Rattle.keeper_book.specs.declared.counters.Five.{Five}
@@ -14,7 +12,7 @@ use Rattle.line_fields.specs.declared.fault.LineReason.{LineReason}
 use Rattle.line_fields.specs.declared.fault.LineReason.TheVariants.{Word}
 use Rattle.line_fields.proofs.FieldLaws.{number_field, sized_field, spi_field}
 use Rattle.report_text.specs.LineRanges.{AreReportBases, AreReportOctets, IsReportNumber}
-use Rattle.report_text.specs.Spelling.{counter_word, drop_word, part_word}
+use Rattle.report_text.specs.Spelling.{counter_word, part_word}
 use Rattle.report_text.specs.declared.line.Part.{Part}
 use Rattle.report_text.specs.declared.line.Part.TheVariants as parts
 
@@ -85,15 +83,3 @@ part_again parts.IkeP = refl
 part_again parts.EspC = refl
 part_again parts.EspP = refl
 part_again parts.Ticket = refl
-
-abbrev pub drop_in : List ℕ → Reading EspDrop
-drop_in w =
-    named ((codes "short", drops.Short) ∷ (codes "wrong-spi", drops.WrongSpi) ∷ (codes "stale", drops.Stale) ∷ (codes "seen", drops.Seen) ∷ (codes "not-opened", drops.NotOpened) ∷ (codes "padding", drops.Padding) ∷ []) w
-
-pub drop_again : (why : EspDrop) → drop_in (drop_word why) ≡ Ok why
-drop_again drops.Short = refl
-drop_again drops.WrongSpi = refl
-drop_again drops.Stale = refl
-drop_again drops.Seen = refl
-drop_again drops.NotOpened = refl
-drop_again drops.Padding = refl

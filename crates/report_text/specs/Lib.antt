@@ -1,3 +1,4 @@
+pub mod Drops
 pub mod Lines
 pub mod LineRanges
 pub mod Spelling

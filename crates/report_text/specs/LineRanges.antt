@@ -1,13 +1,16 @@
 -- What the fields of a report's line may be.
-use Rattle.std.specs.Prelude.{ℕ, ◌^◌, ◌<◌, List}
+use Rattle.std.specs.Prelude.{ℕ, ◌^◌, ◌<◌, List, Option, Some, None}
 use Rattle.ha_base.specs.declared.counter_names.Derivation.{Derivation}
+use Rattle.ike_values.specs.declared.fault.Reason.{Reason}
+use Rattle.ike_values.specs.declared.fault.Reason.TheVariants.{UnknownCritical}
 use Rattle.keeper_book.specs.declared.counters.Five.{Five}
 use Rattle.events.specs.declared.verdict.Refusal.{Refusal}
 use Rattle.events.specs.declared.verdict.Refusal.TheVariants as refusals
 use Rattle.event_text.specs.Grammar.{EventLine, line_words}
 use Rattle.line_fields.specs.Octets.{IsOctetField}
 use Rattle.line_fields.specs.Words.{line_of}
-use Rattle.report_text.specs.Lines.{PlainVerdict, ReportLine, Configured, Entered, Down, Member, Owned, Number, Sent, Accepted, DroppedEsp, Refused, TurnLine, KeepLine, ServeLine, SealLine, GivesLine, OutLine, EndLine}
+use Rattle.report_text.specs.Drops.{PlainDrop, Bad, Exchange, Old, Ahead, NotSynced}
+use Rattle.report_text.specs.Lines.{PlainVerdict, ReportLine, Configured, Entered, Down, Member, Owned, Number, Sent, Asked, Resent, Executed, Repeated, Refusing, Reply, Accepted, Dropped, Refused, TurnLine, KeepLine, ServeLine, SealLine, GivesLine, OutLine, EndLine}
 use Rattle.report_text.specs.declared.line.KeyOrigin.{KeyOrigin}
 use Rattle.report_text.specs.declared.line.KeyOrigin.TheVariants as origins
 use Rattle.report_text.specs.declared.line.PlainAnswer.{PlainAnswer}
@@ -66,9 +69,28 @@ FitsOrigin (origins.TicketKey generation) = IsReportNumber generation
 
 abbrev pub FitsRefusal : Refusal → Type 0
 FitsRefusal (refusals.Replaced epoch) = IsReportNumber epoch
+FitsRefusal (refusals.WindowFull id) = IsReportNumber id
+FitsRefusal (refusals.NotOutstanding id) = IsReportNumber id
 FitsRefusal (refusals.Full limit) = IsReportNumber limit
 FitsRefusal (refusals.NoRoom members) = IsReportNumber members
 FitsRefusal other = Unit {0}
+
+abbrev pub FitsReason : Reason → Type 0
+FitsReason (UnknownCritical kind) = IsReportNumber kind
+FitsReason other = Unit {0}
+
+abbrev pub FitsDrop : PlainDrop → Type 0
+FitsDrop (Bad place reason) = IsReportNumber place × FitsReason reason
+FitsDrop (Exchange number) = IsReportNumber number
+FitsDrop (Old id) = IsReportNumber id
+FitsDrop (Ahead id) = IsReportNumber id
+FitsDrop (NotSynced id) = IsReportNumber id
+FitsDrop other = Unit {0}
+
+-- the notify type of an error, where there is one
+abbrev pub FitsError : Option ℕ → Type 0
+FitsError None = Unit {0}
+FitsError (Some notify) = IsReportNumber notify
 
 abbrev pub FitsVerdict : PlainVerdict → Type 0
 FitsVerdict Configured = Unit {0}
@@ -80,7 +102,14 @@ FitsVerdict (Number number) = IsReportNumber number
 FitsVerdict (Sent number) = IsReportNumber number
 FitsVerdict (Accepted number next_header payload) =
     IsReportNumber number × IsReportNumber next_header × AreReportOctets payload
-FitsVerdict (DroppedEsp why) = Unit {0}
+FitsVerdict (Asked id) = IsReportNumber id
+FitsVerdict (Resent id) = IsReportNumber id
+FitsVerdict (Executed id mark) = IsReportNumber id
+FitsVerdict (Repeated id) = IsReportNumber id
+FitsVerdict (Refusing id notify) = IsReportNumber id × IsReportNumber notify
+FitsVerdict (Reply id reply kept error) =
+    IsReportNumber id × AreReportOctets reply × FitsError error
+FitsVerdict (Dropped why) = FitsDrop why
 FitsVerdict (Refused refusal) = FitsRefusal refusal
 
 -- what a line of a report may be: of a turn's own line, its event stands on a line of its own

@@ -1,13 +1,15 @@
 -- The lines of a report as data: what each says, by its fields alone.
-use Rattle.std.specs.Prelude.{ℕ, Bool, List}
-use Rattle.ha_base.specs.declared.esp_outcomes.EspDrop.{EspDrop}
+use Rattle.std.specs.Prelude.{ℕ, Bool, List, Option}
 use Rattle.ha_base.specs.declared.outside.Moment.{Moment}
 use Rattle.keeper_book.specs.declared.counters.Five.{Five}
 use Rattle.events.specs.Events.{PlainEvent, plain}
+use Rattle.events.specs.declared.ike_outcomes.Kept.{Kept}
+use Rattle.events.specs.declared.ike_outcomes.Mark.{Mark}
 use Rattle.events.specs.declared.turn.Medium.{Medium}
 use Rattle.events.specs.declared.verdict.Refusal.{Refusal}
 use Rattle.events.specs.declared.verdict.Verdict.{Verdict}
 use Rattle.events.specs.declared.verdict.Verdict.TheVariants as verdicts
+use Rattle.report_text.specs.Drops.{PlainDrop, dropped_message, dropped_packet}
 use Rattle.report_text.specs.declared.line.KeyOrigin.{KeyOrigin}
 use Rattle.report_text.specs.declared.line.Part.{Part}
 use Rattle.report_text.specs.declared.line.PlainAnswer.{PlainAnswer}
@@ -25,7 +27,14 @@ pub data PlainVerdict : Type 0 where
   Number : ℕ → PlainVerdict  -- the number that was drawn
   Sent : ℕ → PlainVerdict  -- the ESP number
   Accepted : ℕ → ℕ → List ℕ → PlainVerdict  -- the ESP number, the next header, and the payload
-  DroppedEsp : EspDrop → PlainVerdict
+  Asked : ℕ → PlainVerdict  -- the Message ID
+  Resent : ℕ → PlainVerdict  -- the Message ID
+  Executed : ℕ → Mark → PlainVerdict  -- the Message ID, and what the response tells besides
+  Repeated : ℕ → PlainVerdict  -- the Message ID
+  Refusing : ℕ → ℕ → PlainVerdict  -- the Message ID, and the notify type
+  -- the Message ID, the reply, what was kept besides, and the notify type of an error
+  Reply : ℕ → List ℕ → Kept → Option ℕ → PlainVerdict
+  Dropped : PlainDrop → PlainVerdict
   Refused : Refusal → PlainVerdict
 
 abbrev pub plain_verdict : Verdict → PlainVerdict
@@ -38,7 +47,14 @@ plain_verdict (verdicts.Number number) = Number number
 plain_verdict (verdicts.Sent number) = Sent number
 plain_verdict (verdicts.Accepted counter number next_header payload) =
     Accepted number next_header payload.octets
-plain_verdict (verdicts.DroppedEsp why) = DroppedEsp why
+plain_verdict (verdicts.Asked id) = Asked id
+plain_verdict (verdicts.Resent id) = Resent id
+plain_verdict (verdicts.Executed counter id mark) = Executed id mark
+plain_verdict (verdicts.Repeated id) = Repeated id
+plain_verdict (verdicts.Refusing counter id notify) = Refusing id notify
+plain_verdict (verdicts.Reply counter id reply kept error) = Reply id reply.octets kept error
+plain_verdict (verdicts.DroppedIke why) = Dropped (dropped_message why)
+plain_verdict (verdicts.DroppedEsp why) = Dropped (dropped_packet why)
 plain_verdict (verdicts.Refused refusal) = Refused refusal
 
 -- a line of a report

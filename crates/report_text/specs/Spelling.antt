@@ -1,21 +1,24 @@
 -- The words of a report's line.
-use Rattle.std.specs.Prelude.{ℕ, Bool, true, false, List, [], ◌∷◌, ◌++◌, codes}
+use Rattle.std.specs.Prelude.{ℕ, Bool, true, false, List, [], ◌∷◌, ◌++◌, codes, Option, Some, None}
 use Rattle.std.specs.Fmt.{decimal}
 use Rattle.std.specs.List.{flat_map}
 use Rattle.ha_base.specs.declared.counter_names.Derivation.{Derivation}
-use Rattle.ha_base.specs.declared.esp_outcomes.EspDrop.{EspDrop}
-use Rattle.ha_base.specs.declared.esp_outcomes.EspDrop.TheVariants as drops
 use Rattle.keeper_book.specs.declared.counters.Counter.{Counter}
 use Rattle.keeper_book.specs.declared.counters.Counter.TheVariants as counters
 use Rattle.keeper_book.specs.declared.pools.Pool.{Pool}
 use Rattle.keeper_book.specs.declared.pools.Pool.TheVariants as pools
+use Rattle.events.specs.declared.ike_outcomes.Kept.{Kept}
+use Rattle.events.specs.declared.ike_outcomes.Kept.TheVariants as keeps
+use Rattle.events.specs.declared.ike_outcomes.Mark.{Mark}
+use Rattle.events.specs.declared.ike_outcomes.Mark.TheVariants as marks
 use Rattle.events.specs.declared.verdict.Refusal.{Refusal}
 use Rattle.events.specs.declared.verdict.Refusal.TheVariants as refusals
 use Rattle.events.specs.FieldWords.{five_words, medium_word}
 use Rattle.event_text.specs.Grammar.{line_words}
 use Rattle.line_fields.specs.Octets.{octets_text, spi_text}
 use Rattle.line_fields.specs.Writing.{line_text}
-use Rattle.report_text.specs.Lines.{PlainVerdict, ReportLine, Configured, Entered, Down, Member, Owned, Number, Sent, Accepted, DroppedEsp, Refused, TurnLine, KeepLine, ServeLine, SealLine, GivesLine, OutLine, EndLine}
+use Rattle.report_text.specs.Drops.{drop_words}
+use Rattle.report_text.specs.Lines.{PlainVerdict, ReportLine, Configured, Entered, Down, Member, Owned, Number, Sent, Asked, Resent, Executed, Repeated, Refusing, Reply, Accepted, Dropped, Refused, TurnLine, KeepLine, ServeLine, SealLine, GivesLine, OutLine, EndLine}
 use Rattle.report_text.specs.declared.line.KeyOrigin.{KeyOrigin}
 use Rattle.report_text.specs.declared.line.KeyOrigin.TheVariants as origins
 use Rattle.report_text.specs.declared.line.Part.{Part}
@@ -93,8 +96,11 @@ part_word parts.Ticket = codes "ticket"
 abbrev pub refusal_words : Refusal → List (List ℕ)
 refusal_words refusals.NotOwner = codes "not-owner" ∷ []
 refusal_words (refusals.Replaced epoch) = codes "replaced" ∷ decimal epoch ∷ []
+refusal_words refusals.NotSynced = codes "not-synced" ∷ []
+refusal_words (refusals.WindowFull id) = codes "window-full" ∷ decimal id ∷ []
 refusal_words refusals.Exhausted = codes "exhausted" ∷ []
 refusal_words refusals.KeeperFault = codes "keeper-fault" ∷ []
+refusal_words (refusals.NotOutstanding id) = codes "not-outstanding" ∷ decimal id ∷ []
 refusal_words refusals.Closed = codes "closed" ∷ []
 refusal_words refusals.Unknown = codes "unknown" ∷ []
 refusal_words (refusals.Full limit) = codes "full" ∷ decimal limit ∷ []
@@ -109,13 +115,18 @@ refusal_words (refusals.NoRoom members) = codes "no-room" ∷ decimal members �
 refusal_words refusals.SpiRange = codes "spi-range" ∷ []
 refusal_words refusals.NotBuilt = codes "not-built" ∷ []
 
-abbrev pub drop_word : EspDrop → List ℕ
-drop_word drops.Short = codes "short"
-drop_word drops.WrongSpi = codes "wrong-spi"
-drop_word drops.Stale = codes "stale"
-drop_word drops.Seen = codes "seen"
-drop_word drops.NotOpened = codes "not-opened"
-drop_word drops.Padding = codes "padding"
+-- what a response tells besides the reply
+abbrev pub mark_words : Mark → List (List ℕ)
+mark_words marks.Plain = []
+
+-- what was kept of a response besides the reply
+abbrev pub kept_words : Kept → List (List ℕ)
+kept_words keeps.Plain = []
+
+-- the notify type of the first error in a response
+abbrev pub error_words : Option ℕ → List (List ℕ)
+error_words None = []
+error_words (Some notify) = codes "error" ∷ decimal notify ∷ []
 
 abbrev pub verdict_words : PlainVerdict → List (List ℕ)
 verdict_words Configured = codes "configured" ∷ []
@@ -127,7 +138,14 @@ verdict_words (Number number) = codes "number" ∷ decimal number ∷ []
 verdict_words (Sent number) = codes "sent" ∷ decimal number ∷ []
 verdict_words (Accepted number next_header payload) =
     codes "accepted" ∷ decimal number ∷ decimal next_header ∷ octets_text payload ∷ []
-verdict_words (DroppedEsp why) = codes "dropped" ∷ drop_word why ∷ []
+verdict_words (Asked id) = codes "asked" ∷ decimal id ∷ []
+verdict_words (Resent id) = codes "resent" ∷ decimal id ∷ []
+verdict_words (Executed id mark) = codes "executed" ∷ decimal id ∷ mark_words mark
+verdict_words (Repeated id) = codes "repeated" ∷ decimal id ∷ []
+verdict_words (Refusing id notify) = codes "refusing" ∷ decimal id ∷ decimal notify ∷ []
+verdict_words (Reply id reply kept error) =
+    codes "reply" ∷ decimal id ∷ octets_text reply ∷ (kept_words kept ++ error_words error)
+verdict_words (Dropped why) = codes "dropped" ∷ drop_words why
 verdict_words (Refused refusal) = codes "refused" ∷ refusal_words refusal
 
 -- ---- lines

@@ -2,8 +2,9 @@
 
 ghost use Rattle.std.specs.Prelude.{◌≡◌, [], ◌∷◌, ◌++◌, OnOk};
 ghost use Rattle.line_fields.specs.Writing.{with_words};
-ghost use Rattle.report_text.specs.Lines.{Accepted, DroppedEsp};
-ghost use Rattle.report_text.specs.Spelling.{drop_word, verdict_words};
+ghost use Rattle.report_text.specs.Drops.{drop_words, dropped_packet};
+ghost use Rattle.report_text.specs.Lines.{Accepted, Dropped};
+ghost use Rattle.report_text.specs.Spelling.{verdict_words};
 
 use crate::named::put_named_number;
 use ha_base::{EspDrop, Memory, Octets};
@@ -25,23 +26,24 @@ pub(crate) fn put_accepted(
     put_octets(alloc, out, payload)
 }
 
-fn drop_word(why: EspDrop) -> &'static [u8]
-    ensures { result.now ≡ drop_word why }
+fn put_why(out: &mut Octets, why: EspDrop) -> Result<(), Memory>
+    ensures { OnOk result (out.new.octets
+        ≡ with_words out.old.octets (drop_words (dropped_packet why))) }
 {
     match why {
-        EspDrop::Short => b"short",
-        EspDrop::WrongSpi => b"wrong-spi",
-        EspDrop::Stale => b"stale",
-        EspDrop::Seen => b"seen",
-        EspDrop::NotOpened => b"not-opened",
-        EspDrop::Padding => b"padding",
+        EspDrop::Short => put_word(out, b"short"),
+        EspDrop::WrongSpi => put_word(out, b"wrong-spi"),
+        EspDrop::Stale => put_word(out, b"stale"),
+        EspDrop::Seen => put_word(out, b"seen"),
+        EspDrop::NotOpened => put_word(out, b"not-opened"),
+        EspDrop::Padding => put_word(out, b"padding"),
     }
 }
 
-pub(crate) fn put_dropped(out: &mut Octets, why: EspDrop) -> Result<(), Memory>
+pub(crate) fn put_dropped_packet(out: &mut Octets, why: EspDrop) -> Result<(), Memory>
     ensures { OnOk result (out.new.octets
-        ≡ with_words out.old.octets (verdict_words (DroppedEsp why))) }
+        ≡ with_words out.old.octets (verdict_words (Dropped (dropped_packet why)))) }
 {
     put_word(out, b"dropped")?;
-    put_word(out, drop_word(why))
+    put_why(out, why)
 }

@@ -1,7 +1,8 @@
 //! The words of an event.
 
-ghost use Rattle.std.specs.Prelude.{◌≡◌, ◌∷◌, ◌++◌, OnOk};
+ghost use Rattle.std.specs.Prelude.{◌≡◌, [], ◌∷◌, ◌++◌, OnOk};
 ghost use Rattle.line_fields.specs.Identities.{identity_text};
+ghost use Rattle.line_fields.specs.Octets.{spi_text};
 ghost use Rattle.events.specs.Events.{Import, association, plain};
 ghost use Rattle.events.specs.FieldWords.{child_key_words, five_words, medium_word, party_text, sa_key_words, which_text};
 ghost use Rattle.events.specs.FilledRows.{event_words};
@@ -100,6 +101,22 @@ fn put_which(alloc: Global, out: &mut Octets, which: Which) -> Result<(), Memory
     }
 }
 
+// A word, an end and an association.
+fn put_sender(
+    alloc: Global,
+    out: &mut Octets,
+    word: &[u8],
+    from: Party,
+    spir: u64,
+) -> Result<(), Memory>
+    ensures { OnOk result (out.new.octets
+        ≡ with_words out.old.octets (word.now ∷ party_text from ∷ spi_text spir ∷ [])) }
+{
+    put_word(out, word)?;
+    put_party(alloc, out, from)?;
+    put_spi(alloc, out, spir)
+}
+
 pub(crate) fn put_event(alloc: Global, out: &mut Octets, event: &Event) -> Result<(), Memory>
     ensures { OnOk result (out.new.octets
         ≡ with_words out.old.octets (event_words (plain event.now))) }
@@ -141,10 +158,20 @@ pub(crate) fn put_event(alloc: Global, out: &mut Octets, event: &Event) -> Resul
             spir,
             payload,
         } => {
-            put_word(out, b"send")?;
-            put_party(alloc, out, *from)?;
-            put_spi(alloc, out, *spir)?;
+            put_sender(alloc, out, b"send", *from, *spir)?;
             put_octets(alloc, out, payload.as_slice())
+        }
+        Event::Ask {
+            from,
+            spir,
+            request,
+        } => {
+            put_sender(alloc, out, b"ask", *from, *spir)?;
+            put_octets(alloc, out, request.as_slice())
+        }
+        Event::Again { from, spir, id } => {
+            put_sender(alloc, out, b"again", *from, *spir)?;
+            put_number(alloc, out, u64::from(*id))
         }
         Event::Deliver { which, to } => {
             put_word(out, b"deliver")?;

@@ -10,6 +10,7 @@ mod named;
 mod origins;
 mod ranges;
 mod refusals;
+mod request_verdicts;
 mod spelling;
 mod turn;
 mod turn_lines;

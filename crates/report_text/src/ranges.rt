@@ -5,14 +5,16 @@ ghost use Rattle.std.specs.List.{AllByRecursion, flat_map};
 ghost use Rattle.std.specs.Option.{option_map};
 ghost use Rattle.events.specs.Events.{plain};
 ghost use Rattle.event_text.specs.Grammar.{EventLine};
-ghost use Rattle.report_text.specs.LineRanges.{AreReportBases, AreReportOctets, FitsAnswer, FitsAsk, FitsDerivation, FitsLine, FitsOrigin, FitsRefusal, FitsVerdict, IsReportNumber};
+ghost use Rattle.report_text.specs.LineRanges.{AreReportBases, AreReportOctets, FitsAnswer, FitsAsk, FitsDerivation, FitsDrop, FitsError, FitsLine, FitsReason, FitsOrigin, FitsRefusal, FitsVerdict, IsReportNumber};
+ghost use Rattle.report_text.specs.Drops.{dropped_message, dropped_packet};
 ghost use Rattle.report_text.specs.Lines.{plain_verdict};
 ghost use Rattle.report_text.specs.TurnLines.{gives_line, keep_line, seal_line, serve_line, turn_lines};
 
 use crate::line::{KeyOrigin, PlainAnswer, PlainAsk};
 use crate::turn_lines::{key_origin, part_of, plain_answer, plain_ask};
-use events::{Datagram, Refusal, Seal, Seals, Served, Turn, Verdict};
-use ha_base::Derivation;
+use events::{Datagram, IkeDrop, Refusal, Seal, Seals, Served, Turn, Verdict};
+use ha_base::{Derivation, EspDrop};
+use ike_values::Reason;
 use keeper_book::{Call, Calls, Five};
 
 fn number_fits(number: u64)
@@ -72,7 +74,44 @@ fn refusal_fits(refusal: Refusal)
 {
     match refusal {
         Refusal::Replaced(_) | Refusal::Full(_) | Refusal::NoRoom(_) => {}
+        Refusal::WindowFull(_) | Refusal::NotOutstanding(_) => {}
         _ => {}
+    }
+}
+
+fn reason_fits(reason: Reason)
+    ensures { FitsReason reason }
+{
+    match reason {
+        Reason::UnknownCritical(_) => {}
+        _ => {}
+    }
+}
+
+fn packet_drop_fits(why: EspDrop)
+    ensures { FitsDrop (dropped_packet why) }
+{
+    match why {
+        EspDrop::Short | EspDrop::WrongSpi | EspDrop::Stale => {}
+        EspDrop::Seen | EspDrop::NotOpened | EspDrop::Padding => {}
+    }
+}
+
+fn message_drop_fits(why: IkeDrop)
+    ensures { FitsDrop (dropped_message why) }
+{
+    match why {
+        IkeDrop::Bad(fault) => reason_fits(fault.reason),
+        IkeDrop::Exchange(_) | IkeDrop::Old(_) | IkeDrop::Ahead(_) | IkeDrop::NotSynced(_) => {}
+        IkeDrop::Direction | IkeDrop::UnknownSpi | IkeDrop::NotOpened | IkeDrop::NotAsked => {}
+    }
+}
+
+fn error_fits(error: Option<u16>)
+    ensures { FitsError error }
+{
+    match error {
+        Some(_) | None => {}
     }
 }
 
@@ -99,8 +138,38 @@ fn verdict_fits(verdict: &Verdict)
             let _numbers = (*number, *next_header);
             octets_fit(payload.as_slice());
         }
+        Verdict::Asked(id) | Verdict::Resent(id) | Verdict::Repeated(id) => {
+            let _id = *id;
+        }
+        Verdict::Executed {
+            counter: _,
+            id,
+            mark: _,
+        } => {
+            let _id = *id;
+        }
+        Verdict::Refusing {
+            counter: _,
+            id,
+            notify,
+        } => {
+            let _numbers = (*id, *notify);
+        }
+        Verdict::Reply {
+            counter: _,
+            id,
+            reply,
+            kept: _,
+            error,
+        } => {
+            let _id = *id;
+            octets_fit(reply.as_slice());
+            error_fits(*error);
+        }
+        Verdict::DroppedIke(why) => message_drop_fits(*why),
+        Verdict::DroppedEsp(why) => packet_drop_fits(*why),
         Verdict::Refused(refusal) => refusal_fits(*refusal),
-        Verdict::Configured | Verdict::Entered | Verdict::Down | Verdict::DroppedEsp(_) => {}
+        Verdict::Configured | Verdict::Entered | Verdict::Down => {}
     }
 }
 

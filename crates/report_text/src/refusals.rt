@@ -17,8 +17,13 @@ fn put_refusal(alloc: Global, out: &mut Octets, refusal: Refusal) -> Result<(), 
     match refusal {
         Refusal::NotOwner => put_word(out, b"not-owner"),
         Refusal::Replaced(epoch) => put_named_number(alloc, out, b"replaced", epoch),
+        Refusal::NotSynced => put_word(out, b"not-synced"),
+        Refusal::WindowFull(id) => { put_named_number(alloc, out, b"window-full", u64::from(id)) }
         Refusal::Exhausted => put_word(out, b"exhausted"),
         Refusal::KeeperFault => put_word(out, b"keeper-fault"),
+        Refusal::NotOutstanding(id) => {
+            put_named_number(alloc, out, b"not-outstanding", u64::from(id))
+        }
         Refusal::Closed => put_word(out, b"closed"),
         Refusal::Unknown => put_word(out, b"unknown"),
         Refusal::Full(limit) => put_named_number(alloc, out, b"full", limit),

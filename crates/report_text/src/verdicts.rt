@@ -1,6 +1,6 @@
 //! How an event came out, in words. The verdicts of a kind have a module: those of the run stand
-//! here, those of ESP in `esp_verdicts`, those that refuse in `refusals`. Requests,
-//! synchronisations, resumptions and redirects get one each beside them.
+//! here, those of ESP in `esp_verdicts`, those on requests in `request_verdicts`, those that refuse in
+//! `refusals`. Synchronisations, resumptions and redirects get one each beside them.
 
 ghost use Rattle.std.specs.Prelude.{◌≡◌, [], ◌∷◌, ◌++◌, OnOk};
 ghost use Rattle.std.specs.Fmt.{decimal};
@@ -9,10 +9,11 @@ ghost use Rattle.line_fields.specs.Writing.{with_words};
 ghost use Rattle.report_text.specs.Lines.{plain_verdict};
 ghost use Rattle.report_text.specs.Spelling.{verdict_words};
 
-use crate::esp_verdicts::{put_accepted, put_dropped};
+use crate::esp_verdicts::{put_accepted, put_dropped_packet};
 use crate::event::put_five;
 use crate::named::put_named_number;
 use crate::refusals::put_refused;
+use crate::request_verdicts::{put_dropped_message, put_executed, put_refusing, put_reply};
 use events::Verdict;
 use ha_base::{Memory, Octets};
 use std::alloc::Global;
@@ -39,7 +40,28 @@ pub(crate) fn put_verdict(alloc: Global, out: &mut Octets, verdict: &Verdict) ->
             next_header,
             payload,
         } => put_accepted(alloc, out, *number, *next_header, payload.as_slice()),
-        Verdict::DroppedEsp(why) => put_dropped(out, *why),
+        Verdict::Asked(id) => put_named_number(alloc, out, b"asked", u64::from(*id)),
+        Verdict::Resent(id) => put_named_number(alloc, out, b"resent", u64::from(*id)),
+        Verdict::Executed {
+            counter: _,
+            id,
+            mark,
+        } => put_executed(alloc, out, *id, *mark),
+        Verdict::Repeated(id) => put_named_number(alloc, out, b"repeated", u64::from(*id)),
+        Verdict::Refusing {
+            counter: _,
+            id,
+            notify,
+        } => put_refusing(alloc, out, *id, *notify),
+        Verdict::Reply {
+            counter: _,
+            id,
+            reply,
+            kept,
+            error,
+        } => put_reply(alloc, out, *id, reply.as_slice(), *kept, *error),
+        Verdict::DroppedIke(why) => put_dropped_message(alloc, out, *why),
+        Verdict::DroppedEsp(why) => put_dropped_packet(out, *why),
         Verdict::Refused(refusal) => put_refused(alloc, out, *refusal),
     }
 }
