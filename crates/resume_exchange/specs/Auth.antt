@@ -1,10 +1,8 @@
 -- What a member makes of the payloads of an IKE_AUTH before it asks the keeper: the first case
 -- that applies.
 use Rattle.std.specs.Prelude.{◌≡◌, ◌≢◌, ℕ, ◌<◌, ◌≤◌, List, None, Some}
-use Rattle.ha_base.specs.KeySizes.{sealing_octets}
 use Rattle.ha_base.specs.declared.key_material.SaKeys.{SaKeys}
 use Rattle.key_schedule.specs.Codes.{auth_code}
-use Rattle.key_schedule.specs.Keys.{sa_keys, sa_stream}
 use Rattle.ike_values.specs.Values.{IdValue, PayloadValue, ProposalValue}
 use Rattle.ike_values.specs.Writing.{numbered_written}
 use Rattle.resume_exchange.specs.declared.auth.AuthJudged.{AuthJudged}
@@ -13,14 +11,12 @@ use Rattle.resume_exchange.specs.declared.auth.AuthJudged.TheVariants.{NoProposa
 use Rattle.resume_exchange.specs.declared.half_opens.HalfOpen.{HalfOpen}
 use Rattle.resume_exchange.specs.Offers.{first_fit}
 use Rattle.resume_exchange.specs.Parts.{HasParts}
+use Rattle.resume_exchange.specs.ResumedKeys.{resumed_sa_keys}
 
 -- the keys of the resumed association (RFC 5723, section 5.1)
 abbrev pub keys_of : HalfOpen → SaKeys
 keys_of half_open =
-    let derivation = half_open.derivation in
-    let key_octets = sealing_octets half_open.content.size in
-    sa_keys key_octets
-    (sa_stream key_octets half_open.content.sk_d derivation.ni derivation.nr derivation.spii derivation.spir)
+    resumed_sa_keys half_open.content.sk_d half_open.content.size half_open.derivation
 
 -- the AUTH code of the peer signs its request to resume, the member's nonce and its identity (RFC
 -- 7296, section 2.15)

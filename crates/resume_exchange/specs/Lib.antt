@@ -6,3 +6,10 @@ pub mod Judgements
 pub mod Parts
 pub mod Auth
 pub mod Lots
+pub mod ResumedKeys
+pub mod FirstMessages
+pub mod AuthMessages
+pub mod Attempts
+pub mod PeerAnswers
+pub mod ResumedRecords
+pub mod MemberProofs

@@ -5,9 +5,10 @@ ghost use Rattle.resume_exchange.specs.Auth.{IsAuthJudged, right_code};
 use crate::half_opens::HalfOpen;
 use crate::offers::first_fit;
 use crate::parts::parts_of;
+use crate::sealing::sa_keys;
 use ha_base::{Identity, Moment, OctetList};
 use ike_values::Payloads;
-use key_schedule::{auth_code, equal_codes, resumed_keys};
+use key_schedule::{auth_code, equal_codes};
 
 /// How many octets the body of an ID payload has at most: its type, three reserved octets and the
 /// longest identity.
@@ -63,14 +64,7 @@ fn right_code(half_open: &HalfOpen) -> [u8; 32]
     ensures { result ≡ right_code half_open.now }
 {
     let derivation = &half_open.derivation;
-    let keys = resumed_keys(
-        &half_open.content.sk_d,
-        half_open.content.size,
-        &derivation.ni,
-        &derivation.nr,
-        derivation.spii,
-        derivation.spir,
-    );
+    let keys = sa_keys(&half_open.content.sk_d, half_open.content.size, derivation);
     let body = id_body(&half_open.content.identity);
     auth_code(
         &keys.sk_pi,
@@ -82,7 +76,7 @@ fn right_code(half_open: &HalfOpen) -> [u8; 32]
 
 /// The body of the ID payload of an identity: its type, three reserved octets and its data (RFC
 /// 7296, section 3.5).
-fn id_body(identity: &Identity) -> OctetList<ID_BODY_OCTETS>
+pub(crate) fn id_body(identity: &Identity) -> OctetList<ID_BODY_OCTETS>
     ensures { result ≡ numbered_written identity.now.kind identity.now.octets }
 {
     let mut body = OctetList::from_slice(&[identity.kind, 0, 0, 0]);

@@ -4,7 +4,7 @@ ghost use Rattle.ike_values.specs.AttributeView.{attribute_value};
 ghost use Rattle.ike_values.specs.ProposalView.{proposal_value};
 ghost use Rattle.ike_values.specs.TransformView.{transform_value};
 ghost use Rattle.resume_exchange.specs.Offers.{first_fit, fits, has_type, is_child_spi, is_cipher};
-ghost use Rattle.resume_exchange.specs.Offers.{is_transform, key_length, leaves_out};
+ghost use Rattle.resume_exchange.specs.Offers.{is_transform, key_bits, key_length, leaves_out};
 
 use ha_base::{KeySize, read_u32};
 use ike_values::{Attribute, Proposal, Proposals, Transform};
@@ -81,17 +81,23 @@ fn is_child_spi(spi: &[u8]) -> bool
     spi.len() == 4 && LEAST_CHILD_SPI <= read_u32(spi)
 }
 
+/// The bits of an AES key of this size.
+pub(crate) fn key_bits(size: KeySize) -> u16
+    ensures { result ≡ key_bits size }
+{
+    match size {
+        KeySize::Bits128 => 128,
+        KeySize::Bits256 => 256,
+    }
+}
+
 /// Whether the transform is AES-GCM with a key of this size.
 fn is_cipher(transform: &Transform, size: KeySize) -> bool
     ensures { result ≡ is_cipher size (transform_value transform.now) }
 {
-    let bits = match size {
-        KeySize::Bits128 => 128,
-        KeySize::Bits256 => 256,
-    };
     transform.kind == ENCR
         && transform.id == AES_GCM_16
-        && key_length(transform.attributes.as_slice()) == Some(bits)
+        && key_length(transform.attributes.as_slice()) == Some(key_bits(size))
 }
 
 /// Whether AES-GCM with a key of this size is offered.

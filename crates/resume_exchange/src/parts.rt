@@ -46,7 +46,7 @@ fn first_identity(payloads: &[Payload]) -> Option<&IdBody>
 }
 
 /// The first authentication data.
-fn first_auth(payloads: &[Payload]) -> Option<&AuthBody>
+pub(crate) fn first_auth(payloads: &[Payload]) -> Option<&AuthBody>
     ensures { MatchOption result
         (first_of auth_data (map payload_value payloads.now) ≡ None)
         (λ found.
@@ -63,7 +63,7 @@ fn first_auth(payloads: &[Payload]) -> Option<&AuthBody>
 }
 
 /// The proposals of the first security association.
-fn first_proposals(payloads: &[Payload]) -> Option<&Proposals>
+pub(crate) fn first_proposals(payloads: &[Payload]) -> Option<&Proposals>
     ensures { MatchOption result
         (first_of sa_data (map payload_value payloads.now) ≡ None)
         (λ found. first_of sa_data (map payload_value payloads.now) ≡ Some found.now) }

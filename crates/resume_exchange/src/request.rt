@@ -30,7 +30,7 @@ pub fn presented<'a>(header: &Header, payloads: &'a Payloads) -> Option<(&'a [u8
 }
 
 /// The octets of the first nonce.
-fn first_nonce(payloads: &[Payload]) -> Option<&[u8]>
+pub(crate) fn first_nonce(payloads: &[Payload]) -> Option<&[u8]>
     ensures { MatchOption result
         (first_nonce (map payload_value payloads.now) ≡ None)
         (λ octets. first_nonce (map payload_value payloads.now) ≡ Some octets.now) }
