@@ -6,18 +6,30 @@ use Rattle.ha_base.specs.declared.outside.Moment.{Moment}
 use Rattle.keeper_book.specs.Book.{Book}
 use Rattle.replay_world.specs.Owning.{OwnedTold}
 use Rattle.run_ends.specs.Runs.{Grows, Run, StandsTold}
-use Rattle.turn_laws.proofs.All.{owned-run}
+use Rattle.turn_laws.specs.Replaced.{AreReplacedLater}
+use Rattle.turn_laws.specs.Turns.{AreOwned}
 use Rattle.turn_rules.proofs.StateLaws.{local-explained}
 use Rattle.turn_rules.specs.Local.{Explained, Local, Stands}
 use Rattle.turn_rules.specs.Safe.{Safe}
 
--- the law of whole runs
+-- the laws of whole runs
 abbrev pub RunsAreSafe : Type 0
 RunsAreSafe = (boxes : ℕ) (past : List Turn) (book : Book) → Explained boxes past → Stands past book → Safe past
 
-pub owned_told : (boxes : ℕ) (past : List Turn) (book : Option Book) → Local boxes past → StandsTold past book → OwnedTold past book
-owned_told boxes past None local stands = absurd stands
-owned_told boxes past (Some book) local stands = owned-run boxes past book (local-explained boxes past local) stands
+abbrev pub AllIsOwned : Type 0
+AllIsOwned = (boxes : ℕ) (past : List Turn) (book : Book) → Explained boxes past → Stands past book → AreOwned past book
+
+abbrev pub CallsAreReplacedLater : Type 0
+CallsAreReplacedLater = (boxes : ℕ) (past : List Turn) (book : Book) → Explained boxes past → Stands past book → AreReplacedLater past
+
+pub owned_told : AllIsOwned → (boxes : ℕ) (past : List Turn) (book : Option Book) → Local boxes past → StandsTold past book → OwnedTold past book
+owned_told law boxes past None local stands = absurd stands
+owned_told law boxes past (Some book) local stands = law boxes past book (local-explained boxes past local) stands
+
+-- what is answered `Replaced`, by the law of whole runs
+pub replaced_told : CallsAreReplacedLater → (boxes : ℕ) (past : List Turn) (book : Option Book) → Local boxes past → StandsTold past book → AreReplacedLater past
+replaced_told law boxes past None local stands = absurd stands
+replaced_told law boxes past (Some book) local stands = law boxes past book (local-explained boxes past local) stands
 
 -- and what holds across the ends holds, by the law of whole runs
 pub safe_told : RunsAreSafe → (boxes : ℕ) (past : List Turn) (book : Option Book) → Local boxes past → StandsTold past book → Safe past

@@ -34,11 +34,13 @@ played_whole run fault input more text read p = record {
   written = p.written;
   local = p.local;
   own_turns = p.own_turns;
+  below_ends = p.below_ends;
   serves = p.serves;
   asks = p.asks;
   stands = p.stands;
   owned = p.owned;
   safe = p.safe;
+  replaced_later = p.replaced_later;
   caused = p.caused;
 }
 

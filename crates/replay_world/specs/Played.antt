@@ -16,6 +16,8 @@ use Rattle.replay_world.specs.Owning.{OwnedTold}
 use Rattle.run_ends.specs.Asked.{AsksAsSeen}
 use Rattle.run_ends.specs.Runs.{CausedSince, StandsTold}
 use Rattle.turn_laws.specs.OwnTurns.{OwnTurnsTell}
+use Rattle.turn_laws.specs.Replaced.{AreReplacedLater}
+use Rattle.turn_laws.specs.Turns.{AreBelowEnds}
 use Rattle.turn_rules.specs.Local.{Local, calls_of}
 use Rattle.turn_rules.specs.Safe.{Safe}
 use Rattle.turn_rules.specs.Services.{AreGiven, service_of}
@@ -69,6 +71,8 @@ pub record IsPlayed (run : Handed) (input : List ℕ) (fault : Option InputFault
   pub local : Local run.boxes trace
   -- and what the ends hold before each turn, their own turns tell
   pub own_turns : OwnTurnsTell run.boxes trace
+  -- no number that was used reaches its counter's end
+  pub below_ends : AreBelowEnds trace
   -- what was executed, the services may give
   pub serves : run.given trace
   -- the calls of its turns were asked of the keeper, in this order, and no others
@@ -79,5 +83,7 @@ pub record IsPlayed (run : Handed) (input : List ℕ) (fault : Option InputFault
   pub owned : StandsTold [] run.book → OwnedTold trace run.now_book
   -- and what holds across the ends holds
   pub safe : StandsTold [] run.book → Safe trace
+  -- and a cover that was answered `Replaced` was asked in an earlier epoch than the answer names
+  pub replaced_later : StandsTold [] run.book → AreReplacedLater trace
   -- a call failed only where the keeper's count of faults rose
   pub caused : CausedSince run.faults run.now_faults trace

@@ -13,7 +13,10 @@ use ha_base::{Memory, Octets, Service};
 use keeper_book::{Gate, Keeper};
 use report_text::{write_head, write_turn};
 use std::alloc::Global;
-use turn_laws::{nothing_is_executed, runs_are_safe};
+use turn_laws::{
+    all_is_owned, no_number_past_its_end, nothing_is_executed, own_turns_tell_states,
+    replaced_by_later_epochs, runs_are_safe,
+};
 use word_text::write_end;
 
 /// A report, and the fault of the input at which it ends, if there is one.
@@ -141,7 +144,11 @@ fn play_run<K: Keeper>(
         (handed K.Keeper keeper.old.keeper keeper.new.keeper gives peer_service services)
         input.now played.fault played.report.octets) }
 {
+    all_is_owned();
+    no_number_past_its_end();
     nothing_is_executed();
+    own_turns_tell_states();
+    replaced_by_later_epochs();
     runs_are_safe();
     let mut world = World::new(alloc, peer_service, services)?;
     let played = play(alloc, input, &mut world, keeper)?;

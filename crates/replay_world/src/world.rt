@@ -6,6 +6,8 @@ ghost use Rattle.keeper_book.specs.Gates.{told_calls};
 ghost use Rattle.run_ends.specs.Asked.{AsksAsSeen, newest_calls};
 ghost use Rattle.run_ends.specs.Runs.{CausedSince, Grows, LackMemory, StandsTold};
 ghost use Rattle.turn_laws.specs.OwnTurns.{OwnTurnsTell};
+ghost use Rattle.turn_laws.specs.Replaced.{AreReplacedLater};
+ghost use Rattle.turn_laws.specs.Turns.{AreBelowEnds};
 ghost use Rattle.turn_rules.specs.Datagrams.{datagrams_of};
 ghost use Rattle.turn_rules.specs.Local.{Local};
 ghost use Rattle.turn_rules.specs.Safe.{Safe};
@@ -19,7 +21,10 @@ use ha_base::{Memory, Moment, Service};
 use keeper_book::{Gate, Keeper};
 use run_ends::Ends;
 use std::alloc::Global;
-use turn_laws::runs_are_safe;
+use turn_laws::{
+    all_is_owned, no_number_past_its_end, own_turns_tell_states, replaced_by_later_epochs,
+    runs_are_safe,
+};
 
 /// A run: the ends and what they did, and the services that execute requests for them.
 #[derive(Drop)]
@@ -55,7 +60,8 @@ impl World {
     /// Plays an event at a moment, one that a line spells: the ends act, and one turn is appended
     /// to the trace. A member that ends drops its service. An error is want of memory; the run and
     /// the keeper's book are then as they were, and the keeper was asked only where it lacked the
-    /// memory itself.
+    /// memory itself. The clauses on whole runs are the laws of `turn_laws` that the body names;
+    /// its other laws on whole runs hold by `local` and `stands`.
     pub fn turn<K: Keeper>(
         &mut self,
         keeper: &mut Gate<K>,
@@ -67,6 +73,7 @@ impl World {
         ensures grows { OnOk result (Grows (run_of self.old) now event (run_of self.new)) }
         ensures local { Local (run_of self.new).boxes (run_of self.new).past }
         ensures own_turns { OwnTurnsTell (run_of self.new).boxes (run_of self.new).past }
+        ensures below_ends { AreBelowEnds (run_of self.new).past }
         ensures stands { StandsTold (run_of self.old).past (K.book keeper.old.keeper)
             → OnOk result (StandsTold (run_of self.new).past (K.book keeper.new.keeper)) }
         ensures owned_before { StandsTold (run_of self.old).past (K.book keeper.old.keeper)
@@ -75,6 +82,8 @@ impl World {
             → OnOk result (OwnedTold (run_of self.new).past (K.book keeper.new.keeper)) }
         ensures safe { StandsTold (run_of self.old).past (K.book keeper.old.keeper)
             → OnOk result (Safe (run_of self.new).past) }
+        ensures replaced_later { StandsTold (run_of self.old).past (K.book keeper.old.keeper)
+            → OnOk result (AreReplacedLater (run_of self.new).past) }
         ensures caused { (start : ℕ) → CausedSince start (K.faults keeper.old.keeper)
             (run_of self.old).past
             → OnOk result (CausedSince start (K.faults keeper.new.keeper) (run_of self.new).past) }
@@ -89,6 +98,10 @@ impl World {
             ≡ services_after (ended_last (run_of self.new).past) (services_of self.old)) }
         ensures held { K.held keeper.new.keeper ≡ K.held keeper.old.keeper }
     {
+        all_is_owned();
+        no_number_past_its_end();
+        own_turns_tell_states();
+        replaced_by_later_epochs();
         runs_are_safe();
         self.ends.turn(keeper, now, event)?;
         let ended = self.last_ended();

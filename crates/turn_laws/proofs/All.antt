@@ -21,7 +21,7 @@ use Rattle.turn_laws.proofs.Tells.{Tells, tells}
 use Rattle.turn_laws.proofs.Opened.{peer-may}
 use Rattle.turn_laws.proofs.Told.{told-held}
 use Rattle.turn_laws.proofs.Well.{deed-well}
-use Rattle.turn_laws.specs.Acts.{Calls, Ends, Leaps, Leases, MayDoAll, Move, Opens, Seals, Starts, Uses, column_at, holding_at, numbers_at, starts_name, uses_at}
+use Rattle.turn_laws.specs.Acts.{Calls, Ends, Leaps, MayDoAll, Move, Opens, Seals, Starts, Uses, column_at, holding_at, numbers_at, starts_name, uses_at}
 use Rattle.turn_laws.specs.Columns.{column_mark}
 use Rattle.turn_laws.specs.Holdings.{End, Holding, IsOwned}
 use Rattle.turn_laws.specs.Owned.{Lawful, Owned}
@@ -45,9 +45,8 @@ none-started (turn ∷ past) name = moves-all (λ move. starts_name name move �
     of_use Ends is = refl
     of_use (Calls call) is = absurd is
     of_use (Seals key) is = absurd is
-    of_use (Leases pool first count seen) is = absurd is
     of_use (Leaps place n) is = absurd is
-    of_use (Opens sa) is = absurd is
+    of_use (Opens ticket made) is = absurd is
     of_use (Starts sa) is = absurd is
 
     of_seals : (seals : List Seal) → AllByRecursion (λ move. starts_name name move ≡ false) (map (λ seal. Seals (key_iv seal)) seals)
@@ -60,16 +59,15 @@ none-started (turn ∷ past) name = moves-all (λ move. starts_name name move �
 
 -- the moves of a turn that is explained may be made
 pub turn-well : (boxes : ℕ) (past : List Turn) (turn : Turn) → IsByRule boxes past turn → Explained boxes past → MayDoAll (acts_of past) (acts_in turn)
-turn-well boxes past turn explained local = deed-well past (acts_of past) (told-held boxes past local) (peer-may boxes past local) (none-started past) turn.event turn.calls turn.step (deed-of boxes past turn explained local)
+turn-well boxes past turn explained local = deed-well past (acts_of past) (told-held boxes past local) (peer-may boxes past local) (none-started past) (λ member pool. refl) turn.event turn.calls turn.step (deed-of boxes past turn explained local)
 
 use-leaves : (move : Move) → IsUseOrEnd move → LeavesBook move
 use-leaves (Uses place n) is = λ book. refl
 use-leaves Ends is = λ book. refl
 use-leaves (Calls call) is = absurd is
 use-leaves (Seals key) is = absurd is
-use-leaves (Leases pool first count seen) is = absurd is
 use-leaves (Leaps place n) is = absurd is
-use-leaves (Opens sa) is = absurd is
+use-leaves (Opens ticket made) is = absurd is
 use-leaves (Starts sa) is = absurd is
 
 seals-leave : (seals : List Seal) → AllByRecursion LeavesBook (map (λ seal. Seals (key_iv seal)) seals)

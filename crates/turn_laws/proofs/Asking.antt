@@ -20,7 +20,7 @@ use Rattle.keeper_book.specs.declared.calls.KeeperAsk.TheVariants as ask
 use Rattle.keeper_book.specs.declared.records.Record.{Record}
 use Rattle.keeper_book.specs.declared.records.Taken.{Taken}
 use Rattle.turn_laws.proofs.Deeds.{says-rests, Asked, Deed, IsIdle, Rested}
-use Rattle.turn_laws.specs.Acts.{IsImport, entered_as}
+use Rattle.turn_laws.specs.Acts.{IsImport, entered_as, settled_as}
 use Rattle.turn_rules.specs.Draws.{Admits, EntersRecord, Grants, TakesOver, refusal_of_import, refusal_of_takeover}
 use Rattle.turn_rules.specs.Fits.{Quietly, Refuses, Yields, is_importable}
 use Rattle.turn_rules.specs.Held.{granted}
@@ -54,6 +54,10 @@ refused-entry : (event : Event) (why : Refusal) → record_entered event (out.Re
 refused-entry (event.Import sa) why = refl
 refused-entry (event.Send parties.Peer spir payload) why = refl
 refused-entry (event.Send (parties.Member member) spir payload) why = refl
+refused-entry (event.Ask parties.Peer spir request) why = refl
+refused-entry (event.Ask (parties.Member member) spir request) why = refl
+refused-entry (event.Again parties.Peer spir id) why = refl
+refused-entry (event.Again (parties.Member member) spir id) why = refl
 refused-entry event why = refl
 
 grants-idle : (spir : ℕ) (answered : KeeperAnswer) (verdict : Verdict) → Grants spir answered verdict → IsIdle verdict
@@ -109,6 +113,7 @@ module _ (past : List Turn) (step : Step) where
         one = refl;
         may = λ acts w none. rw e.0 (importable-is sa importable, λ c. none (peer_counter sa c));
         own_record = λ spir taken is. absurd (not_granted spir taken (rw e.0 at is));
+        unsettled = λ spir. ap (λ asked. settled_as spir asked (seen call)) e.0;
         entry = ap (λ asked. entered_as asked (seen call)) e.0 ∙ admits-entry sa (seen call) step.verdict e.1;
         rests = record { idle = admits-idle (seen call) step.verdict e.1; quiet = quietly.quiet };
       })
@@ -127,6 +132,7 @@ module _ (past : List Turn) (step : Step) where
         one = refl;
         may = λ acts w none. rw t.0 tt;
         entry = ap (λ asked. entered_as asked (seen call)) t.0;
+        unsettled = λ other. ap (λ asked. settled_as other asked (seen call)) t.0;
         own_record = λ other taken is. grants-record spir member (seen call) step.verdict t.1 other taken (rw t.0 at is);
         rests = record { idle = grants-idle spir (seen call) step.verdict t.1; quiet = quietly.quiet };
       })

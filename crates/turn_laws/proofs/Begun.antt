@@ -1,4 +1,5 @@
 -- What begins at a place, and what the book shows of it.
+use Rattle.turn_laws.specs.Columns.{Column}
 use Rattle.std.proofs.Common.{◌≡◌, ℕ, ◌<◌, ◌≤◌, ◌==◌, Bool, true, false, Option, Some, None, List, [], ◌∷◌, map, refl, ap, sym, ◌∙◌, subst, arith, if◌then◌else◌}
 use Rattle.std.proofs.lemmas.Bool.{eqb-true, eq-eqb, and_parts}
 use Rattle.std.proofs.lemmas.Option.{same_Some}
@@ -46,35 +47,40 @@ named-counter c None e = absurd (cc)
 named-counter c (Some d) e = ap Some (sym (is_counter-true c d e))
 
 -- what a call does at a place that was seen to fail
-pub failed_effect : (w : Actor) (p : Place) (asked : KeeperAsk) (why : KeeperFault) → Nothing ≡ effect_of_call p w asked (answer.Refused why)
-failed_effect w (Ours spir c) (ask.Enter sa) why = refl
-failed_effect w (Ours spir c) (ask.TakeOver asked member) why = refl
-failed_effect w (Ours spir c) (ask.Cover asked kind child epoch upto) why = refl
-failed_effect w (Ours spir c) (ask.Lease pool count) why = refl
-failed_effect w (Ours spir c) (ask.Settle ticket asked sa member) why = refl
-failed_effect w (Ours spir c) (ask.Look ticket) why = refl
-failed_effect w (Pooled q) (ask.Enter sa) why = refl
-failed_effect w (Pooled q) (ask.TakeOver asked member) why = refl
-failed_effect w (Pooled q) (ask.Cover asked kind child epoch upto) why = refl
-failed_effect w (Pooled q) (ask.Lease pool count) why = refl
-failed_effect w (Pooled q) (ask.Settle ticket asked sa member) why = refl
-failed_effect w (Pooled q) (ask.Look ticket) why = refl
-failed_effect w (Theirs name) (ask.Enter sa) why = refl
-failed_effect w (Theirs name) (ask.TakeOver asked member) why = refl
-failed_effect w (Theirs name) (ask.Cover asked kind child epoch upto) why = refl
-failed_effect w (Theirs name) (ask.Lease pool count) why = refl
-failed_effect w (Theirs name) (ask.Settle ticket asked sa member) why = refl
-failed_effect w (Theirs name) (ask.Look ticket) why = refl
+pub failed_effect : (w : Actor) (p : Place) (begun : Column) (asked : KeeperAsk) (why : KeeperFault) → Nothing ≡ effect_of_call p begun w asked (answer.Refused why)
+failed_effect w (Ours spir c) begun (ask.Enter sa) why = refl
+failed_effect w (Ours spir c) begun (ask.TakeOver asked member) why = refl
+failed_effect w (Ours spir c) begun (ask.Cover asked kind child epoch upto) why = refl
+failed_effect w (Ours spir c) begun (ask.Lease pool count) why = refl
+failed_effect w (Ours spir c) begun (ask.Settle ticket asked sa member) why = refl
+failed_effect w (Ours spir c) begun (ask.Look ticket) why = refl
+failed_effect w (Pooled q) begun (ask.Enter sa) why = refl
+failed_effect w (Pooled q) begun (ask.TakeOver asked member) why = refl
+failed_effect w (Pooled q) begun (ask.Cover asked kind child epoch upto) why = refl
+failed_effect w (Pooled q) begun (ask.Lease pool count) why = refl
+failed_effect w (Pooled q) begun (ask.Settle ticket asked sa member) why = refl
+failed_effect w (Pooled q) begun (ask.Look ticket) why = refl
+failed_effect w (Theirs name) begun (ask.Enter sa) why = refl
+failed_effect w (Theirs name) begun (ask.TakeOver asked member) why = refl
+failed_effect w (Theirs name) begun (ask.Cover asked kind child epoch upto) why = refl
+failed_effect w (Theirs name) begun (ask.Lease pool count) why = refl
+failed_effect w (Theirs name) begun (ask.Settle ticket asked sa member) why = refl
+failed_effect w (Theirs name) begun (ask.Look ticket) why = refl
 
-pub failed_begins : (p : Place) (asked : KeeperAsk) (why : KeeperFault) → None ≡ begun_called p asked (answer.Refused why)
-failed_begins (Ours spir c) asked why = refl
-failed_begins (Pooled q) asked why = refl
-failed_begins (Theirs name) (ask.Enter sa) why = refl
-failed_begins (Theirs name) (ask.TakeOver asked member) why = refl
-failed_begins (Theirs name) (ask.Cover asked kind child epoch upto) why = refl
-failed_begins (Theirs name) (ask.Lease pool count) why = refl
-failed_begins (Theirs name) (ask.Settle ticket asked sa member) why = refl
-failed_begins (Theirs name) (ask.Look ticket) why = refl
+pub failed_begins : (p : Place) (begun : Column) (asked : KeeperAsk) (why : KeeperFault) → None ≡ begun_called p begun asked (answer.Refused why)
+failed_begins (Ours spir c) begun asked why = refl
+failed_begins (Pooled q) begun (ask.Enter sa) why = refl
+failed_begins (Pooled q) begun (ask.TakeOver asked member) why = refl
+failed_begins (Pooled q) begun (ask.Cover asked kind child epoch upto) why = refl
+failed_begins (Pooled q) begun (ask.Lease pool count) why = refl
+failed_begins (Pooled q) begun (ask.Settle ticket asked sa member) why = refl
+failed_begins (Pooled q) begun (ask.Look ticket) why = refl
+failed_begins (Theirs name) begun (ask.Enter sa) why = refl
+failed_begins (Theirs name) begun (ask.TakeOver asked member) why = refl
+failed_begins (Theirs name) begun (ask.Cover asked kind child epoch upto) why = refl
+failed_begins (Theirs name) begun (ask.Lease pool count) why = refl
+failed_begins (Theirs name) begun (ask.Settle ticket asked sa member) why = refl
+failed_begins (Theirs name) begun (ask.Look ticket) why = refl
 
 -- the counter of an association that begins under a name
 pub record IsBegun (name : CounterName) (sa : Record) (h : Holding) : Type 0 where
@@ -99,21 +105,21 @@ begun-spir name sa h is = ap (λ (n : CounterName). spir_of_origin n.origin) (be
 pub begun-first : (name : CounterName) (sa : Record) (h : Holding) → begun_named name sa ≡ Some h → IsFirstHolding h
 begun-first name sa h is = let it = begun-is name sa h is in subst (λ x. IsFirstHolding x) (sym it.is) (first-theirs sa it.counter)
 
-pub half-first : (sa : Record) → IsFirstHolding (half_begun sa)
-half-first sa = record { epoch = refl; rising = omega arith; from_base = omega arith; unused = refl }
+pub half-first : IsFirstHolding half_begun
+half-first = record { epoch = refl; rising = omega arith; from_base = omega arith; unused = refl }
 
 -- what gets half open at a place
-pub record IsOpened (p : Place) (sa : Record) (h : Holding) : Type 0 where
-  pub at : p ≡ Ours sa.spir counter.Iv
-  pub is : h ≡ half_begun sa
+pub record IsOpened (p : Place) (drawn : ℕ) (h : Holding) : Type 0 where
+  pub at : p ≡ Ours drawn counter.Iv
+  pub is : h ≡ half_begun
 
-pub opened-is : (p : Place) (sa : Record) (h : Holding) → begun_open p sa ≡ Some h → IsOpened p sa h
-opened-is (Theirs name) sa h is = absurd (cc)
-opened-is (Pooled q) sa h is = absurd (cc)
-opened-is (Ours spir c) sa h is = by_test (is_place (Ours sa.spir counter.Iv) (Ours spir c)) refl is
+pub opened-is : (p : Place) (drawn : ℕ) (h : Holding) → begun_open p drawn ≡ Some h → IsOpened p drawn h
+opened-is (Theirs name) drawn h is = absurd (cc)
+opened-is (Pooled q) drawn h is = absurd (cc)
+opened-is (Ours spir c) drawn h is = by_test (is_place (Ours drawn counter.Iv) (Ours spir c)) refl is
   where
-    by_test : (b : Bool) → is_place (Ours sa.spir counter.Iv) (Ours spir c) ≡ b → (if b then Some (half_begun sa) else None) ≡ Some h → IsOpened (Ours spir c) sa h
-    by_test true t is = record { at = sym (is_place-true (Ours sa.spir counter.Iv) (Ours spir c) t); is = sym (same_Some (half_begun sa) h is) }
+    by_test : (b : Bool) → is_place (Ours drawn counter.Iv) (Ours spir c) ≡ b → (if b then Some half_begun else None) ≡ Some h → IsOpened (Ours spir c) drawn h
+    by_test true t is = record { at = sym (is_place-true (Ours drawn counter.Iv) (Ours spir c) t); is = sym (same_Some half_begun h is) }
     by_test false t is = absurd (cc)
 
 -- no number of a list below a bound is one at or above it

@@ -12,7 +12,6 @@ use Rattle.keeper_book.specs.declared.counters.Counter.{Counter}
 use Rattle.keeper_book.specs.declared.records.Record.{Record}
 use Rattle.turn_laws.proofs.Books.{answers-entry}
 use Rattle.turn_laws.proofs.Entries.{entry-entered, entry_after}
-use Rattle.turn_laws.specs.Acts.{IsImport}
 use Rattle.turn_rules.specs.Held.{first_some}
 
 -- the record that the book has of an association
@@ -95,33 +94,30 @@ module _ (old : Book) where
         (λ has. records-after has.is spir ∙ kept-after asked spir r is)
         (answers-entry old new asked answered answers)
 
-  -- each record of the book is one that may be imported
-  abbrev pub AreImports : Book → Type 0
-  AreImports book = (spir : ℕ) (r : Record) → record_of book spir ≡ Some r → IsImport r
+  -- what each record of the book is it still is, where what a call adds is so
+  module _ (P : Record → Type 0) where
+    abbrev pub IsOfAdded : KeeperAsk → Type 0
+    IsOfAdded (ask.Enter sa) = P sa
+    IsOfAdded (ask.Settle ticket asked sa member) = P sa
+    IsOfAdded asked = Unit {0}
 
-  -- and still is, where what is entered may be
-  abbrev pub MayEnter : KeeperAsk → Type 0
-  MayEnter (ask.Enter sa) = IsImport sa
-  MayEnter (ask.Settle ticket asked sa member) = ⊥
-  MayEnter asked = Unit {0}
+    of-entered : (sa : Record) → P sa → (spir : ℕ) (r : Record) → (record_of old spir ≡ Some r → P r) → IsRecordOf sa spir r → P r
+    of-entered sa may spir r before (Was was) = before was
+    of-entered sa may spir r before (IsNow at same) = subst P same may
 
-  imports-after : (asked : KeeperAsk) → MayEnter asked → AreImports old → (spir : ℕ) (r : Record) → record_after spir asked (record_of old spir) ≡ Some r → IsImport r
-  imports-after (ask.Enter sa) may imports spir r is = go (entered-is sa spir r (record_of old spir) refl is)
-    where
-      go : IsRecordOf sa spir r → IsImport r
-      go (Was was) = imports spir r was
-      go (IsNow at same) = subst (λ x. IsImport x) same may
-  imports-after (ask.TakeOver asked member) may imports spir r is = imports spir r is
-  imports-after (ask.Cover asked kind child epoch upto) may imports spir r is = imports spir r is
-  imports-after (ask.Lease pool count) may imports spir r is = imports spir r is
-  imports-after (ask.Settle ticket asked sa member) may imports spir r is = absurd may
-  imports-after (ask.Look ticket) may imports spir r is = imports spir r is
+    of-after : (asked : KeeperAsk) → IsOfAdded asked → (spir : ℕ) (r : Record) → (record_of old spir ≡ Some r → P r) → record_after spir asked (record_of old spir) ≡ Some r → P r
+    of-after (ask.Enter sa) may spir r before is = of-entered sa may spir r before (entered-is sa spir r (record_of old spir) refl is)
+    of-after (ask.TakeOver asked member) may spir r before is = before is
+    of-after (ask.Cover asked kind child epoch upto) may spir r before is = before is
+    of-after (ask.Lease pool count) may spir r before is = before is
+    of-after (ask.Settle ticket asked sa member) may spir r before is = of-entered sa may spir r before (entered-is sa spir r (record_of old spir) refl is)
+    of-after (ask.Look ticket) may spir r before is = before is
 
-  pub imports-kept : (new : Book) (asked : KeeperAsk) (answered : KeeperAnswer) → Answers old asked answered new → MayEnter asked → AreImports old → AreImports new
-  imports-kept new asked answered answers may imports = ⊎_elim
-      (λ same. subst (λ (b : Book). AreImports b) (sym same) imports)
-      (λ has spir r is. imports-after asked may imports spir r (sym (records-after new asked answered answers has.is spir) ∙ is))
-      (answers-entry old new asked answered answers)
+    pub of-kept : (new : Book) (asked : KeeperAsk) (answered : KeeperAnswer) → Answers old asked answered new → (new ≡ book_entered old asked → IsOfAdded asked) → (spir : ℕ) (r : Record) → (record_of old spir ≡ Some r → P r) → record_of new spir ≡ Some r → P r
+    of-kept new asked answered answers may spir r before is = ⊎_elim
+        (λ same. before (sym (ap (λ (b : Book). record_of b spir) same) ∙ is))
+        (λ has. of-after asked (may has.is) spir r before (sym (records-after new asked answered answers has.is spir) ∙ is))
+        (answers-entry old new asked answered answers)
 
 -- the entry of a record
 pub entry-record : (x : Option Entry) (r : Record) → record_in x ≡ Some r → (e : Entry) × (x ≡ Some e) × (e.sa ≡ r)

@@ -1,14 +1,15 @@
 -- What the answer to a call shows of the book, and that every call keeps the numbers of each counter apart.
+use Rattle.turn_rules.specs.Held.{first_some}
 use Rattle.std.proofs.Common.{◌≡◌, ℕ, ◌+◌, ◌≤◌, ◌==◌, ◌⊎◌, inl, inr, min, max, not, Bool, true, false, Option, Some, None, List, [], ◌∷◌, length, map, ⊎_elim, refl, ap, sym, ◌∙◌, subst, arith, if◌then◌else◌}
 use Rattle.std.specs.Prelude.{nat_le}
 use Rattle.std.proofs.lemmas.Bool.{eqb-true, or_parts, eq-eqb}
 use Rattle.std.proofs.lemmas.List.{length-map}
 use Rattle.std.specs.List.{list_any}
 use Rattle.std.specs.Option.{option_map}
-use Rattle.keeper_book.specs.Book.{pool_next, Answers, Book, Entry, book_after, cover_refusal, enter_refusal, book_entered, entry_of, entry_raised, raised_at, refusal, shares_spi, takeover_answer, taken_over, unless_refused, when}
+use Rattle.keeper_book.specs.Book.{pool_next, Answers, Book, Entry, book_after, cover_refusal, enter_refusal, book_entered, entry_of, entry_raised, raised_at, refusal, shares_spi, takeover_answer, taken_over, unless_refused, when, settle_refusal, settled, is_spent, closed}
 use Rattle.keeper_book.specs.CounterEnds.{end_of}
 use Rattle.keeper_book.specs.Counters.{five_at}
-use Rattle.keeper_book.specs.declared.TheConstants.{MAX_ASSOCIATIONS}
+use Rattle.keeper_book.specs.declared.TheConstants.{MAX_ASSOCIATIONS, MAX_SPENT_TICKETS}
 use Rattle.keeper_book.specs.declared.calls.KeeperAnswer.{KeeperAnswer}
 use Rattle.keeper_book.specs.declared.calls.KeeperAnswer.TheVariants as answer
 use Rattle.keeper_book.specs.declared.calls.KeeperAsk.{KeeperAsk}
@@ -77,6 +78,21 @@ pub shows-done : (r : Option KeeperFault) → answer.Done ≡ unless_refused r a
 shows-done None is = refl
 shows-done (Some why) is = absurd (cc)
 
+-- what a settle that was granted shows
+settle-unshared : (sa : Record) (spent shared : Bool) (later : Option KeeperFault) → when spent fault.Spent (when shared fault.SpiInUse later) ≡ None → shared ≡ false
+settle-unshared sa true shared later none = absurd (cc)
+settle-unshared sa false true later none = absurd (cc)
+settle-unshared sa false false later none = refl
+
+-- what a lease that was granted shows
+pub record ShowsFirst (r : Option KeeperFault) (first next : ℕ) : Type 0 where
+  pub granted : r ≡ None
+  pub is_next : first ≡ next
+
+pub shows-first : (r : Option KeeperFault) (first next : ℕ) → answer.First first ≡ unless_refused r answer.Refused (answer.First next) → ShowsFirst r first next
+shows-first None first next is = record { granted = refl; is_next = cc }
+shows-first (Some why) first next is = absurd (cc)
+
 -- what a cover that was granted shows
 pub record ShowsCovered (x : Option Entry) (c : Option Counter) (epoch : ℕ) : Type 0 where
   pub entry : Entry
@@ -110,6 +126,10 @@ shows-entered sa es none = by_test (list_any (shares_spi sa) es) refl none
     by_test true t none = absurd (cc)
     by_test false t none = none-shared sa es t
 
+pub shows-settled : (ticket : ℕ) (sa : Record) (spent : List ℕ) (es : List Entry) → settle_refusal ticket sa spent es ≡ None → entry_of sa.spir es ≡ None
+shows-settled ticket sa spent es none = none-shared sa es
+    (settle-unshared sa (is_spent ticket spent) (list_any (shares_spi sa) es) (when (nat_le MAX_SPENT_TICKETS (length spent)) (fault.Full MAX_SPENT_TICKETS) (when (nat_le MAX_ASSOCIATIONS (length es)) (fault.Full MAX_ASSOCIATIONS) None)) none)
+
 -- the book has the entry where a call was granted
 pub after-granted : (old new : Book) (asked : KeeperAsk) → refusal old asked ≡ None → new ≡ book_after old asked → new ≡ book_entered old asked
 after-granted old new asked granted is = is ∙ ap (λ r. unless_refused r (λ why. old) (book_entered old asked)) granted
@@ -131,6 +151,23 @@ module _ (old new : Book) (begun : Column) where
           (subst (λ o. IsNew (column_ours c begun o) (column_ours c begun (Some (taken_over member shows.entry))) (holding_begun c taken)) (sym shows.found)
           (subst (λ t. IsNew (column_ours c begun (Some shows.entry)) (column_ours c begun (Some (taken_over member shows.entry))) (holding_begun c t)) (sym shows.is)
           (new-taken_over c member shows.entry)))
+
+  -- a settle that was granted adds its association
+  pub settled-in : (ticket asked : ℕ) (sa : Record) (member : ℕ) → Answers old (ask.Settle ticket asked sa member) answer.Done new → (entry_of sa.spir old.entries ≡ None) × (entry_of sa.spir new.entries ≡ Some (settled sa member))
+  settled-in ticket asked sa member a = (was, ap (λ (b : Book). entry_of sa.spir b.entries) (after-granted old new (ask.Settle ticket asked sa member) granted a.1) ∙ (entry-entered sa.spir old (ask.Settle ticket asked sa member) ∙ now))
+    where
+      granted : refusal old (ask.Settle ticket asked sa member) ≡ None
+      granted = shows-done (refusal old (ask.Settle ticket asked sa member)) a.0
+
+      was : entry_of sa.spir old.entries ≡ None
+      was = shows-settled ticket sa old.spent old.entries granted
+
+      by_test : (b : Bool) → first_some (if b then option_map closed None else None) (Some (settled sa member)) ≡ Some (settled sa member)
+      by_test true = refl
+      by_test false = refl
+
+      now : first_some (if asked == sa.spir then option_map closed (entry_of sa.spir old.entries) else entry_of sa.spir old.entries) (if sa.spir == sa.spir then Some (settled sa member) else None) ≡ Some (settled sa member)
+      now = let here : (sa.spir == sa.spir) ≡ true = eq-eqb sa.spir sa.spir refl in rw (here, was) (by_test (asked == sa.spir))
 
   -- a cover that was granted leaves no lower high
   pub keeps-covered : (spir : ℕ) (c : Counter) (asked : KeeperAsk) (named : Option Counter) (epoch upto : ℕ) → refusal old asked ≡ cover_refusal (entry_of spir old.entries) named epoch → named ≡ Some c → entry_after spir asked (entry_of spir old.entries) ≡ option_map (raised_at named upto) (entry_of spir old.entries) → upto ≤ (column (Ours spir c) begun old).end → answer.Done ≡ unless_refused (refusal old asked) answer.Refused answer.Done → new ≡ book_after old asked → upto ≤ column_mark (column (Ours spir c) begun new) epoch

@@ -1,5 +1,5 @@
 -- Columns that go on.
-use Rattle.std.proofs.Common.{◌≡◌, ℕ, zero, suc, ◌+◌, ◌<◌, ◌≤◌, List, [], ◌∷◌, ◌++◌, length, get_or, ⊎_elim, refl, sym, subst, arith}
+use Rattle.std.proofs.Common.{◌≡◌, ℕ, zero, suc, ◌+◌, ◌<◌, ◌≤◌, List, [], ◌∷◌, ◌++◌, length, get_or, ⊎_elim, refl, sym, subst, arith, ◌∙◌}
 use Rattle.std.proofs.lemmas.Bool.{cases_lt}
 use Rattle.std.proofs.lemmas.List.{get_or_past, get_or_default}
 use Rattle.turn_laws.specs.Columns.{Column, ColumnGoesOn, IsRising, column_mark, nothing}
@@ -36,6 +36,18 @@ goes_on-refl column rising = record {
   no_lower = let e : column_mark column (length column.bases) ≡ column.high = mark-high column (length column.bases) (omega arith) in omega arith;
   rising = rising;
   same_end = λ some. refl;
+}
+
+pub goes_on-trans : (old mid new : Column) → ColumnGoesOn old mid → ColumnGoesOn mid new → ColumnGoesOn old new
+goes_on-trans old mid new first then_ = record {
+  no_shorter = let a : length old.bases ≤ length mid.bases = first.no_shorter in let b : length mid.bases ≤ length new.bases = then_.no_shorter in omega arith;
+  same_bases = λ i l. then_.same_bases i (let a : length old.bases ≤ length mid.bases = first.no_shorter in omega (arith, l)) ∙ first.same_bases i l;
+  no_lower =
+      let a : old.high ≤ column_mark mid (length old.bases) = first.no_lower in
+      let b : column_mark mid (length old.bases) ≤ column_mark new (length old.bases) = mark-goes_on mid new then_ (length old.bases) first.no_shorter in
+      omega arith;
+  rising = then_.rising;
+  same_end = λ some. then_.same_end (let a : length old.bases ≤ length mid.bases = first.no_shorter in omega (arith, some)) ∙ first.same_end some;
 }
 
 -- a column with no epoch rises

@@ -1,5 +1,9 @@
 -- Calls that make a number ready are covers, and then come those that follow.
-use Rattle.std.proofs.Common.{◌≡◌, ℕ, Option, Some, None, MatchOption, List, [], ◌∷◌, ⊎_elim}
+use Rattle.turn_laws.specs.Holdings.{Holding}
+use Rattle.events.specs.declared.turn.Step.{Step}
+use Rattle.events.specs.declared.event.Event.{Event}
+use Rattle.keeper_book.specs.declared.pools.Pool.{Pool}
+use Rattle.std.proofs.Common.{◌≡◌, ℕ, Option, Some, None, MatchOption, List, [], ◌∷◌, ⊎_elim, subst, sym, ◌⊎◌, map}
 use Rattle.std.proofs.lemmas.Bool.{cases_lt}
 use Rattle.horizons.specs.Reaches.{Reach, cover_of}
 use Rattle.horizons.specs.Ready.{Answered, Covers, Ready}
@@ -13,7 +17,7 @@ use Rattle.keeper_book.specs.declared.calls.KeeperAnswer.TheVariants as answer
 use Rattle.keeper_book.specs.declared.calls.KeeperAsk.TheVariants as ask
 use Rattle.events.specs.declared.turn.Turn.{Turn}
 use Rattle.ha_base.specs.declared.counter_names.Kind.{Kind}
-use Rattle.turn_laws.proofs.Deeds.{AreReady, Last, Need}
+use Rattle.turn_laws.proofs.Deeds.{AreReady, Last, Need, LotNeed, MemberUses, Rests, IsLotReady, Left, lots_of, Leased, InVain, UsesIt, spent_by, with_lot}
 use Rattle.turn_rules.specs.Draws.{reach_of}
 
 -- what holds of the calls of such a turn
@@ -78,14 +82,37 @@ pub record IsCover (call : Call) : Type 0 where
   pub asked : call.asked ≡ ask.Cover spir kind child epoch upto
 
 -- what holds of the calls of a turn in which several numbers get ready
-module _ {past : List Turn} {member : ℕ} (R : List Call → Type 0) (stops goes : Type 0)
+module _ {past : List Turn} {member : ℕ} (R : List Call → Type 0) (stops : Type 0) (goes : List Call → Type 0)
     (step : (call : Call) (rest : List Call) → IsCover call → R rest → R (call ∷ rest))
     (stopped : (rest : List Call) → Last rest stops → R rest)
-    (gone : (rest : List Call) → Last rest goes → R rest) where
+    (gone : (rest : List Call) → goes rest → R rest) where
   pub are_ready-calls : (needs : List (Need past member)) (calls : List Call) → AreReady needs calls stops goes → R calls
-  are_ready-calls [] calls last = gone calls last
+  are_ready-calls [] calls so = gone calls so
   are_ready-calls (need ∷ needs) calls ready = ready-calls R (reach_of need.held need.c) need.number (λ why rest. Last rest stops) (λ high rest. AreReady needs rest stops goes)
       (λ call rest asked more. step call rest (record { spir = _; kind = _; child = _; epoch = _; upto = _; asked = asked }) more)
       (λ why rest last. stopped rest last)
       (λ high rest more. are_ready-calls needs rest more)
       calls ready
+
+-- a call that asks for a range of a pool
+pub record IsLease (call : Call) : Type 0 where
+  pub pool : Pool
+  pub count : ℕ
+  pub asked : call.asked ≡ ask.Lease pool count
+
+-- what holds of the calls of a turn in which a member uses numbers
+module _ (R : List Call → Type 0)
+    (covers : (call : Call) (rest : List Call) → IsCover call → R rest → R (call ∷ rest))
+    (leases : (call : Call) → IsLease call → R (call ∷ []))
+    (none : R []) where
+  lot-calls : (lot : Option LotNeed) (held : Pool → Option Holding) (without goes : Type 0) (calls : List Call) → IsLotReady lot held calls without goes → R calls
+  lot-calls None held without goes calls last = subst R (sym last.ended) none
+  lot-calls (Some need) held without goes calls (Left h holds below is ended so) = subst R (sym ended) none
+  lot-calls (Some need) held without goes calls (Leased call one asked sees so) = subst R (sym one) (leases call (record { pool = need.pool; count = need.count; asked = asked }))
+  lot-calls (Some need) held without goes calls (InVain call why one asked sees so) = subst R (sym one) (leases call (record { pool = need.pool; count = need.count; asked = asked }))
+
+  pub used-calls : {past : List Turn} {event : Event} {step : Step} (calls : List Call) → MemberUses past event calls step → R calls
+  used-calls {past} {event} {step} calls u = are_ready-calls R (Rests step) _ covers
+      (λ rest last. subst R (sym last.ended) none)
+      (λ rest so. lot-calls u.lot (lots_of past u.member) (Rests step ⊎ UsesIt (map spent_by u.needs) event step) (UsesIt (with_lot u.lot (map spent_by u.needs)) event step) rest so)
+      u.needs calls u.ready

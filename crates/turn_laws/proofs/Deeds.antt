@@ -1,5 +1,10 @@
--- What a turn may be: it makes no call or one, a member ends, or a number of a member or of the peer is used.
-use Rattle.std.proofs.Common.{[], ◌++◌, ◌<◌, ◌∷◌, ◌≡◌, Bool, List, None, Option, Some, map, option_to_list, subst, sym, ℕ}
+-- What a turn may be: it makes no call or one, a member ends, or numbers of a member or of the peer are used.
+use Rattle.keeper_book.specs.declared.faults.KeeperFault.{KeeperFault}
+use Rattle.keeper_book.specs.declared.calls.KeeperAnswer.TheVariants as answer
+use Rattle.keeper_book.specs.declared.calls.KeeperAsk.TheVariants as ask
+use Rattle.keeper_book.specs.declared.pools.Pool.{Pool}
+use Rattle.std.specs.List.{AllByRecursion}
+use Rattle.std.proofs.Common.{[], ◌++◌, ◌<◌, ◌∷◌, ◌≡◌, Bool, List, None, Option, Some, map, option_to_list, subst, sym, ℕ, ◌⊎◌, ◌≤◌}
 use Rattle.events.specs.declared.event.Event.{Event}
 use Rattle.events.specs.declared.turn.Step.{Step}
 use Rattle.events.specs.declared.turn.Turn.{Turn}
@@ -16,11 +21,11 @@ use Rattle.keeper_book.specs.declared.counters.Counter.TheVariants as counter
 use Rattle.keeper_book.specs.declared.records.Taken.{Taken}
 use Rattle.replay_set.specs.Window.{judged}
 use Rattle.replay_set.specs.declared.judgement.Judgement.TheVariants.{Fresh}
-use Rattle.turn_laws.proofs.Uses.{AreElsewhere, AreUses, Spent, number_at, spent_at, spent_of}
-use Rattle.turn_laws.specs.Acts.{Act, IsUnstarted, MayAsk, Move, Seals, entered_as}
-use Rattle.turn_laws.specs.Holdings.{Actor}
-use Rattle.turn_laws.specs.Places.{Ours, Place, Theirs, place_of}
-use Rattle.turn_laws.specs.Turns.{key_iv, number_taken, uses_of}
+use Rattle.turn_laws.proofs.Uses.{AreElsewhere, AreUses, Spent, number_at, spent_at, spent_of, IsAmong}
+use Rattle.turn_laws.specs.Acts.{Act, IsUnstarted, MayAsk, Move, Seals, entered_as, settled_as, holding_at}
+use Rattle.turn_laws.specs.Holdings.{Actor, Holding, End}
+use Rattle.turn_laws.specs.Places.{Ours, Place, Theirs, place_of, Pooled}
+use Rattle.turn_laws.specs.Turns.{key_iv, number_taken, uses_of, acts_of}
 use Rattle.turn_rules.specs.Draws.{reach_of}
 use Rattle.turn_rules.specs.Ends.{Member, Peer, own, performer_at}
 use Rattle.turn_rules.specs.Held.{Held, granted, held_by, received, used, window_by}
@@ -34,6 +39,7 @@ use Rattle.turn_rules.specs.Steps.{IsQuiet, Says}
 abbrev pub IsIdle : Verdict → Type 0
 IsIdle (out.Number n) = ⊥
 IsIdle (out.Sent n) = ⊥
+IsIdle (out.Asked id) = ⊥
 IsIdle (out.Accepted name n next_header payload) = ⊥
 IsIdle out.Down = ⊥
 IsIdle verdict = Unit {0}
@@ -43,13 +49,13 @@ abbrev pub rest_of : Event → Step → List Move
 rest_of event step = uses_of event step.verdict ++ map (λ seal. Seals (key_iv seal)) step.seals
 
 -- the number of the peer's counter of the association that an event used
-abbrev pub number_theirs : ℕ → Counter → Event → Verdict → Option ℕ
-number_theirs spir counter.EspOut event verdict = sent spir event verdict
-number_theirs spir counter.EspIn event verdict = received spir event verdict
-number_theirs spir c event verdict = None
+abbrev pub number_theirs : ℕ → Counter → Event → Step → Option ℕ
+number_theirs spir counter.EspOut event step = sent spir event step
+number_theirs spir counter.EspIn event step = received spir event step.verdict
+number_theirs spir c event step = None
 
 abbrev pub number_theirs_of : ℕ → Counter → Turn → Option ℕ
-number_theirs_of spir c turn = number_theirs spir c turn.event turn.step.verdict
+number_theirs_of spir c turn = number_theirs spir c turn.event turn.step
 
 -- no association was begun by a resumption
 abbrev pub NoneStarted : List Act → Type 0
@@ -87,14 +93,16 @@ pub record Spends (place : Place) (n : ℕ) (event : Event) (step : Step) : Type
 -- a number of the association is used, and own turns tell it
 pub record UsesOne (spir : ℕ) (c : Counter) (n : ℕ) (event : Event) (step : Step) : Type 0 where
   pub spends : Spends (Ours spir c) n event step
-  pub told : (other : ℕ) (d : Counter) → number_taken other d event step.verdict ≡ number_at (Ours other d) (Ours spir c) n
+  pub told : (other : ℕ) (d : Counter) → number_taken other d event step ≡ number_at (Ours other d) (Ours spir c) n
 
--- Numbers of different counters are used, and own turns tell them. A packet that was received is of the association's counter.
-pub record UsesIt (ss : List Spent) (event : Event) (step : Step) : Type 0 where
+-- Numbers of different places are used that were needed, in some order, and own turns tell them. A packet that was received is of the association's counter.
+pub record UsesIt (needed : List Spent) (event : Event) (step : Step) : Type 0 where
+  pub ss : List Spent
+  pub were_needed : AllByRecursion (λ s. IsAmong s needed) ss
   pub served : step.served ≡ None
   pub uses_them : AreUses ss (rest_of event step)
   pub apart : AreElsewhere ss
-  pub told : (other : ℕ) (d : Counter) → spent_at (Ours other d) ss ≡ option_to_list (number_taken other d event step.verdict)
+  pub told : (other : ℕ) (d : Counter) → spent_at (Ours other d) ss ≡ option_to_list (number_taken other d event step)
   pub not_theirs : (name : CounterName) → spent_at (Theirs name) ss ≡ []
   pub named : (packet : Packet) → accepted_as step.verdict ≡ Some packet → (other n : ℕ) → received other event step.verdict ≡ Some n → place_of packet.name ≡ Ours other counter.EspIn
 
@@ -115,32 +123,82 @@ pub record Last (rest : List Call) (so : Type 0) : Type 0 where
   pub is : so
 
 -- the numbers get ready one after another, up to the first that does not, and then the turn ends
-abbrev pub AreReady : {past : List Turn} {member : ℕ} → List (Need past member) → List Call → Type 0 → Type 0 → Type 0
-AreReady [] calls stops goes = Last calls goes
+abbrev pub AreReady : {past : List Turn} {member : ℕ} → List (Need past member) → List Call → Type 0 → (List Call → Type 0) → Type 0
+AreReady [] calls stops goes = goes calls
 AreReady (need ∷ needs) calls stops goes = Ready (reach_of need.held need.c) need.number calls
     (λ why rest. Last rest stops)
     (λ high rest. AreReady needs rest stops goes)
 
--- a member that holds associations uses numbers of them, once all are ready
+-- a number of a pool that a member needs, and how many it leases where it has none left
+pub record LotNeed : Type 0 where
+  pub pool : Pool
+  pub number : ℕ
+  pub count : ℕ
+  pub some : 1 ≤ count
+
+-- It is the next one of the lot that is held, or the first of a range that is leased, and then the turn ends. A lease that was refused may leave the turn without it.
+pub data LotReady (held : Option Holding) (need : LotNeed) (calls : List Call) (without goes : Type 0) : Type 0 where
+  Left : (h : Holding) → held ≡ Some h → h.next < h.high → need.number ≡ h.next → calls ≡ [] → goes → LotReady held need calls without goes
+  Leased : (call : Call) → calls ≡ call ∷ [] → call.asked ≡ ask.Lease need.pool need.count → seen call ≡ answer.First need.number → goes → LotReady held need calls without goes
+  InVain : (call : Call) (why : KeeperFault) → calls ≡ call ∷ [] → call.asked ≡ ask.Lease need.pool need.count → seen call ≡ answer.Refused why → without → LotReady held need calls without goes
+
+-- where a number of a pool is needed, it gets ready behind the others
+abbrev pub IsLotReady : Option LotNeed → (Pool → Option Holding) → List Call → Type 0 → Type 0 → Type 0
+IsLotReady None held calls without goes = Last calls goes
+IsLotReady (Some need) held calls without goes = LotReady (held need.pool) need calls without goes
+
+abbrev pub with_lot : Option LotNeed → List Spent → List Spent
+with_lot None ss = ss
+with_lot (Some need) ss = spent_of (Pooled need.pool) need.number ∷ ss
+
+-- the lots that a member holds before the turn
+abbrev pub lots_of : List Turn → ℕ → Pool → Option Holding
+lots_of past member pool = holding_at (Pooled pool) (acts_of past) (End (Member member))
+
+-- A member that holds associations uses numbers of them, and of a pool, once all are ready.
 pub record MemberUses (past : List Turn) (event : Event) (calls : List Call) (step : Step) : Type 0 where
   pub member : ℕ
   pub needs : List (Need past member)
+  pub lot : Option LotNeed
   pub by_it : performer_at event step.verdict ≡ Some (Member member)
-  pub ready : AreReady needs calls (Rests step) (UsesIt (map spent_by needs) event step)
+  pub ready : AreReady needs calls (Rests step) (λ rest. IsLotReady lot (lots_of past member) rest
+      (Rests step ⊎ UsesIt (map spent_by needs) event step)
+      (UsesIt (with_lot lot (map spent_by needs)) event step))
 
--- the peer uses a number of an association
-pub record PeerUses (past : List Turn) (event : Event) (calls : List Call) (step : Step) : Type 0 where
+-- a number that the peer needs, of the first of its associations that passes a test
+pub record PeerNeed (past : List Turn) : Type 0 where
   pub test : Slot → Bool
   pub slot : Slot
   pub c : Counter
   pub number : ℕ
-  pub by_it : performer_at event step.verdict ≡ Some Peer
   pub is_first : first_slot test (slots_by (window_by past) (own Peer past)) ≡ Some slot
   pub is_open : IsOpenTo slot c number
+
+abbrev pub spent_theirs : {past : List Turn} → PeerNeed past → Spent
+spent_theirs need = spent_of (Theirs (peer_counter need.slot.sa need.c)) need.number
+
+-- the same by the responder's SPI
+abbrev pub spent_by_spir : {past : List Turn} → PeerNeed past → Spent
+spent_by_spir need = spent_of (Ours need.slot.sa.spir need.c) need.number
+
+-- a packet is of one of these associations, the one with this responder's SPI
+abbrev pub IsOfOne : {past : List Turn} → Packet → ℕ → List (PeerNeed past) → Type 0
+IsOfOne packet spir [] = ⊥
+IsOfOne packet spir (need ∷ needs) =
+    ((need.slot.sa.spir ≡ spir) × (place_of packet.name ≡ Theirs (peer_counter need.slot.sa counter.EspIn)))
+    ⊎ IsOfOne packet spir needs
+
+-- The peer uses numbers of different counters, and own turns tell them. A packet that was received is of the association's counter.
+pub record PeerUses (past : List Turn) (event : Event) (calls : List Call) (step : Step) : Type 0 where
+  pub needs : List (PeerNeed past)
+  pub by_it : performer_at event step.verdict ≡ Some Peer
   pub no_calls : calls ≡ []
-  pub spends : Spends (Theirs (peer_counter slot.sa c)) number event step
-  pub not_ours : (spir : ℕ) (d : Counter) → used spir d event step.verdict ≡ None
-  pub told : (other : ℕ) (d : Counter) → number_theirs other d event step.verdict ≡ number_at (Ours other d) (Ours slot.sa.spir c) number
+  pub served : step.served ≡ None
+  pub uses_them : AreUses (map spent_theirs needs) (rest_of event step)
+  pub apart : AreElsewhere (map spent_theirs needs)
+  pub not_ours : (spir : ℕ) (d : Counter) → used spir d event step ≡ None
+  pub told : (other : ℕ) (d : Counter) → spent_at (Ours other d) (map spent_by_spir needs) ≡ option_to_list (number_theirs other d event step)
+  pub named : (packet : Packet) → accepted_as step.verdict ≡ Some packet → (other n : ℕ) → received other event step.verdict ≡ Some n → IsOfOne packet other needs
   pub no_entry : record_entered event step.verdict ≡ None
 
 -- one call is made that asks for no number
@@ -149,6 +207,7 @@ pub record Asks (event : Event) (calls : List Call) (step : Step) : Type 0 where
   pub one : calls ≡ call ∷ []
   pub may : (acts : List Act) (w : Actor) → NoneStarted acts → MayAsk acts w call.asked
   pub own_record : HasItsRecord call
+  pub unsettled : (spir : ℕ) → settled_as spir call.asked (seen call) ≡ None
   pub entry : entered_as call.asked (seen call) ≡ record_entered event step.verdict
   pub rests : Rests step
 

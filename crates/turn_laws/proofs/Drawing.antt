@@ -4,6 +4,7 @@ use Rattle.events.specs.declared.event.Event.TheVariants as event
 use Rattle.events.specs.declared.turn.Step.{Step}
 use Rattle.events.specs.declared.turn.Turn.{Turn}
 use Rattle.events.specs.declared.verdict.Verdict.TheVariants as out
+use Rattle.ha_base.specs.declared.counter_names.End.TheVariants as end
 use Rattle.horizons.specs.declared.stop.Stop.{Stop}
 use Rattle.keeper_book.specs.Counters.{five_at}
 use Rattle.keeper_book.specs.declared.calls.Call.{Call}
@@ -22,16 +23,18 @@ use Rattle.turn_rules.proofs.Refusals.{stop-own}
 use Rattle.turn_rules.specs.Draws.{Concludes, Draws, reach_of, refusal_of_stop}
 use Rattle.turn_rules.specs.Ends.{Member, is_refused_by_run, own}
 use Rattle.turn_rules.specs.Fits.{Quietly}
-use Rattle.turn_rules.specs.Held.{Held, held_by, window_by}
+use Rattle.turn_rules.specs.Held.{Held, held_by, iv_in, said_in, window_by}
 use Rattle.turn_rules.specs.Safe.{Packet, accepted_as}
+use Rattle.turn_rules.specs.Steps.{IsQuiet}
+use Rattle.turn_rules.specs.Tasks as task
 
 -- a number that was drawn
-drawn-told : (member spir n other : ℕ) (d : Counter) → number_taken other d (event.Draw member spir) (out.Number n) ≡ number_at (Ours other d) (Ours spir counter.EspOut) n
-drawn-told member spir n other counter.EspOut = number-passed (spir == other) n
-drawn-told member spir n other counter.EspIn = number-failed (spir == other) n
-drawn-told member spir n other counter.Iv = number-failed (spir == other) n
-drawn-told member spir n other counter.Ask = number-failed (spir == other) n
-drawn-told member spir n other counter.Answer = number-failed (spir == other) n
+drawn-told : (member spir n other : ℕ) (d : Counter) (step : Step) → step.verdict ≡ out.Number n → IsQuiet step → number_taken other d (event.Draw member spir) step ≡ number_at (Ours other d) (Ours spir counter.EspOut) n
+drawn-told member spir n other counter.EspOut step said quiet = ap (said_in other counter.EspOut (task.Draw spir)) said ∙ number-passed (spir == other) n
+drawn-told member spir n other counter.EspIn step said quiet = number-failed (spir == other) n
+drawn-told member spir n other counter.Iv step said quiet = ap (iv_in end.Cluster other) quiet.seals ∙ number-failed (spir == other) n
+drawn-told member spir n other counter.Ask step said quiet = number-failed (spir == other) n
+drawn-told member spir n other counter.Answer step said quiet = number-failed (spir == other) n
 
 -- a draw, by what the member holds
 module _ (past : List Turn) (step : Step) (member spir : ℕ) (held : Held) (own_spir : held.sa.spir ≡ spir)
@@ -65,7 +68,7 @@ module _ (past : List Turn) (step : Step) (member spir : ℕ) (held : Held) (own
   draw-uses : step.verdict ≡ out.Number next → UsesOne spir counter.EspOut next (event.Draw member spir) step
   draw-uses said = record {
     spends = draw-spends said;
-    told = λ other d. ap (number_taken other d (event.Draw member spir)) said ∙ drawn-told member spir next other d;
+    told = λ other d. drawn-told member spir next other d step said quietly.quiet;
   }
 
   pub draws-deed : Deed past (event.Draw member spir) calls step

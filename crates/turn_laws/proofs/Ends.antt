@@ -1,5 +1,5 @@
 -- No number reaches the end of its counter, whatever the keeper's book is.
-use Rattle.std.proofs.Common.{◌≡◌, ℕ, ◌+◌, length, ◌<◌, ◌≤◌, ◌==◌, ◌&&◌, Bool, true, false, Option, Some, None, MatchOption, List, [], ◌∷◌, ◌++◌, map, refl, ap, sym, ◌∙◌, subst, arith, if◌then◌else◌}
+use Rattle.std.proofs.Common.{◌≡◌, ℕ, length, ◌<◌, ◌≤◌, ◌==◌, ◌&&◌, Bool, true, false, Option, Some, None, MatchOption, List, [], ◌∷◌, ◌++◌, map, refl, ap, sym, ◌∙◌, subst, arith, if◌then◌else◌}
 use Rattle.std.proofs.lemmas.Bool.{and_parts, eqb-true}
 use Rattle.std.proofs.lemmas.Option.{same_Some}
 use Rattle.std.specs.List.{AllByRecursion, filter_map}
@@ -7,10 +7,9 @@ use Rattle.std.specs.Option.{option_map}
 use Rattle.events.specs.declared.seals.Seal.{Seal}
 use Rattle.events.specs.declared.turn.Turn.{Turn}
 use Rattle.ha_base.specs.declared.counter_names.CounterName.{CounterName}
-use Rattle.keeper_book.specs.Book.{Book}
+use Rattle.keeper_book.specs.Book.{Book, settled_highs}
 use Rattle.keeper_book.specs.CounterEnds.{end_of}
 use Rattle.keeper_book.specs.Counters.{AreWithinEnds, counter_named, five_at}
-use Rattle.keeper_book.specs.Pools.{pool_end}
 use Rattle.keeper_book.specs.Told.{AreAnswers, IsAnswerOf, seen}
 use Rattle.keeper_book.specs.declared.calls.Call.{Call}
 use Rattle.keeper_book.specs.declared.calls.KeeperAnswer.{KeeperAnswer}
@@ -32,8 +31,7 @@ use Rattle.turn_rules.proofs.SlotTies.{all-weaker}
 use Rattle.turn_laws.proofs.Moves.{IsUseOrEnd, are-uses}
 use Rattle.turn_laws.proofs.Numbers.{counters-hold}
 use Rattle.turn_laws.proofs.Begun.{begun-is, failed_effect, is_place-true, named-counter, opened-is}
-use Rattle.turn_laws.specs.Acts.{Act, Calls, Ends, HoldsFor, Leaps, Leases, MayAsk, MayCover, MayDo, Move, Opens, Seals, Starts, Uses, act_by, begun_at, begun_leased, begun_named, begun_open, begun_started, effect_begun, effect_of, effect_of_call, effect_of_open, effect_of_use, effect_ours, end_at, half_begun, holding_at, lot_begun, numbers_at, uses_at}
-use Rattle.turn_laws.specs.Columns.{Column}
+use Rattle.turn_laws.specs.Acts.{Act, Calls, Ends, HoldsFor, Leaps, MayAsk, MayCover, MayDo, Move, Opens, Seals, Starts, Uses, act_by, begun_at, begun_named, begun_open, begun_started, effect_begun, effect_of, effect_of_call, effect_of_open, effect_of_use, effect_ours, end_at, half_begun, holding_at, lot_begun, numbers_at, uses_at, lot_of, effect_settled, effect_of_ours}
 use Rattle.turn_laws.specs.Holdings.{Passes, Actor, Begins, Draws, Effect, Half, Holding, Jumps, Nothing, Rises, Use, drawn, holding_after, is_actor, jumped_to, raised_to, use_end, uses_after}
 use Rattle.turn_laws.specs.Places.{Pooled, is_pool, Ours, Place, Theirs, is_place, place_of}
 use Rattle.turn_laws.specs.Turns.{actor_of, acts_of, key_iv, moves_of, uses_of}
@@ -123,8 +121,25 @@ bases-within taken counter.Answer within = within.answer
 within-named : (name : CounterName) (sa : Record) (h : Holding) → begun_named name sa ≡ Some h → h.high ≤ h.end
 within-named name sa h is = subst (λ (x : Holding). x.high ≤ x.end) (sym (begun-is name sa h is).is) (omega arith)
 
-half-within : (sa : Record) → (half_begun sa).high ≤ (half_begun sa).end
-half-within sa = omega arith
+half-within : half_begun.high ≤ half_begun.end
+half-within = omega arith
+
+-- where an association that is settled ends
+settled-within : (sa : Record) (c : Counter) → five_at (settled_highs sa.starts) c ≤ end_of sa c
+settled-within sa counter.EspOut = sa.starts_within.esp_out
+settled-within sa counter.EspIn = sa.starts_within.esp_in
+settled-within sa counter.Iv = let a : sa.starts.iv ≤ end_of sa counter.Iv = sa.starts_within.iv in omega arith
+settled-within sa counter.Ask = sa.starts_within.ask
+settled-within sa counter.Answer = let a : sa.starts.answer ≤ end_of sa counter.Answer = sa.starts_within.answer in omega arith
+
+-- a lot ends where its pool does, or before
+within-lot : (q : Pool) (before : ℕ) (asked : KeeperAsk) (answered : KeeperAnswer) → IsAnswerOf asked answered → (h : Holding) → lot_of q before asked answered ≡ Some h → h.high ≤ h.end
+within-lot q before (ask.Lease pool count) (answer.First first) is h lot = by_test (is_pool pool q) lot
+  where
+    by_test : (b : Bool) → (if b then Some (lot_begun before pool first count) else None) ≡ Some h → h.high ≤ h.end
+    by_test true lot = subst (λ (x : Holding). x.high ≤ x.end) (same_Some (lot_begun before pool first count) h lot) is.ends
+    by_test false lot = absurd (cc)
+within-lot q before asked answered is h lot = absurd (cc)
 
 module _ (acts : List Act) (w : Actor) where
   -- what begins does not pass the end
@@ -132,7 +147,7 @@ module _ (acts : List Act) (w : Actor) where
   ends-begun p v None within = tt
   ends-begun p v (Some h) within = within h refl
 
-  ends-answered : (p : Place) (asked : KeeperAsk) (answered : KeeperAnswer) → MayAsk acts w asked → IsAnswerOf asked answered → KeepsEnds (effect_of_call p w asked answered) (holding_at p acts)
+  ends-answered : (p : Place) (asked : KeeperAsk) (answered : KeeperAnswer) → MayAsk acts w asked → IsAnswerOf asked answered → KeepsEnds (effect_of_call p (begun_at p acts) w asked answered) (holding_at p acts)
   ends-answered (Ours spir c) (ask.TakeOver asked member) (answer.Taken taken) may is = by_test (asked == spir)
     where
       by_test : (b : Bool) → KeepsEnds (effect_ours w c (if b then Some taken else None) None) (holding_at (Ours spir c) acts)
@@ -151,14 +166,27 @@ module _ (acts : List Act) (w : Actor) where
       by_test : (b : Bool) → ((asked == spir) && is_named c (counter_named kind child)) ≡ b → KeepsEnds (effect_ours w c None (if b then Some upto else None)) (holding_at (Ours spir c) acts)
       by_test true t = covers t
       by_test false t = tt
+  ends-answered (Ours spir c) (ask.Settle ticket asked sa member) answer.Done may is = by_test (sa.spir == spir)
+    where
+      settles : (d : Counter) → KeepsEnds (effect_settled w d sa) (holding_at (Ours spir c) acts)
+      settles counter.Iv = tt
+      settles counter.EspOut = settled-within sa counter.EspOut
+      settles counter.EspIn = settled-within sa counter.EspIn
+      settles counter.Ask = settled-within sa counter.Ask
+      settles counter.Answer = settled-within sa counter.Answer
+
+      by_test : (b : Bool) → KeepsEnds (effect_of_ours w c (if b then Some sa else None) None None) (holding_at (Ours spir c) acts)
+      by_test true = settles c
+      by_test false = tt
+  ends-answered (Pooled q) asked answered may is = ends-begun (Pooled q) w (lot_of q (length (begun_at (Pooled q) acts).bases) asked answered) (within-lot q (length (begun_at (Pooled q) acts).bases) asked answered is)
   ends-answered (Theirs name) (ask.Enter sa) answer.Done may is = ends-begun (Theirs name) w (begun_named name sa) (within-named name sa)
   ends-answered p asked answered may is = tt
 
-  ends-call : (p : Place) (call : Call) → MayAsk acts w call.asked → IsAnswerOf call.asked call.answer → KeepsEnds (effect_of_call p w call.asked (seen call)) (holding_at p acts)
+  ends-call : (p : Place) (call : Call) → MayAsk acts w call.asked → IsAnswerOf call.asked call.answer → KeepsEnds (effect_of_call p (begun_at p acts) w call.asked (seen call)) (holding_at p acts)
   ends-call p call may is = by_test call.hidden refl
     where
-      by_test : (b : Bool) → call.hidden ≡ b → KeepsEnds (effect_of_call p w call.asked (seen call)) (holding_at p acts)
-      by_test true t = rw t (subst (λ e. KeepsEnds e (holding_at p acts)) (failed_effect w p call.asked fault.Failed) tt)
+      by_test : (b : Bool) → call.hidden ≡ b → KeepsEnds (effect_of_call p (begun_at p acts) w call.asked (seen call)) (holding_at p acts)
+      by_test true t = rw t (subst (λ e. KeepsEnds e (holding_at p acts)) (failed_effect w p (begun_at p acts) call.asked fault.Failed) tt)
       by_test false t = rw t (ends-answered p call.asked call.answer may is)
 
   ends-use : (p q : Place) (n : ℕ) → HoldsFor (holding_at q acts w) n → KeepsEnds (effect_of_use p q w n) (holding_at p acts)
@@ -177,33 +205,22 @@ module _ (acts : List Act) (w : Actor) where
       by_test true = tt
       by_test false = tt
 
-  within-leased : (p : Place) (begun : Column) (pool : Pool) (first count : ℕ) (seen : Bool) → first + count ≤ pool_end pool → (h : Holding) → begun_leased p begun pool first count seen ≡ Some h → h.high ≤ h.end
-  within-leased (Ours spir c) begun pool first count seen below h is = absurd (cc)
-  within-leased (Theirs name) begun pool first count seen below h is = absurd (cc)
-  within-leased (Pooled q) begun pool first count false below h is = absurd (cc)
-  within-leased (Pooled q) begun pool first count true below h is = by_test (is_pool pool q) is
-    where
-      by_test : (b : Bool) → (if b then Some (lot_begun (length begun.bases) pool first count) else None) ≡ Some h → h.high ≤ h.end
-      by_test true is = subst (λ (x : Holding). x.high ≤ x.end) (same_Some (lot_begun (length begun.bases) pool first count) h is) below
-      by_test false is = absurd (cc)
-
   within-started : (p : Place) (sa : Record) (h : Holding) → begun_started p sa ≡ Some h → h.high ≤ h.end
   within-started (Ours spir c) sa h is = absurd (cc)
   within-started (Pooled q) sa h is = absurd (cc)
   within-started (Theirs name) sa h is = within-named name sa h is
 
-  ends-open : (p : Place) (sa : Record) → HoldsFor (holding_at (Pooled pools.Nonce) acts w) sa.spir → KeepsEnds (effect_of_open p w sa) (holding_at p acts)
-  ends-open (Pooled q) sa may = ends-use (Pooled q) (Pooled pools.Nonce) sa.spir may
-  ends-open (Theirs name) sa may = tt
-  ends-open (Ours spir c) sa may = ends-begun (Ours spir c) (Half sa.spir) (begun_open (Ours spir c) sa) (λ h is. subst (λ (x : Holding). x.high ≤ x.end) (sym (opened-is (Ours spir c) sa h is).is) (half-within sa))
+  ends-open : (p : Place) (drawn : ℕ) → HoldsFor (holding_at (Pooled pools.Nonce) acts w) drawn → KeepsEnds (effect_of_open p w drawn) (holding_at p acts)
+  ends-open (Pooled q) drawn may = ends-use (Pooled q) (Pooled pools.Nonce) drawn may
+  ends-open (Theirs name) drawn may = tt
+  ends-open (Ours spir c) drawn may = ends-begun (Ours spir c) (Half drawn) (begun_open (Ours spir c) drawn) (λ h is. subst (λ (x : Holding). x.high ≤ x.end) (sym (opened-is (Ours spir c) drawn h is).is) half-within)
 
   ends-move : (p : Place) (move : Move) → MayDo acts w move → IsAnswered move → KeepsEnds (effect_of p (begun_at p acts) w move) (holding_at p acts)
   ends-move p (Calls call) may is = ends-call p call may is
   ends-move p (Uses q n) may is = ends-use p q n may
   ends-move p (Seals key) may is = ends-use p (place_of key.name) key.iv may
-  ends-move p (Leases pool first count seen) may is = ends-begun p w (begun_leased p (begun_at p acts) pool first count seen) (within-leased p (begun_at p acts) pool first count seen may)
   ends-move p (Leaps q n) may is = ends-leap p q n
-  ends-move p (Opens sa) may is = ends-open p sa may
+  ends-move p (Opens ticket made) may is = ends-open p made.spir may
   ends-move p (Starts sa) may is = ends-begun p w (begun_started p sa) (within-started p sa)
   ends-move p Ends may is = tt
 
@@ -230,9 +247,8 @@ use-answered : (move : Move) → IsUseOrEnd move → IsAnswered move
 use-answered (Calls call) is = absurd is
 use-answered (Uses place n) is = tt
 use-answered (Seals key) is = tt
-use-answered (Leases pool first count seen) is = absurd is
 use-answered (Leaps place n) is = absurd is
-use-answered (Opens sa) is = absurd is
+use-answered (Opens ticket made) is = absurd is
 use-answered (Starts sa) is = absurd is
 use-answered Ends is = tt
 

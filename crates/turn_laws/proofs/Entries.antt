@@ -1,10 +1,12 @@
 -- What a call that is not refused makes of an association, and of the numbers of its counters.
+use Rattle.turn_laws.specs.Owned.{column_half}
+use Rattle.turn_laws.specs.Resumed.{resumed_starts}
 use Rattle.std.proofs.Common.{◌≡◌, ℕ, ◌+◌, ◌-◌, ◌≤◌, ◌==◌, min, max, Bool, true, false, Option, Some, None, List, [], ◌∷◌, ◌++◌, length, refl, ap, sym, ◌∙◌, subst, arith, if◌then◌else◌}
 use Rattle.std.proofs.lemmas.Bool.{eqb-true, eqb-false}
 use Rattle.std.proofs.lemmas.List.{length-map, map-append}
 use Rattle.std.specs.Option.{option_map}
 use Rattle.keeper_book.proofs.EntryLemmas.{entry_of-edit_other, entry_of-edit_same}
-use Rattle.keeper_book.specs.Book.{Book, Entry, book_entered, closed, edit_at, entry_of, entry_raised, fresh, raised_at, settled, taken_over}
+use Rattle.keeper_book.specs.Book.{Book, Entry, book_entered, closed, edit_at, entry_of, entry_raised, fresh, raised_at, settled, taken_over, settled_highs}
 use Rattle.keeper_book.specs.CounterEnds.{end_of}
 use Rattle.keeper_book.specs.Counters.{counter_named, five_at, with_five}
 use Rattle.keeper_book.specs.declared.calls.KeeperAsk.{KeeperAsk}
@@ -13,9 +15,9 @@ use Rattle.keeper_book.specs.declared.counters.Counter.{Counter}
 use Rattle.keeper_book.specs.declared.counters.Counter.TheVariants as counter
 use Rattle.keeper_book.specs.declared.counters.Five.{Five}
 use Rattle.keeper_book.specs.declared.records.Record.{Record}
-use Rattle.turn_laws.proofs.Columns.{goes_on-epoch, goes_on-first, goes_on-higher, goes_on-refl, length-append_one, mark-high, mark-with_epoch, rising-none, with_epoch}
+use Rattle.turn_laws.proofs.Columns.{goes_on-epoch, goes_on-first, goes_on-higher, goes_on-refl, length-append_one, mark-high, mark-with_epoch, rising-none, with_epoch, rising-one}
 use Rattle.turn_laws.proofs.Firsts.{IsFirstHolding}
-use Rattle.turn_laws.specs.Acts.{begun_theirs, holding_begun}
+use Rattle.turn_laws.specs.Acts.{begun_theirs, holding_begun, holding_settled, Opened, half_begun}
 use Rattle.turn_laws.specs.Columns.{Column, ColumnGoesOn, IsRising, column_mark, nothing}
 use Rattle.turn_laws.specs.Holdings.{IsNew}
 use Rattle.turn_laws.specs.Places.{column_ours, mirrored, start_of}
@@ -99,6 +101,27 @@ end-mirrored sa counter.Iv = refl
 end-mirrored sa counter.Ask = refl
 end-mirrored sa counter.Answer = refl
 
+-- what is settled holds no less than its starts
+settled-rises : (sa : Record) (c : Counter) → five_at sa.starts c ≤ five_at (settled_highs sa.starts) c
+settled-rises sa counter.EspOut = omega arith
+settled-rises sa counter.EspIn = omega arith
+settled-rises sa counter.Iv = omega arith
+settled-rises sa counter.Ask = omega arith
+settled-rises sa counter.Answer = omega arith
+
+pub first-settled : (sa : Record) (c : Counter) → IsFirstHolding (holding_settled c sa)
+first-settled sa c = record { epoch = refl; rising = settled-rises sa c; from_base = omega arith; unused = refl }
+
+-- The numbers of an association that was half open go on as it is settled: the IVs from the first ones, which begin there, and the others begin.
+pub goes_on-settled : (c : Counter) (opened : Opened) (sa : Record) (member : ℕ) → sa.starts ≡ resumed_starts → ColumnGoesOn (column_half c (Some opened)) (column_ours c (column_half c (Some opened)) (Some (settled sa member)))
+goes_on-settled counter.Iv opened sa member starts =
+    subst (λ (five : Five). ColumnGoesOn (column_half counter.Iv (Some opened)) (record { bases = five.iv ∷ []; high = five_at (settled_highs five) counter.Iv; end = end_of sa counter.Iv })) (sym starts)
+    (goes_on-higher (column_half counter.Iv (Some opened)) (five_at (settled_highs resumed_starts) counter.Iv) (rising-one half_begun.base half_begun.high half_begun.end (omega arith)) (omega arith))
+goes_on-settled counter.EspOut opened sa member starts = goes_on-first (column_ours counter.EspOut nothing (Some (settled sa member))) (rising-one (five_at sa.starts counter.EspOut) (five_at (settled_highs sa.starts) counter.EspOut) (end_of sa counter.EspOut) (settled-rises sa counter.EspOut))
+goes_on-settled counter.EspIn opened sa member starts = goes_on-first (column_ours counter.EspIn nothing (Some (settled sa member))) (rising-one (five_at sa.starts counter.EspIn) (five_at (settled_highs sa.starts) counter.EspIn) (end_of sa counter.EspIn) (settled-rises sa counter.EspIn))
+goes_on-settled counter.Ask opened sa member starts = goes_on-first (column_ours counter.Ask nothing (Some (settled sa member))) (rising-one (five_at sa.starts counter.Ask) (five_at (settled_highs sa.starts) counter.Ask) (end_of sa counter.Ask) (settled-rises sa counter.Ask))
+goes_on-settled counter.Answer opened sa member starts = goes_on-first (column_ours counter.Answer nothing (Some (settled sa member))) (rising-one (five_at sa.starts counter.Answer) (five_at (settled_highs sa.starts) counter.Answer) (end_of sa counter.Answer) (settled-rises sa counter.Answer))
+
 pub first-theirs : (sa : Record) (c : Counter) → IsFirstHolding (begun_theirs c sa)
 first-theirs sa c = record { epoch = refl; rising = start_within sa c; from_base = omega arith; unused = refl }
   where
@@ -129,10 +152,10 @@ module _ (c : Counter) where
   goes_on-taken_over : (member : ℕ) (e : Entry) → IsRising (column_ours c nothing (Some e)) → ColumnGoesOn (column_ours c nothing (Some e)) (column_ours c nothing (Some (taken_over member e)))
   goes_on-taken_over member e rising = subst (λ col. ColumnGoesOn (column_ours c nothing (Some e)) col) (sym (column-taken_over member e)) (goes_on-epoch (column_ours c nothing (Some e)) rising)
 
-  -- The cluster's column goes on, where nothing is half open under the SPI of what is entered.
+  -- The cluster's column goes on, where nothing is half open under the SPI of what is entered, and what is settled goes on from what is half open.
   abbrev pub IsFreeFor : KeeperAsk → ℕ → Column → Type 0
   IsFreeFor (ask.Enter sa) spir begun = sa.spir ≡ spir → begun ≡ nothing
-  IsFreeFor (ask.Settle ticket asked sa member) spir begun = ⊥
+  IsFreeFor (ask.Settle ticket asked sa member) spir begun = sa.spir ≡ spir → ColumnGoesOn begun (column_ours c begun (Some (settled sa member)))
   IsFreeFor asked spir begun = Unit {0}
 
   pub goes_on-ours : (begun : Column) (spir : ℕ) (asked : KeeperAsk) → IsFreeFor asked spir begun → (old : Option Entry) → IsRising (column_ours c begun old) → ColumnGoesOn (column_ours c begun old) (column_ours c begun (entry_after spir asked old))
@@ -155,7 +178,18 @@ module _ (c : Counter) where
       by_test true None rising = goes_on-refl begun rising
       by_test true (Some e) rising = goes_on-raised (counter_named kind child) upto e rising
   goes_on-ours begun spir (ask.Lease pool count) free old rising = goes_on-refl (column_ours c begun old) rising
-  goes_on-ours begun spir (ask.Settle ticket asked sa member) free old rising = absurd free
+  goes_on-ours begun spir (ask.Settle ticket asked sa member) free (Some e) rising = by_test (asked == spir)
+    where
+      by_test : (b : Bool) → ColumnGoesOn (column_ours c begun (Some e)) (column_ours c begun (first_some (if b then option_map closed (Some e) else Some e) (if sa.spir == spir then Some (settled sa member) else None)))
+      by_test true = goes_on-refl (column_ours c begun (Some e)) rising
+      by_test false = goes_on-refl (column_ours c begun (Some e)) rising
+  goes_on-ours begun spir (ask.Settle ticket asked sa member) free None rising = by_test (asked == spir) (sa.spir == spir) refl
+    where
+      by_test : (b d : Bool) → (sa.spir == spir) ≡ d → ColumnGoesOn begun (column_ours c begun (first_some (if b then option_map closed None else None) (if d then Some (settled sa member) else None)))
+      by_test true true t = free (eqb-true sa.spir spir t)
+      by_test false true t = free (eqb-true sa.spir spir t)
+      by_test true false t = goes_on-refl begun rising
+      by_test false false t = goes_on-refl begun rising
   goes_on-ours begun spir (ask.Look ticket) free old rising = goes_on-refl (column_ours c begun old) rising
 
   -- the epoch that a takeover begins is held by nobody yet

@@ -10,6 +10,7 @@ use Rattle.events.specs.declared.verdict.Refusal.{Refusal}
 use Rattle.events.specs.declared.verdict.Refusal.TheVariants as refusal
 use Rattle.events.specs.declared.verdict.Verdict.TheVariants as out
 use Rattle.ha_base.specs.Octets.{WithRoom}
+use Rattle.ha_base.specs.declared.counter_names.End.TheVariants as end
 use Rattle.ha_base.specs.declared.outside.Moment.{Moment}
 use Rattle.keeper_book.specs.declared.calls.Call.{Call}
 use Rattle.keeper_book.specs.declared.records.Record.{Record}
@@ -19,6 +20,7 @@ use Rattle.turn_laws.proofs.Drawing.{draws-deed}
 use Rattle.turn_laws.proofs.Members.{own-held}
 use Rattle.turn_laws.proofs.Receiving.{Brings, member_takes-deed, peer_takes-deed}
 use Rattle.turn_laws.proofs.Sending.{peer_sends-deed, sends-deed}
+use Rattle.turn_rules.proofs.Ties.{used-receiving}
 use Rattle.turn_rules.specs.Datagrams.{PlainDatagram, arrives}
 use Rattle.turn_rules.specs.Draws.{EntersRecord}
 use Rattle.turn_rules.specs.Ends.{Member, own}
@@ -75,10 +77,12 @@ module _ (boxes : ℕ) (past : List Turn) (own_spir : (member spir : ℕ) (held 
   performed (event.Crash member) none y = Ended member (let said : _ = y.says.said in rw said refl) y.no_calls y.says.said refl y.says.quiet
   performed (event.Send parties.Peer spir payload) none sends = peer_sends-deed past step spir payload calls sends.0 sends.1
   performed (event.Send (parties.Member member) spir payload) none sends = sent member spir payload ((state.members member).held spir) refl sends
-  performed (event.Deliver which to) none r = received (event.Deliver which to) to (record { performs = λ verdict. refl; receives = λ spir verdict. refl; uses_none = λ spir verdict. refl; sends_none = λ spir verdict. refl; no_entry = λ verdict. refl }) (arrives state.datagrams (event.Deliver which to)) r
-  performed (event.Alter which to place octet) none r = received (event.Alter which to place octet) to (record { performs = λ verdict. refl; receives = λ spir verdict. refl; uses_none = λ spir verdict. refl; sends_none = λ spir verdict. refl; no_entry = λ verdict. refl }) (arrives state.datagrams (event.Alter which to place octet)) r
-  performed (event.Cut which to keep) none r = received (event.Cut which to keep) to (record { performs = λ verdict. refl; receives = λ spir verdict. refl; uses_none = λ spir verdict. refl; sends_none = λ spir verdict. refl; no_entry = λ verdict. refl }) (arrives state.datagrams (event.Cut which to keep)) r
-  performed (event.Inject to medium octets) none r = received (event.Inject to medium octets) to (record { performs = λ verdict. refl; receives = λ spir verdict. refl; uses_none = λ spir verdict. refl; sends_none = λ spir verdict. refl; no_entry = λ verdict. refl }) (arrives state.datagrams (event.Inject to medium octets)) r
+  performed (event.Ask from spir request) none r = absurd r
+  performed (event.Again from spir id) none r = absurd r
+  performed (event.Deliver which to) none r = received (event.Deliver which to) to (record { performs = λ verdict. refl; receives = λ spir verdict. refl; uses_none = used-receiving end.Cluster; sends_none = λ spir step. refl; no_entry = λ verdict. refl }) (arrives state.datagrams (event.Deliver which to)) r
+  performed (event.Alter which to place octet) none r = received (event.Alter which to place octet) to (record { performs = λ verdict. refl; receives = λ spir verdict. refl; uses_none = used-receiving end.Cluster; sends_none = λ spir step. refl; no_entry = λ verdict. refl }) (arrives state.datagrams (event.Alter which to place octet)) r
+  performed (event.Cut which to keep) none r = received (event.Cut which to keep) to (record { performs = λ verdict. refl; receives = λ spir verdict. refl; uses_none = used-receiving end.Cluster; sends_none = λ spir step. refl; no_entry = λ verdict. refl }) (arrives state.datagrams (event.Cut which to keep)) r
+  performed (event.Inject to medium octets) none r = received (event.Inject to medium octets) to (record { performs = λ verdict. refl; receives = λ spir verdict. refl; uses_none = used-receiving end.Cluster; sends_none = λ spir step. refl; no_entry = λ verdict. refl }) (arrives state.datagrams (event.Inject to medium octets)) r
 
   -- a turn that is explained is a deed
   pub fits-deed : (event : Event) → Does state now event calls step → Deed past event calls step

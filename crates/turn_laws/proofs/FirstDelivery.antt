@@ -34,7 +34,8 @@ use Rattle.turn_rules.proofs.SlotTies.{DoesTold, first-passes}
 use Rattle.turn_rules.proofs.StateLaws.{does-told}
 use Rattle.turn_rules.specs.Datagrams.{Delivery, delivery_of}
 use Rattle.turn_rules.specs.Ends.{Member, Peer, is_by, own, performer, performer_at}
-use Rattle.turn_rules.specs.Held.{Held, accepted, found, grant_of, held_by, holding, is_of_spir, received, received_in, received_of, since, window_by}
+use Rattle.turn_rules.specs.IkeState.{is_of_spir}
+use Rattle.turn_rules.specs.Held.{Held, accepted, found, grant_of, held_by, holding, received, received_in, received_of, since, window_by}
 use Rattle.turn_rules.specs.Local.{Explained}
 use Rattle.turn_rules.specs.Safe.{Packet, accepted_as, accepted_in}
 use Rattle.turn_rules.specs.Slots.{Slot, first_slot, is_entered, peer_counter, receives_at, since_entered, slots_by}
@@ -81,7 +82,7 @@ module _ (spir n : ℕ) (past : List Turn) (event : Event) (calls : List Call) (
       go : Outcome past event calls step → place_of took.packet.name ≡ Ours spir counter.EspIn
       go (Idle rests) = absurd (no-packet n (sym (idle-received spir event step.verdict rests.idle) ∙ is))
       go (Over ended said ends quiet) = absurd (no-packet n (sym (ap (received spir event) said ∙ over-received spir event) ∙ is))
-      go (Ours_used u it) = it.named took.packet took.accepted_it spir n is
+      go (Ours_used u needed it) = it.named took.packet took.accepted_it spir n is
       go (Theirs_used u) = not-both member (performer_at event step.verdict) by u.by_it
 
 -- what holds of more packets holds of the others

@@ -336,6 +336,15 @@ Keeps (Jumps w n) held old new = ColumnGoesOn old new
 Keeps (Passes w v) held old new = ColumnGoesOn old new
 Keeps (Draws w n) held old new = ColumnGoesOn old new × (h : Holding) × (held w ≡ Some h) × MayUse h n
 
+-- in each case the column goes on
+pub keeps-goes : (effect : Effect) (held : Actor → Option Holding) (old new : Column) → Keeps effect held old new → ColumnGoesOn old new
+keeps-goes Nothing held old new keeps = keeps
+keeps-goes (Begins w h) held old new keeps = keeps.0
+keeps-goes (Rises w upto) held old new keeps = keeps.0
+keeps-goes (Jumps w n) held old new keeps = keeps
+keeps-goes (Passes w v) held old new keeps = keeps
+keeps-goes (Draws w n) held old new keeps = keeps.0
+
 -- every effect keeps the numbers of a counter apart
 pub owned-after : (held : Actor → Option Holding) (uses : List Use) (old new : Column) (effect : Effect) → IsOwned held uses old → Keeps effect held old new → IsOwned (holding_after effect held) (uses_after effect held uses) new
 owned-after held uses old new Nothing owned keeps = owned-goes_on held uses old new owned keeps

@@ -12,6 +12,7 @@ mod Firsts
 mod Begun
 mod Keeping
 mod Safety
+mod Settled
 mod Halves
 mod Runs
 mod Names

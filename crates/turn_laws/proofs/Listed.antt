@@ -1,5 +1,7 @@
 -- The numbers of a place that acts use are those that the lists of the trace have.
-use Rattle.std.proofs.Common.{◌≡◌, ℕ, Bool, true, false, Option, Some, None, option_to_list, List, [], ◌∷◌, ◌++◌, map, append_assoc, append-nil, refl, ap, sym, ◌∙◌, if◌then◌else◌}
+use Rattle.keeper_book.specs.declared.counters.Counter.TheVariants as counter
+use Rattle.turn_laws.specs.Columns.{Column}
+use Rattle.std.proofs.Common.{◌≡◌, ℕ, Bool, true, false, Option, Some, None, option_to_list, List, [], ◌∷◌, ◌++◌, map, append_assoc, append-nil, refl, ap, sym, ◌∙◌, if◌then◌else◌, length}
 use Rattle.std.specs.Prelude.{reverse}
 use Rattle.std.proofs.lemmas.List.{reverse-append}
 use Rattle.std.specs.List.{cons_option, filter_map, flat_map}
@@ -15,7 +17,7 @@ use Rattle.keeper_book.specs.declared.counters.Counter.{Counter}
 use Rattle.keeper_book.specs.declared.records.Record.{Record}
 use Rattle.keeper_book.specs.declared.records.Taken.{Taken}
 use Rattle.turn_laws.proofs.Acting.{moves_onto}
-use Rattle.turn_laws.specs.Acts.{Act, begun_by, effect_begun, effect_of_call, effect_ours, entered_as, Calls, Ends, Leaps, Leases, Move, Opens, Seals, Starts, Uses, act_by, begun_at, begun_leased, begun_open, begun_started, effect_of_open, effect_of_use, holding_at, numbers_at, uses_at}
+use Rattle.turn_laws.specs.Acts.{Act, begun_by, effect_begun, effect_of_call, effect_ours, entered_as, Calls, Ends, Leaps, Move, Opens, Seals, Starts, Uses, act_by, begun_at, begun_open, begun_started, effect_of_open, effect_of_use, holding_at, numbers_at, uses_at, effect_of_ours, settled_as, lot_of}
 use Rattle.turn_laws.specs.Holdings.{Actor, Draws, Half, Holding, Jumps, Nothing, Use, uses_after}
 use Rattle.turn_laws.specs.Listed.{drawn_at, drew, ivs_at, listed_at, number_where, packet_at}
 use Rattle.turn_laws.specs.Places.{Ours, Place, Pooled, Theirs, is_place, place_of}
@@ -36,31 +38,39 @@ module _ (w : Actor) (held : Actor → Option Holding) (us : List Use) where
   begun-uses None = refl
   begun-uses (Some h) = refl
 
-  pub call-uses : (p : Place) (call : Call) → uses_after (effect_of_call p w call.asked (seen call)) held us ≡ us
-  call-uses (Ours spir c) call = ours-uses c (granted spir call.asked (seen call)) (covered spir c call.asked (seen call))
-  call-uses (Pooled q) call = refl
-  call-uses (Theirs name) call = begun-uses (begun_by name (entered_as call.asked (seen call)))
+  settled-uses : (c : Counter) (x : Option Record) (grant : Option Taken) (upto : Option ℕ) → uses_after (effect_of_ours w c x grant upto) held us ≡ us
+  settled-uses c None grant upto = ours-uses c grant upto
+  settled-uses counter.Iv (Some sa) grant upto = refl
+  settled-uses counter.EspOut (Some sa) grant upto = refl
+  settled-uses counter.EspIn (Some sa) grant upto = refl
+  settled-uses counter.Ask (Some sa) grant upto = refl
+  settled-uses counter.Answer (Some sa) grant upto = refl
+
+  pub call-uses : (p : Place) (begun : Column) (call : Call) → uses_after (effect_of_call p begun w call.asked (seen call)) held us ≡ us
+  call-uses (Ours spir c) begun call = settled-uses c (settled_as spir call.asked (seen call)) (granted spir call.asked (seen call)) (covered spir c call.asked (seen call))
+  call-uses (Pooled q) begun call = begun-uses (lot_of q (length begun.bases) call.asked (seen call))
+  call-uses (Theirs name) begun call = begun-uses (begun_by name (entered_as call.asked (seen call)))
 
 -- what gets half open uses a number of the nonces' pool
-abbrev number_opened : Place → Record → Option ℕ
-number_opened (Pooled q) sa = number_where (Pooled q) (Pooled pools.Nonce) sa.spir
-number_opened p sa = None
+abbrev number_opened : Place → ℕ → Option ℕ
+number_opened (Pooled q) drawn = number_where (Pooled q) (Pooled pools.Nonce) drawn
+number_opened p drawn = None
 
-open-number : (p : Place) (w : Actor) (sa : Record) (held : Actor → Option Holding) (us : List Use) → map (λ u. u.number) (uses_after (effect_of_open p w sa) held us) ≡ cons_option (number_opened p sa) (map (λ u. u.number) us)
-open-number (Pooled q) w sa held us = by_test (is_place (Pooled pools.Nonce) (Pooled q))
+open-number : (p : Place) (w : Actor) (drawn : ℕ) (held : Actor → Option Holding) (us : List Use) → map (λ u. u.number) (uses_after (effect_of_open p w drawn) held us) ≡ cons_option (number_opened p drawn) (map (λ u. u.number) us)
+open-number (Pooled q) w drawn held us = by_test (is_place (Pooled pools.Nonce) (Pooled q))
   where
-    by_test : (b : Bool) → map (λ u. u.number) (uses_after (if b then Draws w sa.spir else Nothing) held us) ≡ cons_option (if b then Some sa.spir else None) (map (λ u. u.number) us)
+    by_test : (b : Bool) → map (λ u. u.number) (uses_after (if b then Draws w drawn else Nothing) held us) ≡ cons_option (if b then Some drawn else None) (map (λ u. u.number) us)
     by_test true = refl
     by_test false = refl
-open-number (Ours spir c) w sa held us = ap (λ us. map (λ u. u.number) us) (begun-uses (Half sa.spir) held us (begun_open (Ours spir c) sa))
-open-number (Theirs name) w sa held us = refl
+open-number (Ours spir c) w drawn held us = ap (λ us. map (λ u. u.number) us) (begun-uses (Half drawn) held us (begun_open (Ours spir c) drawn))
+open-number (Theirs name) w drawn held us = refl
 
 module _ (p : Place) where
   -- the number of the place that a move uses
   abbrev pub number_moved : Move → Option ℕ
   number_moved (Uses q n) = number_where p q n
   number_moved (Seals key) = number_where p (place_of key.name) key.iv
-  number_moved (Opens sa) = number_opened p sa
+  number_moved (Opens ticket made) = number_opened p made.spir
   number_moved move = None
 
   abbrev pub moved : List Move → List ℕ
@@ -81,12 +91,11 @@ module _ (p : Place) where
       by_test false = refl
 
   move-number : (w : Actor) (move : Move) (acts : List Act) → numbers_at p (act_by w move ∷ acts) ≡ cons_option (number_moved move) (numbers_at p acts)
-  move-number w (Calls call) acts = ap (λ us. map (λ u. u.number) us) (call-uses w (holding_at p acts) (uses_at p acts) p call)
+  move-number w (Calls call) acts = ap (λ us. map (λ u. u.number) us) (call-uses w (holding_at p acts) (uses_at p acts) p (begun_at p acts) call)
   move-number w (Uses q n) acts = use-number w acts q n
   move-number w (Seals key) acts = use-number w acts (place_of key.name) key.iv
-  move-number w (Leases pool first count seen) acts = ap (λ us. map (λ u. u.number) us) (begun-uses w (holding_at p acts) (uses_at p acts) (begun_leased p (begun_at p acts) pool first count seen))
   move-number w (Leaps q n) acts = ap (λ us. map (λ u. u.number) us) (leap-uses w acts q n)
-  move-number w (Opens sa) acts = open-number p w sa (holding_at p acts) (uses_at p acts)
+  move-number w (Opens ticket made) acts = open-number p w made.spir (holding_at p acts) (uses_at p acts)
   move-number w (Starts sa) acts = ap (λ us. map (λ u. u.number) us) (begun-uses w (holding_at p acts) (uses_at p acts) (begun_started p sa))
   move-number w Ends acts = refl
 

@@ -15,7 +15,7 @@ use Rattle.turn_laws.proofs.Listed.{moved, moved-calls, number_moved, turn-liste
 use Rattle.turn_laws.proofs.Lists.{all-append}
 use Rattle.turn_rules.proofs.SlotTies.{all-weaker}
 use Rattle.turn_laws.proofs.Moves.{IsUseOrEnd, are-uses}
-use Rattle.turn_laws.specs.Acts.{Act, Calls, Ends, Leaps, Leases, Move, Opens, Seals, Starts, Uses, act_by, effect_of_use, holding_at}
+use Rattle.turn_laws.specs.Acts.{Act, Calls, Ends, Leaps, Move, Opens, Seals, Starts, Uses, act_by, effect_of_use, holding_at}
 use Rattle.turn_laws.specs.Holdings.{Actor, Draws, Holding, Nothing, holding_after, is_actor}
 use Rattle.turn_laws.specs.Listed.{listed_at}
 use Rattle.turn_laws.specs.PeerTurns.{having_used}
@@ -59,9 +59,8 @@ module _ (p : Place) (w : Actor) where
   moved-one (Seals key) using acts = used-one (place_of key.name) key.iv acts
   moved-one Ends using acts = sym (having-none (holding_at p acts w))
   moved-one (Calls call) using acts = absurd using
-  moved-one (Leases pool first count seen) using acts = absurd using
   moved-one (Leaps q n) using acts = absurd using
-  moved-one (Opens sa) using acts = absurd using
+  moved-one (Opens ticket made) using acts = absurd using
   moved-one (Starts sa) using acts = absurd using
 
   -- what is held after moves that use numbers
@@ -82,9 +81,8 @@ use-using (Uses place n) is = tt
 use-using Ends is = tt
 use-using (Calls call) is = absurd is
 use-using (Seals key) is = absurd is
-use-using (Leases pool first count seen) is = absurd is
 use-using (Leaps place n) is = absurd is
-use-using (Opens sa) is = absurd is
+use-using (Opens ticket made) is = absurd is
 use-using (Starts sa) is = absurd is
 
 seals-using : (seals : List Seal) → AllByRecursion IsUsing (map (λ seal. Seals (key_iv seal)) seals)

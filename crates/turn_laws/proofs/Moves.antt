@@ -5,7 +5,7 @@ use Rattle.events.specs.declared.event.Event.{Event}
 use Rattle.events.specs.declared.event.Event.TheVariants as event
 use Rattle.events.specs.declared.verdict.Verdict.{Verdict}
 use Rattle.events.specs.declared.verdict.Verdict.TheVariants as out
-use Rattle.turn_laws.specs.Acts.{Calls, Ends, Leaps, Leases, Move, Opens, Seals, Starts, Uses}
+use Rattle.turn_laws.specs.Acts.{Calls, Ends, Leaps, Move, Opens, Seals, Starts, Uses}
 use Rattle.turn_laws.specs.Turns.{drawn_by, end_moves, uses_of}
 use Rattle.turn_rules.specs.States.{ended_by}
 
@@ -13,9 +13,8 @@ abbrev pub IsUseOrEnd : Move → Type 0
 IsUseOrEnd (Calls call) = ⊥
 IsUseOrEnd (Uses place number) = Unit {0}
 IsUseOrEnd (Seals key) = ⊥
-IsUseOrEnd (Leases pool first count seen) = ⊥
 IsUseOrEnd (Leaps place number) = ⊥
-IsUseOrEnd (Opens sa) = ⊥
+IsUseOrEnd (Opens ticket made) = ⊥
 IsUseOrEnd (Starts sa) = ⊥
 IsUseOrEnd Ends = Unit {0}
 

@@ -1,9 +1,7 @@
 -- Where the numbers of the counters of an association are.
 use Rattle.std.proofs.Common.{◌≡◌, ℕ, ◌==◌, ◌&&◌, Bool, true, false, Some, None, refl, if◌then◌else◌}
 use Rattle.std.proofs.lemmas.Bool.{eq-eqb}
-use Rattle.keeper_book.specs.Counters.{counter_named}
 use Rattle.keeper_book.specs.declared.counters.Counter.{Counter}
-use Rattle.keeper_book.specs.declared.counters.Counter.TheVariants as counter
 use Rattle.keeper_book.specs.declared.records.Record.{Record}
 use Rattle.turn_laws.proofs.Entries.{is_counter-same}
 use Rattle.turn_laws.proofs.Pools.{is_pool-same}
@@ -11,7 +9,7 @@ use Rattle.turn_laws.proofs.Same.{is_name-same}
 use Rattle.turn_laws.specs.Acts.{begun_named, begun_theirs}
 use Rattle.turn_laws.specs.Places.{Ours, Place, Pooled, Theirs, is_place, place_of}
 use Rattle.turn_rules.proofs.Readies.{counter-named}
-use Rattle.turn_rules.specs.Draws.{child_of, counter_name, counter_kind}
+use Rattle.turn_rules.specs.Draws.{counter_name}
 use Rattle.turn_rules.specs.Slots.{peer_counter}
 
 -- the cluster's counter

@@ -9,29 +9,32 @@ use Rattle.events.specs.declared.verdict.Verdict.{Verdict}
 use Rattle.keeper_book.specs.declared.calls.Call.{Call}
 use Rattle.keeper_book.specs.declared.counters.Counter.{Counter}
 use Rattle.keeper_book.specs.declared.counters.Counter.TheVariants as counter
-use Rattle.turn_laws.proofs.Deeds.{rest_of, spent_by}
+use Rattle.turn_laws.proofs.Deeds.{rest_of, PeerNeed, spent_theirs}
 use Rattle.turn_laws.proofs.Listed.{moved, turn-numbers}
 use Rattle.turn_laws.proofs.Moved.{rest-listed}
 use Rattle.turn_laws.proofs.Outcomes.{Idle, Ours_used, Outcome, Over, Theirs_used, idle-used, outcome-of, over-rest, over-used, rests-rest}
 use Rattle.turn_laws.proofs.Records.{deed-of}
-use Rattle.turn_laws.proofs.Uses.{spent_of, uses-moved}
+use Rattle.turn_laws.proofs.Uses.{uses-moved, spent_at}
 use Rattle.turn_laws.specs.Acts.{numbers_at}
-use Rattle.turn_laws.specs.Places.{Ours, Theirs}
+use Rattle.turn_laws.specs.Places.{Ours}
 use Rattle.turn_laws.specs.Turns.{acts_of, number_taken}
 use Rattle.turn_rules.specs.Held.{number_of, used}
 use Rattle.turn_rules.specs.Local.{Explained}
-use Rattle.turn_rules.specs.Slots.{peer_counter}
 
 -- a counter of which members receive no numbers
 abbrev IsToldUsed : ℕ → Counter → Type 0
-IsToldUsed spir c = (event : Event) (verdict : Verdict) → number_taken spir c event verdict ≡ used spir c event verdict
+IsToldUsed spir c = (event : Event) (step : Step) → number_taken spir c event step ≡ used spir c event step
 
 module _ (spir : ℕ) (c : Counter) (told_used : IsToldUsed spir c) where
-  moved-used : (past : List Turn) (event : Event) (calls : List Call) (step : Step) → Outcome past event calls step → moved (Ours spir c) (rest_of event step) ≡ option_to_list (used spir c event step.verdict)
-  moved-used past event calls step (Idle rests) = ap (moved (Ours spir c)) (rests-rest event step rests) ∙ ap option_to_list (sym (idle-used spir c event step.verdict rests.idle))
-  moved-used past event calls step (Over member said ends quiet) = ap (moved (Ours spir c)) (over-rest event step member said ends quiet) ∙ ap option_to_list (sym (ap (used spir c event) said ∙ over-used spir c event))
-  moved-used past event calls step (Ours_used u it) = uses-moved (Ours spir c) (map spent_by u.needs) (rest_of event step) it.uses_them ∙ (it.told spir c ∙ ap option_to_list (told_used event step.verdict))
-  moved-used past event calls step (Theirs_used u) = uses-moved (Ours spir c) (spent_of (Theirs (peer_counter u.slot.sa u.c)) u.number ∷ []) (rest_of event step) u.spends.uses_it ∙ ap option_to_list (sym (u.not_ours spir c))
+  moved-used : (past : List Turn) (event : Event) (calls : List Call) (step : Step) → Outcome past event calls step → moved (Ours spir c) (rest_of event step) ≡ option_to_list (used spir c event step)
+  moved-used past event calls step (Idle rests) = ap (moved (Ours spir c)) (rests-rest event step rests) ∙ ap option_to_list (sym (idle-used spir c event step rests))
+  moved-used past event calls step (Over member said ends quiet) = ap (moved (Ours spir c)) (over-rest event step member said ends quiet) ∙ ap option_to_list (sym (over-used spir c event step said quiet))
+  moved-used past event calls step (Ours_used u needed it) = uses-moved (Ours spir c) it.ss (rest_of event step) it.uses_them ∙ (it.told spir c ∙ ap option_to_list (told_used event step))
+  moved-used past event calls step (Theirs_used u) = uses-moved (Ours spir c) (map spent_theirs u.needs) (rest_of event step) u.uses_them ∙ (none u.needs ∙ ap option_to_list (sym (u.not_ours spir c)))
+    where
+      none : (needs : List (PeerNeed past)) → spent_at (Ours spir c) (map spent_theirs needs) ≡ []
+      none [] = refl
+      none (need ∷ needs) = none needs
 
   one-used : (x : Option ℕ) (ns : List ℕ) → reverse (option_to_list x) ++ ns ≡ cons_option x ns
   one-used None ns = refl
@@ -48,11 +51,11 @@ module _ (spir : ℕ) (c : Counter) (told_used : IsToldUsed spir c) where
 
 -- the numbers by which members send
 pub sent-numbers : (boxes : ℕ) (past : List Turn) → Explained boxes past → (spir : ℕ) (c : Counter) → c ≢ counter.EspIn → numbers_at (Ours spir c) (acts_of past) ≡ filter_map (number_of spir c) past
-sent-numbers boxes past local spir counter.EspOut sent = run-numbers spir counter.EspOut (λ event verdict. refl) boxes past local
+sent-numbers boxes past local spir counter.EspOut sent = run-numbers spir counter.EspOut (λ event step. refl) boxes past local
 sent-numbers boxes past local spir counter.EspIn sent = absurd (sent refl)
-sent-numbers boxes past local spir counter.Iv sent = run-numbers spir counter.Iv (λ event verdict. refl) boxes past local
-sent-numbers boxes past local spir counter.Ask sent = run-numbers spir counter.Ask (λ event verdict. refl) boxes past local
-sent-numbers boxes past local spir counter.Answer sent = run-numbers spir counter.Answer (λ event verdict. refl) boxes past local
+sent-numbers boxes past local spir counter.Iv sent = run-numbers spir counter.Iv (λ event step. refl) boxes past local
+sent-numbers boxes past local spir counter.Ask sent = run-numbers spir counter.Ask (λ event step. refl) boxes past local
+sent-numbers boxes past local spir counter.Answer sent = run-numbers spir counter.Answer (λ event step. refl) boxes past local
 
 none-received : (spir : ℕ) (past : List Turn) → filter_map (number_of spir counter.EspIn) past ≡ []
 none-received spir [] = refl
@@ -60,8 +63,8 @@ none-received spir (turn ∷ past) = none-received spir past
 
 -- what holds of the numbers of a counter holds of those that members used
 pub counters-hold : (P : List ℕ → Type 0) → P [] → (boxes : ℕ) (past : List Turn) → Explained boxes past → (spir : ℕ) (c : Counter) → P (numbers_at (Ours spir c) (acts_of past)) → P (filter_map (number_of spir c) past)
-counters-hold P none boxes past local spir counter.EspOut holds = subst P (run-numbers spir counter.EspOut (λ event verdict. refl) boxes past local) holds
+counters-hold P none boxes past local spir counter.EspOut holds = subst P (run-numbers spir counter.EspOut (λ event step. refl) boxes past local) holds
 counters-hold P none boxes past local spir counter.EspIn holds = subst P (sym (none-received spir past)) none
-counters-hold P none boxes past local spir counter.Iv holds = subst P (run-numbers spir counter.Iv (λ event verdict. refl) boxes past local) holds
-counters-hold P none boxes past local spir counter.Ask holds = subst P (run-numbers spir counter.Ask (λ event verdict. refl) boxes past local) holds
-counters-hold P none boxes past local spir counter.Answer holds = subst P (run-numbers spir counter.Answer (λ event verdict. refl) boxes past local) holds
+counters-hold P none boxes past local spir counter.Iv holds = subst P (run-numbers spir counter.Iv (λ event step. refl) boxes past local) holds
+counters-hold P none boxes past local spir counter.Ask holds = subst P (run-numbers spir counter.Ask (λ event step. refl) boxes past local) holds
+counters-hold P none boxes past local spir counter.Answer holds = subst P (run-numbers spir counter.Answer (λ event step. refl) boxes past local) holds

@@ -1,5 +1,5 @@
 -- The peer may use the numbers that are open to it: the next one that it sends, and those that its window takes.
-use Rattle.std.proofs.Common.{◌≡◌, ◌≢◌, ℕ, ◌<◌, ◌≤◌, ◌==◌, ◌&&◌, Bool, true, false, Option, Some, None, List, [], ◌∷◌, ◌++◌, map, option_to_list, append-nil, refl, ap, sym, ◌∙◌, subst, if◌then◌else◌}
+use Rattle.std.proofs.Common.{◌≡◌, ◌≢◌, ℕ, ◌<◌, ◌≤◌, ◌==◌, ◌&&◌, Bool, true, false, Option, Some, None, List, [], ◌∷◌, ◌++◌, map, option_to_list, append-nil, refl, ap, sym, ◌∙◌, subst, if◌then◌else◌, ⊎_elim}
 use Rattle.std.specs.Prelude.{is_some, reverse}
 use Rattle.std.proofs.lemmas.Bool.{eq-eqb, eqb-false, eqb-true, ne_eqb}
 use Rattle.std.proofs.lemmas.Option.{same_Some}
@@ -15,7 +15,7 @@ use Rattle.keeper_book.specs.declared.records.Record.{Record}
 use Rattle.replay_set.specs.Window.{judged}
 use Rattle.replay_set.specs.declared.judgement.Judgement.TheVariants as judgement
 use Rattle.turn_laws.proofs.Moved.{rest-listed}
-use Rattle.turn_laws.proofs.Deeds.{Asked, Deed, Ended, PeerUses, Rested, Rests, Used, Used_theirs, number_theirs_of, rest_of}
+use Rattle.turn_laws.proofs.Deeds.{Asked, Deed, Ended, PeerUses, Rested, Rests, Used, Used_theirs, number_theirs_of, rest_of, PeerNeed, spent_theirs, IsOfOne, spent_by_spir}
 use Rattle.turn_laws.proofs.Listed.{moved}
 use Rattle.turn_laws.proofs.Lists.{all-append, all-both}
 use Rattle.turn_laws.proofs.Names.{begun-same}
@@ -26,14 +26,14 @@ use Rattle.turn_laws.proofs.Same.{is_name-true, is_origin-same}
 use Rattle.turn_laws.proofs.Theirs.{no-packet, not-both, told_theirs-held}
 use Rattle.turn_laws.proofs.Told.{is_end-true}
 use Rattle.turn_laws.proofs.Unused.{fresh-unused, next-unused}
-use Rattle.turn_laws.proofs.Uses.{number_at, spent_of, uses-moved}
+use Rattle.turn_laws.proofs.Uses.{number_at, uses-moved, spent_at}
 use Rattle.turn_laws.proofs.Well.{PeerMayUse}
 use Rattle.turn_laws.specs.Acts.{HoldsFor, begun_by, begun_theirs, holding_at}
 use Rattle.turn_laws.specs.Holdings.{End, Holding, IsNotIn}
 use Rattle.turn_laws.specs.Listed.{listed_at}
 use Rattle.turn_laws.specs.Names.{is_kind, is_name, is_origin}
 use Rattle.turn_laws.specs.PeerTurns.{begun_in, having_used, since_begun}
-use Rattle.turn_laws.specs.Places.{Theirs, place_of, start_of}
+use Rattle.turn_laws.specs.Places.{Theirs, place_of, start_of, Ours}
 use Rattle.turn_laws.specs.Turns.{acts_of}
 use Rattle.turn_rules.proofs.SlotTies.{all-weaker, first-has, records-slots_by}
 use Rattle.turn_rules.proofs.StateLaws.{associations-apart}
@@ -117,28 +117,48 @@ module _ (past : List Turn) (turn : Turn) (c : Counter) (sa : Record) where
   idle-both rests = record {
     numbers = sym (rest-listed (Theirs (peer_counter sa c)) turn)
         ∙ (ap (λ moves. reverse (moved (Theirs (peer_counter sa c)) moves)) (rests-rest turn.event turn.step rests)
-        ∙ ap option_to_list (sym (idle-theirs sa.spir c turn.event turn.step.verdict rests.idle)));
+        ∙ ap option_to_list (sym (idle-theirs sa.spir c turn.event turn.step rests)));
     named = λ n packet is accepted. absurd (no-packet n (sym (idle-received sa.spir turn.event turn.step.verdict rests.idle) ∙ is));
   }
 
-  used-both : (u : PeerUses past turn.event turn.calls turn.step) → SameBySpir u.slot.sa sa → TellsBoth c turn sa
+  -- each number that the peer needs is one of the association by its names where it is one by its SPI
+  abbrev AreSameBySpir : List (PeerNeed past) → Type 0
+  AreSameBySpir needs = AllByRecursion (λ need. SameBySpir need.slot.sa sa) needs
+
+  spent-same : (needs : List (PeerNeed past)) → AreSameBySpir needs → spent_at (Theirs (peer_counter sa c)) (map spent_theirs needs) ≡ spent_at (Ours sa.spir c) (map spent_by_spir needs)
+  spent-same [] all = refl
+  spent-same (need ∷ needs) all =
+      ap (λ b. cons_option (if b then Some need.number else None) (spent_at (Theirs (peer_counter sa c)) (map spent_theirs needs))) (names-same sa need.slot.sa c need.c all.0)
+      ∙ ap (cons_option (number_at (Ours sa.spir c) (Ours need.slot.sa.spir need.c) need.number)) (spent-same needs all.1)
+
+  named-same : (packet : Packet) (needs : List (PeerNeed past)) → AreSameBySpir needs → IsOfOne packet sa.spir needs → place_of packet.name ≡ Theirs (peer_counter sa counter.EspIn)
+  named-same packet [] all is = absurd is
+  named-same packet (need ∷ needs) all is = ⊎_elim
+      (λ one. one.1 ∙ ap (λ (r : Record). Theirs (peer_counter r counter.EspIn)) (all.0 one.0))
+      (λ more. named-same packet needs all.1 more)
+      is
+
+  reverse-listed : (x : Option ℕ) → reverse (option_to_list x) ≡ option_to_list x
+  reverse-listed None = refl
+  reverse-listed (Some n) = refl
+
+  used-both : (u : PeerUses past turn.event turn.calls turn.step) → AreSameBySpir u.needs → TellsBoth c turn sa
   used-both u by_spir = record {
     numbers = sym (rest-listed (Theirs (peer_counter sa c)) turn)
-        ∙ (ap reverse (uses-moved (Theirs (peer_counter sa c)) (spent_of (Theirs (peer_counter u.slot.sa u.c)) u.number ∷ []) (rest_of turn.event turn.step) u.spends.uses_it)
-        ∙ (reverse-option (number_at (Theirs (peer_counter sa c)) (Theirs (peer_counter u.slot.sa u.c)) u.number)
-        ∙ ap option_to_list (ap (λ b. if b then Some u.number else None) (names-same sa u.slot.sa c u.c by_spir) ∙ sym (u.told sa.spir c))));
-    named = λ n packet is accepted.
-        (u.spends.of_packet packet accepted).0
-        ∙ ap Theirs (same_name (u.slot.sa.spir == sa.spir) refl (u.c) (sym (u.told sa.spir counter.EspIn) ∙ is));
+        ∙ (ap reverse (uses-moved (Theirs (peer_counter sa c)) (map spent_theirs u.needs) (rest_of turn.event turn.step) u.uses_them
+        ∙ (spent-same u.needs by_spir ∙ u.told sa.spir c))
+        ∙ reverse-listed (number_theirs_of sa.spir c turn));
+    named = λ n packet is accepted. named-same packet u.needs by_spir (u.named packet accepted sa.spir n is);
   }
-    where
-      same_name : (b : Bool) → (u.slot.sa.spir == sa.spir) ≡ b → (d : Counter) {n : ℕ} → (if (u.slot.sa.spir == sa.spir) && is_counter d counter.EspIn then Some u.number else None) ≡ Some n → peer_counter u.slot.sa d ≡ peer_counter sa counter.EspIn
-      same_name true t counter.EspIn is = ap (λ (r : Record). peer_counter r counter.EspIn) (by_spir (eqb-true u.slot.sa.spir sa.spir t))
-      same_name true t counter.EspOut {n} is = absurd (no-packet n (rw t at is))
-      same_name true t counter.Iv {n} is = absurd (no-packet n (rw t at is))
-      same_name true t counter.Ask {n} is = absurd (no-packet n (rw t at is))
-      same_name true t counter.Answer {n} is = absurd (no-packet n (rw t at is))
-      same_name false t d {n} is = absurd (no-packet n (rw t at is))
+
+-- what holds of all of a list for each of another one
+all-swapped : {X Y : Type 0} (R : Y → X → Type 0) (ys : List Y) (xs : List X) → AllByRecursion (λ y. AllByRecursion (R y) xs) ys → AllByRecursion (λ x. AllByRecursion (λ y. R y x) ys) xs
+all-swapped R [] xs all = each xs
+  where
+    each : {X : Type 0} (xs : List X) → AllByRecursion (λ x. Unit {0}) xs
+    each [] = tt
+    each (x ∷ xs) = (tt, each xs)
+all-swapped R (y ∷ ys) xs all = all-both xs (λ x one more. (one, more)) all.0 (all-swapped R ys xs all.1)
 
 -- of each association that the peer had before
 peer-both : (boxes : ℕ) (past : List Turn) (turn : Turn) → Explained boxes past → Deed past turn.event turn.calls turn.step → performer turn ≡ Some Peer → (c : Counter) → AllByRecursion (TellsBoth c turn) (associations_by (own Peer past))
@@ -154,9 +174,16 @@ peer-both boxes past turn local deed by c = go deed
     go (Ended member by_it none said ends quiet) = not-both member (performer turn) by_it by
     go (Used u) = not-both u.member (performer turn) u.by_it by
     go (Used_theirs u) = all-weaker (associations_by (own Peer past)) (λ sa. used-both past turn c sa u)
-        (first-has (λ a. AllByRecursion (SameBySpir a) (associations_by (own Peer past))) u.test (slots_by (window_by past) (own Peer past)) u.slot
-        (subst (λ list. AllByRecursion (λ a. AllByRecursion (SameBySpir a) (associations_by (own Peer past))) list) (sym (records-slots_by (window_by past) (own Peer past))) (distinct-same (associations_by (own Peer past)) (associations-apart boxes past local)))
-        u.is_first)
+        (all-swapped (λ need. SameBySpir need.slot.sa) u.needs (associations_by (own Peer past)) (needed u.needs))
+      where
+        needed : (needs : List (PeerNeed past)) → AllByRecursion (λ need. AllByRecursion (SameBySpir need.slot.sa) (associations_by (own Peer past))) needs
+        needed [] = tt
+        needed (need ∷ needs) = (
+          first-has (λ a. AllByRecursion (SameBySpir a) (associations_by (own Peer past))) need.test (slots_by (window_by past) (own Peer past)) need.slot
+              (subst (λ list. AllByRecursion (λ a. AllByRecursion (SameBySpir a) (associations_by (own Peer past))) list) (sym (records-slots_by (window_by past) (own Peer past))) (distinct-same (associations_by (own Peer past)) (associations-apart boxes past local)))
+              need.is_first,
+          needed needs,
+        )
 
 module _ (mine : List Turn) (turn : Turn) (c : Counter) where
   -- an association that came before, after one more turn in which another one came, or none

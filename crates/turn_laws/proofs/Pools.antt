@@ -2,20 +2,21 @@
 use Rattle.std.proofs.Common.{◌≡◌, ℕ, ◌+◌, ◌-◌, ◌<◌, ◌≤◌, Bool, true, false, Option, Some, None, List, [], ◌∷◌, ◌++◌, length, refl, ap, sym, ◌∙◌, subst, arith, if◌then◌else◌}
 use Rattle.std.proofs.lemmas.Bool.{ltb-false}
 use Rattle.std.specs.Prelude.{nat_lt}
-use Rattle.keeper_book.specs.Book.{Book, Entry, book_entered, lease_refusal, pool_next, when, with_pool_next}
+use Rattle.keeper_book.specs.Book.{Book, book_entered, lease_refusal, pool_next, when, with_pool_next}
 use Rattle.keeper_book.specs.Pools.{pool_end, pool_number}
+use Rattle.keeper_book.specs.declared.calls.KeeperAnswer.TheVariants as answer
 use Rattle.keeper_book.specs.declared.calls.KeeperAsk.{KeeperAsk}
 use Rattle.keeper_book.specs.declared.calls.KeeperAsk.TheVariants as ask
 use Rattle.keeper_book.specs.declared.faults.KeeperFault.TheVariants as fault
 use Rattle.keeper_book.specs.declared.pools.Pool.{Pool}
 use Rattle.keeper_book.specs.declared.pools.PoolNumbers.{PoolNumbers}
 use Rattle.keeper_book.specs.declared.pools.Pool.TheVariants as pools
-use Rattle.turn_laws.proofs.Columns.{goes_on-epoch, goes_on-higher, goes_on-refl, length-append_one, mark-high, mark-with_epoch, with_epoch}
+use Rattle.turn_laws.proofs.Columns.{goes_on-epoch, goes_on-higher, length-append_one, mark-high, mark-with_epoch, with_epoch}
 use Rattle.turn_laws.proofs.Holdings.{Keeps}
-use Rattle.turn_laws.specs.Acts.{begun_leased, effect_begun, lot_begun, with_begun}
+use Rattle.turn_laws.specs.Acts.{effect_begun, lot_begun, lot_of, with_begun}
 use Rattle.turn_laws.specs.Columns.{Column, ColumnGoesOn, IsRising, column_mark}
 use Rattle.turn_laws.specs.Holdings.{Actor, Begins, Holding, IsNew, column_begun}
-use Rattle.turn_laws.specs.Places.{Ours, Place, Pooled, Theirs, column, is_pool}
+use Rattle.turn_laws.specs.Places.{Pooled, column, is_pool}
 
 pub is_pool-same : (p : Pool) → is_pool p p ≡ true
 is_pool-same pools.Ticket = refl
@@ -115,7 +116,7 @@ module _ (held : Actor → Option Holding) (w : Actor) (begun : Column) (old new
       × IsNew (column (Pooled pool) begun old) (record { bases = begun.bases ++ n ∷ []; high = n + count; end = pool_end pool }) (lot_begun (length begun.bases) pool n count)) (sym is_next)
       (lot-goes_on begun.bases (pool_next pool old) (pool_end pool) count rising, lot-new begun.bases (pool_next pool old) (pool_end pool) count rising))
 
-  -- what its caller did not see leaves a gap, and other pools stay
+  -- other pools stay
   goes-higher : (q : Pool) → IsRising (column (Pooled q) begun old) → pool_next q old ≤ pool_next q new → ColumnGoesOn (column (Pooled q) begun old) (column (Pooled q) begun new)
   goes-higher q rising above = goes_on-higher (column (Pooled q) begun old) (pool_next q new) rising above
 
@@ -128,14 +129,9 @@ module _ (held : Actor → Option Holding) (w : Actor) (begun : Column) (old new
           (let a : pool_next pool new ≡ first + count = next-is in let b : first ≡ pool_next pool old = is_next in omega arith)
       by_test false t = let e : pool_next q new ≡ pool_next q old = ap (pool_next q) is ∙ next-other pool q (first + count) old t in omega arith
 
-  same-entries : new.entries ≡ old.entries
-  same-entries = ap (λ (b : Book). b.entries) is ∙ lease-entries pool (first + count) old
-
-  pub keeps-lease : (p : Place) (seen : Bool) → IsRising (column p begun old) → Keeps (effect_begun w (begun_leased p begun pool first count seen)) held (column p begun old) (column p (with_begun (begun_leased p begun pool first count seen) begun) new)
-  keeps-lease (Ours spir c) seen rising = subst (λ (es : List Entry). ColumnGoesOn (column (Ours spir c) begun old) (column (Ours spir c) begun (record old { entries = es }))) (sym same-entries) (goes_on-refl (column (Ours spir c) begun old) rising)
-  keeps-lease (Theirs name) seen rising = goes_on-refl begun rising
-  keeps-lease (Pooled q) false rising = goes-higher q rising (no-lower q)
-  keeps-lease (Pooled q) true rising = by_test (is_pool pool q) refl
+  -- a lease that its caller saw is its lot
+  pub keeps-lease : (q : Pool) → IsRising (column (Pooled q) begun old) → Keeps (effect_begun w (lot_of q (length begun.bases) (ask.Lease pool count) (answer.First first))) held (column (Pooled q) begun old) (column (Pooled q) (with_begun (lot_of q (length begun.bases) (ask.Lease pool count) (answer.First first)) begun) new)
+  keeps-lease q rising = by_test (is_pool pool q) refl
     where
       by_test : (b : Bool) → is_pool pool q ≡ b
           → Keeps (effect_begun w (if b then Some (lot_begun (length begun.bases) pool first count) else None)) held (column (Pooled q) begun old) (column (Pooled q) (with_begun (if b then Some (lot_begun (length begun.bases) pool first count) else None) begun) new)

@@ -1,5 +1,5 @@
 -- Where the book is honest, no two associations that members hold receive at one SPI.
-use Rattle.std.proofs.Common.{◌≡◌, ◌≢◌, ℕ, ◌+◌, ◌==◌, Bool, true, false, Option, Some, None, List, [], ◌∷◌, length, ⊎_elim, refl, ap, sym, ◌∙◌, subst, if◌then◌else◌}
+use Rattle.std.proofs.Common.{◌≡◌, ◌≢◌, ℕ, ◌==◌, Bool, true, false, Option, Some, None, List, [], ◌∷◌, length, ⊎_elim, refl, ap, sym, ◌∙◌, subst, if◌then◌else◌}
 use Rattle.std.proofs.lemmas.Bool.{eqb-false, eqb-true, or_parts}
 use Rattle.std.proofs.lemmas.Option.{same_Some}
 use Rattle.std.specs.List.{AllByRecursion, list_any}
@@ -25,8 +25,7 @@ use Rattle.turn_laws.proofs.Called.{HoldOfCalls, IfCall, calls-hold}
 use Rattle.turn_laws.proofs.Lists.{all-filter}
 use Rattle.turn_rules.proofs.SlotTies.{all-weaker}
 use Rattle.turn_laws.proofs.Records.{found-holds}
-use Rattle.turn_laws.proofs.Pools.{lease-entries}
-use Rattle.turn_laws.specs.Acts.{Act, Calls, Ends, Leaps, Leases, Move, Opens, Seals, Starts, Uses}
+use Rattle.turn_laws.specs.Acts.{Act, Calls, Ends, Leaps, Move, Opens, Seals, Starts, Uses}
 use Rattle.turn_laws.specs.Owned.{Lawful, WritesBook}
 use Rattle.turn_laws.specs.Turns.{acts_of}
 use Rattle.turn_rules.specs.Ends.{Member, is_by, own}
@@ -149,9 +148,8 @@ lawful-recorded (act ∷ acts) book lawful = by_move act.move refl lawful.3 (law
         by_act (Calls call) has = λ spir taken is. keeps spir taken.sa (has spir taken is)
         by_act (Uses q n) has = tt
         by_act (Seals key) has = tt
-        by_act (Leases pool first count seen) has = tt
         by_act (Leaps q n) has = tt
-        by_act (Opens sa) has = tt
+        by_act (Opens ticket made) has = tt
         by_act (Starts sa) has = tt
         by_act Ends has = tt
 
@@ -173,11 +171,8 @@ lawful-recorded (act ∷ acts) book lawful = by_move act.move refl lawful.3 (law
         }
     by_move (Uses q n) is writes before = still (Uses q n) is tt (λ spir. ap (λ (b : Book). record_of b spir) (subst (λ move. WritesBook lawful.0 move book) is writes)) before
     by_move (Seals key) is writes before = still (Seals key) is tt (λ spir. ap (λ (b : Book). record_of b spir) (subst (λ move. WritesBook lawful.0 move book) is writes)) before
-    by_move (Leases pool first count seen) is writes before =
-        let leases : WritesBook lawful.0 (Leases pool first count seen) book = subst (λ move. WritesBook lawful.0 move book) is writes in
-        still (Leases pool first count seen) is tt (λ spir. ap (λ es. record_in (entry_of spir es)) (ap (λ (b : Book). b.entries) leases.1 ∙ lease-entries pool (first + count) lawful.0)) before
     by_move (Leaps q n) is writes before = still (Leaps q n) is tt (λ spir. ap (λ (b : Book). record_of b spir) (subst (λ move. WritesBook lawful.0 move book) is writes)) before
-    by_move (Opens sa) is writes before = still (Opens sa) is tt (λ spir. ap (λ (b : Book). record_of b spir) (subst (λ move. WritesBook lawful.0 move book) is writes)) before
+    by_move (Opens ticket made) is writes before = still (Opens ticket made) is tt (λ spir. ap (λ (b : Book). record_of b spir) (subst (λ move. WritesBook lawful.0 move book) is writes)) before
     by_move (Starts sa) is writes before = still (Starts sa) is tt (λ spir. ap (λ (b : Book). record_of b spir) (subst (λ move. WritesBook lawful.0 move book) is writes)) before
     by_move Ends is writes before = still Ends is tt (λ spir. ap (λ (b : Book). record_of b spir) (subst (λ move. WritesBook lawful.0 move book) is writes)) before
 

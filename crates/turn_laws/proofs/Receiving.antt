@@ -25,8 +25,8 @@ use Rattle.keeper_book.specs.declared.counters.Counter.TheVariants as counter
 use Rattle.keeper_book.specs.declared.records.Record.{Record}
 use Rattle.turn_laws.specs.Acts.{Uses}
 use Rattle.turn_laws.proofs.Covers.{ready-as, ready-calls}
-use Rattle.turn_laws.proofs.Single.{one-used}
-use Rattle.turn_laws.proofs.Deeds.{number_theirs, Deed, IsIdle, Rested, Rests, Spends, Used_theirs, UsesOne, rest_of}
+use Rattle.turn_laws.proofs.Single.{one-used, one-peer-used}
+use Rattle.turn_laws.proofs.Deeds.{number_theirs, Deed, IsIdle, Rested, Rests, Spends, UsesOne, rest_of}
 use Rattle.turn_laws.proofs.Members.{member-performs, own-held}
 use Rattle.turn_laws.proofs.Names.{number-failed, number-passed, place-ours}
 use Rattle.turn_laws.proofs.Uses.{Counts, number_at, used-alone}
@@ -36,7 +36,8 @@ use Rattle.turn_rules.proofs.Refusals.{stop-own}
 use Rattle.turn_rules.specs.Deliveries.{PeerTakes}
 use Rattle.turn_rules.specs.Draws.{counter_name, reach_of, refusal_of_stop}
 use Rattle.turn_rules.specs.Ends.{Member, Peer, end_of_party, is_refused_by_run, own, performer_of}
-use Rattle.turn_rules.specs.Held.{Held, accepted, held_by, is_of_spir, received, used, window_by}
+use Rattle.turn_rules.specs.IkeState.{is_of_spir}
+use Rattle.turn_rules.specs.Held.{Held, accepted, held_by, received, used, window_by}
 use Rattle.turn_rules.specs.MemberPackets.{DropsQuietly, IsReceived, MemberReceives, TakesPacket, inbound_of}
 use Rattle.turn_rules.specs.Packets.{Drops, IsVerdictOf, OpensEsp}
 use Rattle.turn_rules.specs.Peers.{record_entered}
@@ -49,14 +50,9 @@ use Rattle.turn_rules.specs.Steps.{IsQuiet}
 pub record Brings (event : Event) (to : Party) : Type 0 where
   pub performs : (verdict : Verdict) → performer_of event verdict ≡ Some (end_of_party to)
   pub receives : (spir : ℕ) (verdict : Verdict) → received spir event verdict ≡ accepted spir verdict
-  pub uses_none : (spir : ℕ) (verdict : Verdict) → used spir counter.EspOut event verdict ≡ None
-  pub sends_none : (spir : ℕ) (verdict : Verdict) → sent spir event verdict ≡ None
+  pub uses_none : (spir : ℕ) (c : Counter) (step : Step) → IsQuiet step → used spir c event step ≡ None
+  pub sends_none : (spir : ℕ) (step : Step) → sent spir event step ≡ None
   pub no_entry : (verdict : Verdict) → record_entered event verdict ≡ None
-
--- what is delivered uses no number of a member but for those that it receives
-delivered-not_ours : (event : Event) (to : Party) → Brings event to → (verdict : Verdict) (spir : ℕ) (d : Counter) → used spir d event verdict ≡ None
-delivered-not_ours event to brings verdict spir counter.EspOut = brings.uses_none spir verdict
-delivered-not_ours event to brings verdict spir d = refl
 
 -- an answer that is no packet accepted
 dropped-rests : (step : Step) (why : EspDrop) (answer : EspVerdict) (after : List ℕ) → IsQuiet step → answer ≡ esp.Dropped why → IsVerdictOf answer after step.verdict → Rests step
@@ -92,21 +88,21 @@ accepted-number sa name n verdict same a other =
     ∙ (ap (λ o. if is_of_spir other o then Some n else None) (ap spir_of_origin same ∙ sa.origin_is_own)
     ∙ number-passed (sa.spir == other) n)
 
-module _ (event : Event) (to : Party) (brings : Brings event to) (sa : Record) (n : ℕ) (verdict : Verdict) where
+module _ (event : Event) (to : Party) (brings : Brings event to) (sa : Record) (n : ℕ) (step : Step) (quiet : IsQuiet step) where
   -- by a member, and by the peer
-  accepted-told : Accepts (counter_name sa counter.EspIn) n verdict → (other : ℕ) (d : Counter) → number_taken other d event verdict ≡ number_at (Ours other d) (Ours sa.spir counter.EspIn) n
-  accepted-told a other counter.EspOut = brings.uses_none other verdict ∙ number-failed (sa.spir == other) n
-  accepted-told a other counter.Iv = number-failed (sa.spir == other) n
-  accepted-told a other counter.Ask = number-failed (sa.spir == other) n
-  accepted-told a other counter.Answer = number-failed (sa.spir == other) n
-  accepted-told a other counter.EspIn = brings.receives other verdict ∙ accepted-number sa (counter_name sa counter.EspIn) n verdict refl a other
+  accepted-told : Accepts (counter_name sa counter.EspIn) n step.verdict → (other : ℕ) (d : Counter) → number_taken other d event step ≡ number_at (Ours other d) (Ours sa.spir counter.EspIn) n
+  accepted-told a other counter.EspOut = brings.uses_none other counter.EspOut step quiet ∙ number-failed (sa.spir == other) n
+  accepted-told a other counter.Iv = brings.uses_none other counter.Iv step quiet ∙ number-failed (sa.spir == other) n
+  accepted-told a other counter.Ask = brings.uses_none other counter.Ask step quiet ∙ number-failed (sa.spir == other) n
+  accepted-told a other counter.Answer = brings.uses_none other counter.Answer step quiet ∙ number-failed (sa.spir == other) n
+  accepted-told a other counter.EspIn = brings.receives other step.verdict ∙ accepted-number sa (counter_name sa counter.EspIn) n step.verdict refl a other
 
-  accepted_theirs-told : Accepts (peer_counter sa counter.EspIn) n verdict → (other : ℕ) (d : Counter) → number_theirs other d event verdict ≡ number_at (Ours other d) (Ours sa.spir counter.EspIn) n
-  accepted_theirs-told a other counter.EspOut = brings.sends_none other verdict ∙ number-failed (sa.spir == other) n
+  accepted_theirs-told : Accepts (peer_counter sa counter.EspIn) n step.verdict → (other : ℕ) (d : Counter) → number_theirs other d event step ≡ number_at (Ours other d) (Ours sa.spir counter.EspIn) n
+  accepted_theirs-told a other counter.EspOut = brings.sends_none other step ∙ number-failed (sa.spir == other) n
   accepted_theirs-told a other counter.Iv = number-failed (sa.spir == other) n
   accepted_theirs-told a other counter.Ask = number-failed (sa.spir == other) n
   accepted_theirs-told a other counter.Answer = number-failed (sa.spir == other) n
-  accepted_theirs-told a other counter.EspIn = brings.receives other verdict ∙ accepted-number sa (peer_counter sa counter.EspIn) n verdict refl a other
+  accepted_theirs-told a other counter.EspIn = brings.receives other step.verdict ∙ accepted-number sa (peer_counter sa counter.EspIn) n step.verdict refl a other
 
 -- a member receives a packet, by what it holds
 module _ (boxes : ℕ) (past : List Turn) (own_spir : (member spir : ℕ) (held : Held) → held_by (window_by past) (own (Member member) past) spir ≡ Some held → held.sa.spir ≡ spir)
@@ -134,7 +130,7 @@ module _ (boxes : ℕ) (past : List Turn) (own_spir : (member spir : ℕ) (held 
     take-uses : answer ≡ esp.Accepted (counter_name held.sa counter.EspIn) packet → UsesOne held.sa.spir counter.EspIn packet.number event step
     take-uses is = record {
       spends = accepts-spends event (counter_name held.sa counter.EspIn) (Ours held.sa.spir counter.EspIn) packet.number step (place-ours held.sa counter.EspIn) quiet (took is);
-      told = accepted-told event (parties.Member member) brings held.sa packet.number step.verdict (took is);
+      told = accepted-told event (parties.Member member) brings held.sa packet.number step quiet (took is);
     }
 
     takes-deed : (octets : List ℕ) → OpensEsp (inbound_of held) octets (Ok packet) after → TakesPacket held (Ok packet) calls answer → Deed past event calls step
@@ -178,7 +174,7 @@ module _ (past : List Turn) (event : Event) (brings : Brings event parties.Peer)
   slot_opened-deed slot is_first (Err why) opens slot_takes = Rested takes.no_calls (dropped-rests step why takes.answer takes.after takes.quiet slot_takes takes.worded) (brings.no_entry step.verdict)
   slot_opened-deed slot is_first (Ok packet) opens slot_takes =
       let took : Accepts (peer_counter slot.sa counter.EspIn) packet.number step.verdict = accepts (peer_counter slot.sa counter.EspIn) packet takes.answer takes.after step.verdict slot_takes takes.worded in
-      Used_theirs (record {
+      one-peer-used (record {
         test = receives_at (spi_of octets);
         slot = slot;
         c = counter.EspIn;
@@ -187,8 +183,8 @@ module _ (past : List Turn) (event : Event) (brings : Brings event parties.Peer)
         is_first = is_first;
         is_open = (opens.1.means.below_end, opens.1.fresh);
         no_calls = takes.no_calls;
-        not_ours = delivered-not_ours event parties.Peer brings step.verdict;
-        told = accepted_theirs-told event parties.Peer brings slot.sa packet.number step.verdict took;
+        not_ours = λ spir c. brings.uses_none spir c step takes.quiet;
+        told = accepted_theirs-told event parties.Peer brings slot.sa packet.number step takes.quiet took;
         no_entry = brings.no_entry step.verdict;
         spends = accepts-spends event (peer_counter slot.sa counter.EspIn) (Theirs (peer_counter slot.sa counter.EspIn)) packet.number step refl takes.quiet took;
       })

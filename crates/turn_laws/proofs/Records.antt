@@ -1,5 +1,5 @@
 -- What members hold are records of the associations that they asked for, and each turn is a deed.
-use Rattle.std.proofs.Common.{◌≡◌, ℕ, Bool, Option, Some, None, List, [], ◌∷◌, refl, sym, ◌∙◌, subst, map}
+use Rattle.std.proofs.Common.{◌≡◌, ℕ, Bool, Option, Some, None, List, [], ◌∷◌, refl, sym, ◌∙◌, subst}
 use Rattle.std.proofs.lemmas.Option.{same_Some}
 use Rattle.std.specs.List.{AllByRecursion, filter}
 use Rattle.std.specs.Option.{option_map}
@@ -9,8 +9,8 @@ use Rattle.events.specs.declared.turn.Turn.{Turn}
 use Rattle.keeper_book.specs.Told.{seen}
 use Rattle.keeper_book.specs.declared.calls.Call.{Call}
 use Rattle.keeper_book.specs.declared.records.Taken.{Taken}
-use Rattle.turn_laws.proofs.Covers.{are_ready-calls}
-use Rattle.turn_laws.proofs.Deeds.{Asked, Deed, Ended, HasItsRecord, MemberUses, Rested, Rests, Used, Used_theirs, UsesIt, spent_by}
+use Rattle.turn_laws.proofs.Covers.{used-calls}
+use Rattle.turn_laws.proofs.Deeds.{Asked, Deed, Ended, HasItsRecord, MemberUses, Rested, Used, Used_theirs}
 use Rattle.turn_laws.proofs.Explained.{fits-deed}
 use Rattle.turn_laws.proofs.Lists.{all-filter}
 use Rattle.turn_rules.proofs.SlotTies.{all-weaker}
@@ -47,11 +47,10 @@ own-spir size past records member spir held = go (found (grant_of spir) (own (Me
 
 module _ (past : List Turn) (event : Event) (step : Step) where
   covers-records : (calls : List Call) → MemberUses past event calls step → AllByRecursion HasItsRecord calls
-  covers-records calls u = are_ready-calls (AllByRecursion HasItsRecord) (Rests step) (UsesIt (map spent_by u.needs) event step)
+  covers-records calls u = used-calls (AllByRecursion HasItsRecord)
       (λ call rest cover more. ((λ spir taken is. absurd (let none : granted spir call.asked (seen call) ≡ None = (let asked : _ = cover.asked in rw asked refl) in cc)), more))
-      (λ rest last. subst (λ calls. AllByRecursion HasItsRecord calls) (sym last.ended) tt)
-      (λ rest last. subst (λ calls. AllByRecursion HasItsRecord calls) (sym last.ended) tt)
-      u.needs calls u.ready
+      (λ call lease. ((λ spir taken is. absurd (let none : granted spir call.asked (seen call) ≡ None = (let asked : _ = lease.asked in rw asked refl) in cc)), tt))
+      tt calls u
 
   deed-records : (calls : List Call) → Deed past event calls step → AllByRecursion HasItsRecord calls
   deed-records calls (Rested none rests no_entry) = subst (λ calls. AllByRecursion HasItsRecord calls) (sym none) tt

@@ -19,7 +19,7 @@ use Rattle.keeper_book.specs.declared.faults.KeeperFault.TheVariants as fault
 use Rattle.turn_laws.proofs.All.{lawful-run}
 use Rattle.turn_laws.proofs.Called.{HoldOfCalls, IfCall, calls-hold}
 use Rattle.turn_laws.proofs.Safety.{owned-lawful}
-use Rattle.turn_laws.specs.Acts.{Act, Calls, Ends, Leaps, Leases, MayAsk, MayCover, MayDo, Move, Opens, Seals, Starts, Uses, begun_at, column_at, holding_at}
+use Rattle.turn_laws.specs.Acts.{Act, Calls, Ends, Leaps, MayAsk, MayCover, MayDo, Move, Opens, Seals, Starts, Uses, begun_at, column_at, holding_at}
 use Rattle.turn_laws.specs.Holdings.{Actor, Holding}
 use Rattle.turn_laws.specs.Owned.{Lawful, Owned, WritesBook}
 use Rattle.turn_laws.specs.Places.{Ours, column_ours}
@@ -92,9 +92,8 @@ lawful-later (act ∷ acts) book lawful = (by_move act.move lawful.2 lawful.3, l
     by_move (Calls call) may writes = answered-later acts act.by lawful.0 book (owned-lawful acts lawful.0 lawful.1) call.asked call.answer may writes
     by_move (Uses q n) may writes = tt
     by_move (Seals key) may writes = tt
-    by_move (Leases pool first count seen) may writes = tt
     by_move (Leaps q n) may writes = tt
-    by_move (Opens sa) may writes = tt
+    by_move (Opens ticket made) may writes = tt
     by_move (Starts sa) may writes = tt
     by_move Ends may writes = tt
 

@@ -1,5 +1,13 @@
 -- What the moves of one end do to what it holds, and that they leave what others hold.
-use Rattle.std.proofs.Common.{◌≡◌, ◌≢◌, ℕ, ◌≤◌, max, Bool, true, false, Option, Some, None, List, [], ◌∷◌, ◌++◌, map, ⊎_elim, refl, ap, sym, ◌∙◌, subst, arith, if◌then◌else◌}
+use Rattle.std.proofs.lemmas.Bool.{eq-eqb}
+use Rattle.std.proofs.lemmas.Option.{same_Some}
+use Rattle.keeper_book.specs.declared.calls.KeeperAnswer.TheVariants as answer
+use Rattle.keeper_book.specs.declared.counters.Counter.TheVariants as counter
+use Rattle.keeper_book.specs.declared.calls.KeeperAsk.TheVariants as ask
+use Rattle.keeper_book.specs.declared.calls.KeeperAnswer.{KeeperAnswer}
+use Rattle.ha_base.specs.declared.counter_names.Derivation.{Derivation}
+use Rattle.keeper_book.specs.declared.calls.KeeperAsk.{KeeperAsk}
+use Rattle.std.proofs.Common.{◌≡◌, ◌≢◌, ℕ, ◌≤◌, max, Bool, true, false, Option, Some, None, List, [], ◌∷◌, ◌++◌, map, ⊎_elim, refl, ap, sym, ◌∙◌, subst, arith, if◌then◌else◌, length, ◌==◌}
 use Rattle.std.proofs.lemmas.Bool.Decides.{eqb_tells}
 use Rattle.std.specs.List.{AllByRecursion, cons_option}
 use Rattle.std.specs.Option.{option_map}
@@ -11,7 +19,7 @@ use Rattle.keeper_book.specs.declared.records.Record.{Record}
 use Rattle.keeper_book.specs.declared.records.Taken.{Taken}
 use Rattle.turn_laws.proofs.Acting.{MayDoMoves, moves_onto}
 use Rattle.turn_laws.proofs.Holdings.{differ, is_actor-same}
-use Rattle.turn_laws.specs.Acts.{Act, Calls, Ends, IsNotBy, Leaps, Leases, Move, Opens, Seals, Spares, Starts, Uses, act_by, acts_onto, begun_at, begun_by, begun_leased, begun_open, begun_started, effect_begun, effect_of, effect_of_call, effect_of_open, effect_of_use, effect_ours, entered_as, holding_at, holding_begun}
+use Rattle.turn_laws.specs.Acts.{Act, Calls, Ends, IsNotBy, Leaps, Move, Opens, Seals, Spares, Starts, Uses, act_by, acts_onto, begun_at, begun_by, begun_open, begun_started, effect_begun, effect_of, effect_of_call, effect_of_open, effect_of_use, effect_ours, entered_as, holding_at, holding_begun, settled_as, effect_of_ours, lot_of, holding_settled}
 use Rattle.turn_laws.specs.Columns.{Column}
 use Rattle.turn_laws.specs.Holdings.{Actor, Begins, Draws, Effect, End, Half, Holding, Jumps, Nothing, Passes, Rises, Run, holding_after, is_actor, raised_to}
 use Rattle.turn_laws.specs.Owned.{Lawful, WritesBook}
@@ -62,36 +70,68 @@ other-effect w v differs held (Jumps u n) by = let no : is_actor u v ≡ false =
 other-effect w v differs held (Passes u x) by = absurd by
 other-effect w v differs held (Draws u n) by = let no : is_actor u v ≡ false = differ u v (λ same. differs (sym by ∙ same)) in rw no
 
--- an act that is not by one, and opens nothing for it, leaves what it holds
+-- what is settled is settled under its own SPI
+settled-own : (spir : ℕ) (asked : KeeperAsk) (answered : KeeperAnswer) (sa : Record) → settled_as spir asked answered ≡ Some sa → settled_as sa.spir asked answered ≡ Some sa
+settled-own spir (ask.Settle ticket asked given member) answer.Done sa is = by_test (given.spir == spir) refl is
+  where
+    by_test : (b : Bool) → (given.spir == spir) ≡ b → (if b then Some given else None) ≡ Some sa → (if given.spir == sa.spir then Some given else None) ≡ Some sa
+    by_test true t is = let same : given ≡ sa = same_Some given sa is in subst (λ (x : Record). (if given.spir == x.spir then Some given else None) ≡ Some x) same (let here : (given.spir == given.spir) ≡ true = eq-eqb given.spir given.spir refl in rw here refl)
+    by_test false t is = absurd (cc)
+settled-own spir asked answered sa is = absurd (cc)
+
+-- an act that is not by one, and neither opens nor settles it, leaves what it holds
 module _ (p : Place) (begun : Column) (w v : Actor) (held : Actor → Option Holding) (other : w ≢ v) where
-  opened-other : (sa : Record) → Spares v (Opens sa) → Half sa.spir ≢ v
-  opened-other sa spares = by_actor v spares
+  opened-other : (ticket : ℕ) (made : Derivation) → Spares v (Opens ticket made) → Half made.spir ≢ v
+  opened-other ticket made spares = by_actor v spares
     where
-      by_actor : (v : Actor) → Spares v (Opens sa) → Half sa.spir ≢ v
+      by_actor : (v : Actor) → Spares v (Opens ticket made) → Half made.spir ≢ v
       by_actor Run spares same = absurd (cc)
       by_actor (End end) spares same = absurd (cc)
-      by_actor (Half spir) spares same = spares (let e : Half sa.spir ≡ Half spir = same in cc)
+      by_actor (Half spir) spares same = spares (let e : Half made.spir ≡ Half spir = same in cc)
+
+  -- what is settled passes from what was half open
+  passed-other : (u : Actor) → u ≢ v → holding_after (Passes u w) held v ≡ held v
+  passed-other u differs = let no : is_actor w v ≡ false = differ w v other in let none : is_actor u v ≡ false = differ u v differs in rw (no, none)
+
+  settled-other : (spir : ℕ) (call : Call) (sa : Record) → settled_as spir call.asked (seen call) ≡ Some sa → Spares v (Calls call) → Half sa.spir ≢ v
+  settled-other spir call sa is spares = by_actor v spares
+    where
+      by_actor : (v : Actor) → Spares v (Calls call) → Half sa.spir ≢ v
+      by_actor Run spares same = absurd (cc)
+      by_actor (End end) spares same = absurd (cc)
+      by_actor (Half half) spares same =
+          let at : sa.spir ≡ half = (let e : Half sa.spir ≡ Half half = same in cc) in
+          let own : settled_as half call.asked (seen call) ≡ Some sa = ap (λ n. settled_as n call.asked (seen call)) (sym at) ∙ settled-own spir call.asked (seen call) sa is in
+          let none : settled_as half call.asked (seen call) ≡ None = spares in
+          absurd (cc)
+
+  ours-other : (spir : ℕ) (c : Counter) (call : Call) → Spares v (Calls call) → (x : Option Record) → settled_as spir call.asked (seen call) ≡ x → (grant : Option Taken) (upto : Option ℕ) → holding_after (effect_of_ours w c x grant upto) held v ≡ held v
+  ours-other spir c call spares None e grant upto = other-effect w v other held (effect_ours w c grant upto) (by-ours w c grant upto)
+  ours-other spir counter.Iv call spares (Some sa) e grant upto = passed-other (Half sa.spir) (settled-other spir call sa e spares)
+  ours-other spir counter.EspOut call spares (Some sa) e grant upto = other-effect w v other held (Begins w (holding_settled counter.EspOut sa)) refl
+  ours-other spir counter.EspIn call spares (Some sa) e grant upto = other-effect w v other held (Begins w (holding_settled counter.EspIn sa)) refl
+  ours-other spir counter.Ask call spares (Some sa) e grant upto = other-effect w v other held (Begins w (holding_settled counter.Ask sa)) refl
+  ours-other spir counter.Answer call spares (Some sa) e grant upto = other-effect w v other held (Begins w (holding_settled counter.Answer sa)) refl
 
   other-move : (move : Move) → Spares v move → holding_after (effect_of p begun w move) held v ≡ held v
   other-move (Calls call) spares = by_place p
     where
-      by_place : (p : Place) → holding_after (effect_of_call p w call.asked (seen call)) held v ≡ held v
-      by_place (Ours spir c) = other-effect w v other held (effect_ours w c (granted spir call.asked (seen call)) (covered spir c call.asked (seen call))) (by-ours w c (granted spir call.asked (seen call)) (covered spir c call.asked (seen call)))
+      by_place : (p : Place) → holding_after (effect_of_call p begun w call.asked (seen call)) held v ≡ held v
+      by_place (Ours spir c) = ours-other spir c call spares (settled_as spir call.asked (seen call)) refl (granted spir call.asked (seen call)) (covered spir c call.asked (seen call))
       by_place (Theirs name) = other-effect w v other held (effect_begun w (begun_by name (entered_as call.asked (seen call)))) (by-begun w (begun_by name (entered_as call.asked (seen call))))
-      by_place (Pooled q) = refl
+      by_place (Pooled q) = other-effect w v other held (effect_begun w (lot_of q (length begun.bases) call.asked (seen call))) (by-begun w (lot_of q (length begun.bases) call.asked (seen call)))
   other-move (Uses q n) spares = other-effect w v other held (effect_of_use p q w n) (by-use w p q n)
   other-move (Seals key) spares = other-effect w v other held (effect_of_use p (place_of key.name) w key.iv) (by-use w p (place_of key.name) key.iv)
-  other-move (Leases pool first count seen) spares = other-effect w v other held (effect_begun w (begun_leased p begun pool first count seen)) (by-begun w (begun_leased p begun pool first count seen))
   other-move (Leaps q n) spares = other-effect w v other held (if is_place q p then Jumps w n else Nothing) (by-leap w p q n)
-  other-move (Opens sa) spares = by_place p
+  other-move (Opens ticket made) spares = by_place p
     where
-      opens : (p : Place) → holding_after (effect_begun (Half sa.spir) (begun_open p sa)) held v ≡ held v
-      opens p = other-effect (Half sa.spir) v (opened-other sa spares) held (effect_begun (Half sa.spir) (begun_open p sa)) (by-begun (Half sa.spir) (begun_open p sa))
+      opens : (p : Place) → holding_after (effect_begun (Half made.spir) (begun_open p made.spir)) held v ≡ held v
+      opens p = other-effect (Half made.spir) v (opened-other ticket made spares) held (effect_begun (Half made.spir) (begun_open p made.spir)) (by-begun (Half made.spir) (begun_open p made.spir))
 
-      by_place : (p : Place) → holding_after (effect_of_open p w sa) held v ≡ held v
+      by_place : (p : Place) → holding_after (effect_of_open p w made.spir) held v ≡ held v
       by_place (Ours spir c) = opens (Ours spir c)
       by_place (Theirs name) = opens (Theirs name)
-      by_place (Pooled q) = other-effect w v other held (effect_of_use (Pooled q) (Pooled pools.Nonce) w sa.spir) (by-use w (Pooled q) (Pooled pools.Nonce) sa.spir)
+      by_place (Pooled q) = other-effect w v other held (effect_of_use (Pooled q) (Pooled pools.Nonce) w made.spir) (by-use w (Pooled q) (Pooled pools.Nonce) made.spir)
   other-move (Starts sa) spares = other-effect w v other held (effect_begun w (begun_started p sa)) (by-begun w (begun_started p sa))
   other-move Ends spares = refl
 
@@ -105,6 +145,8 @@ pub others-hold : (p : Place) (w : Actor) (end : Performer) → w ≢ End end �
 others-hold p w end differs moves acts = others-leave p (End end) (map (act_by w) moves) acts (go moves)
   where
     spared : (move : Move) → Spares (End end) move
+    spared (Calls call) = tt
+    spared (Opens ticket made) = tt
     spared move = tt
 
     go : (moves : List Move) → AllByRecursion (IsNotBy (End end)) (map (act_by w) moves)
@@ -194,12 +236,17 @@ module _ (spir : ℕ) (c : Counter) (w : Actor) where
       go None = refl
       go (Some taken) = refl
 
+  -- where nothing is settled, by what was granted or covered
+  unsettled-holds : (call : Call) (acts : List Act) → settled_as spir call.asked (seen call) ≡ None → holding_at (Ours spir c) (record { by = w; move = Calls call } ∷ acts) w ≡ holding_after (effect_ours w c (granted spir call.asked (seen call)) (covered spir c call.asked (seen call))) (holding_at (Ours spir c) acts) w
+  unsettled-holds call acts none = ap (λ x. holding_after (effect_of_ours w c x (granted spir call.asked (seen call)) (covered spir c call.asked (seen call))) (holding_at (Ours spir c) acts) w) none
+
   -- what one call leaves
-  pub held-call : (call : Call) (acts : List Act) → holding_at (Ours spir c) (record { by = w; move = Calls call } ∷ acts) w ≡ first_some (option_map (holding_begun c) (grant_in spir (call ∷ []))) (option_map (covered_by (call ∷ [])) (holding_at (Ours spir c) acts w))
-  held-call call acts =
-      by_answers (holding_at (Ours spir c) acts) (granted spir call.asked (seen call)) (covered spir c call.asked (seen call)) (holding_at (Ours spir c) acts w) refl
+  pub held-call : (call : Call) (acts : List Act) → settled_as spir call.asked (seen call) ≡ None → holding_at (Ours spir c) (record { by = w; move = Calls call } ∷ acts) w ≡ first_some (option_map (holding_begun c) (grant_in spir (call ∷ []))) (option_map (covered_by (call ∷ [])) (holding_at (Ours spir c) acts w))
+  held-call call acts none =
+      unsettled-holds call acts none
+      ∙ (by_answers (holding_at (Ours spir c) acts) (granted spir call.asked (seen call)) (covered spir c call.asked (seen call)) (holding_at (Ours spir c) acts w) refl
       ∙ (ap (λ g. first_some g (option_map (raised_by (covered spir c call.asked (seen call))) (holding_at (Ours spir c) acts w))) (granted_once call)
-      ∙ ap (first_some (option_map (holding_begun c) (grant_in spir (call ∷ [])))) (raised_once call (holding_at (Ours spir c) acts w)))
+      ∙ ap (first_some (option_map (holding_begun c) (grant_in spir (call ∷ [])))) (raised_once call (holding_at (Ours spir c) acts w))))
 
   covered_more : (call : Call) (calls : List Call) (x : Option Holding) → option_map (covered_by calls) (option_map (raised_by (covered spir c call.asked (seen call))) x) ≡ option_map (covered_by (call ∷ calls)) x
   covered_more call calls None = refl
@@ -210,7 +257,7 @@ module _ (spir : ℕ) (c : Counter) (w : Actor) where
       go (Some n) = ap (λ high. Some (record h { high = high })) (greatest-max n h.high (covers_in spir c calls))
 
   -- calls that grant nothing leave a holding that their covers raise
-  pub held-covers : (calls : List Call) (acts : List Act) → AllByRecursion (λ call. granted spir call.asked (seen call) ≡ None) calls → holding_at (Ours spir c) (moves_onto w (map Calls calls) acts) w ≡ option_map (covered_by calls) (holding_at (Ours spir c) acts w)
+  pub held-covers : (calls : List Call) (acts : List Act) → AllByRecursion (λ call. (granted spir call.asked (seen call) ≡ None) × (settled_as spir call.asked (seen call) ≡ None)) calls → holding_at (Ours spir c) (moves_onto w (map Calls calls) acts) w ≡ option_map (covered_by calls) (holding_at (Ours spir c) acts w)
   held-covers [] acts none = go (holding_at (Ours spir c) acts w)
     where
       go : (x : Option Holding) → x ≡ option_map (covered_by []) x
@@ -219,6 +266,7 @@ module _ (spir : ℕ) (c : Counter) (w : Actor) where
   held-covers (call ∷ calls) acts none =
       held-covers calls (record { by = w; move = Calls call } ∷ acts) none.1
       ∙ (ap (option_map (covered_by calls))
-      (by_answers (holding_at (Ours spir c) acts) (granted spir call.asked (seen call)) (covered spir c call.asked (seen call)) (holding_at (Ours spir c) acts w) refl
-      ∙ ap (λ g. first_some (option_map (holding_begun c) g) (option_map (raised_by (covered spir c call.asked (seen call))) (holding_at (Ours spir c) acts w))) none.0)
+      (unsettled-holds call acts none.0.1
+      ∙ (by_answers (holding_at (Ours spir c) acts) (granted spir call.asked (seen call)) (covered spir c call.asked (seen call)) (holding_at (Ours spir c) acts w) refl
+      ∙ ap (λ g. first_some (option_map (holding_begun c) g) (option_map (raised_by (covered spir c call.asked (seen call))) (holding_at (Ours spir c) acts w))) none.0.0))
       ∙ covered_more call calls (holding_at (Ours spir c) acts w))

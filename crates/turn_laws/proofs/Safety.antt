@@ -1,12 +1,21 @@
 -- Every move keeps what is owned.
-use Rattle.std.proofs.Common.{◌≡◌, ℕ, ◌+◌, ◌≤◌, ◌==◌, Bool, true, false, Option, Some, None, MatchOption, List, [], ◌∷◌, ◌++◌, length, map, ⊎_elim, refl, ap, sym, ◌∙◌, subst, arith, if◌then◌else◌}
-use Rattle.std.proofs.lemmas.Bool.{eqb-true}
+use Rattle.std.specs.List.{list_any}
+use Rattle.keeper_book.specs.declared.faults.KeeperFault.TheVariants as fault
+use Rattle.keeper_book.specs.declared.records.Taken.{Taken}
+use Rattle.keeper_book.specs.declared.calls.KeeperAnswer.TheVariants as answer
+use Rattle.std.proofs.lemmas.List.{length-map}
+use Rattle.std.proofs.lemmas.List.Folds.{list_any-append}
+use Rattle.turn_rules.specs.Held.{first_some, is_counter, granted, covered, is_named}
+use Rattle.keeper_book.specs.declared.records.Record.{Record}
+use Rattle.keeper_book.specs.declared.calls.KeeperAnswer.{KeeperAnswer}
+use Rattle.std.proofs.Common.{◌≡◌, ℕ, ◌+◌, ◌≤◌, ◌==◌, Bool, true, false, Option, Some, None, MatchOption, List, [], ◌∷◌, ◌++◌, length, map, ⊎_elim, refl, ap, sym, ◌∙◌, subst, arith, if◌then◌else◌, inl, inr, ◌||◌, ◌&&◌, ◌≢◌, ◌⊎◌}
+use Rattle.std.proofs.lemmas.Bool.{eqb-true, eq-eqb}
 use Rattle.std.proofs.lemmas.Option.{same_Some}
 use Rattle.std.specs.Prelude.{is_some}
 use Rattle.std.specs.Option.{option_map}
-use Rattle.keeper_book.specs.Book.{book_entered, Book, empty, Enters, Entry, entry_of, fresh, pool_next, raised_at, refusal, taken_over}
+use Rattle.keeper_book.specs.Book.{book_entered, Book, empty, Enters, Entry, entry_of, fresh, pool_next, raised_at, refusal, taken_over, is_spent, settled, Answers, closed}
 use Rattle.ha_base.specs.declared.counter_names.CounterName.{CounterName}
-use Rattle.keeper_book.specs.Counters.{counter_named}
+use Rattle.keeper_book.specs.Counters.{counter_named, five_at}
 use Rattle.keeper_book.specs.Records.{spir_of_origin}
 use Rattle.keeper_book.specs.Told.{seen}
 use Rattle.keeper_book.specs.declared.calls.Call.{Call}
@@ -14,19 +23,19 @@ use Rattle.keeper_book.specs.declared.calls.KeeperAsk.{KeeperAsk}
 use Rattle.keeper_book.specs.declared.calls.KeeperAsk.TheVariants as ask
 use Rattle.keeper_book.specs.declared.counters.Counter.{Counter}
 use Rattle.keeper_book.specs.declared.counters.Counter.TheVariants as counter
-use Rattle.turn_laws.proofs.BookRecords.{AreImports, MayEnter, entry-record, imports-kept, record_in}
-use Rattle.turn_laws.proofs.Books.{ShowsCovered, answers-entry, shows-covered}
-use Rattle.turn_laws.proofs.Columns.{rising-none}
+use Rattle.turn_laws.proofs.BookRecords.{entry-record, record_in, IsOfAdded, record_of, of-kept}
+use Rattle.turn_laws.proofs.Books.{ShowsCovered, answers-entry, shows-covered, shows-taken}
+use Rattle.turn_laws.proofs.Columns.{rising-none, goes_on-refl, goes_on-trans, rising-one}
 use Rattle.turn_laws.proofs.Entries.{entry_after, entry-entered}
-use Rattle.turn_laws.proofs.Holdings.{owned-after}
-use Rattle.turn_laws.proofs.Pools.{lease-entries, lease-within, shows-leased}
-use Rattle.turn_laws.specs.Acts.{Act, Calls, Ends, IsImport, IsUnstarted, Leaps, Leases, MayAsk, MayCover, MayDo, Move, Opens, Seals, Starts, Uses, act_by, begun_after, begun_at, begun_by, begun_called, begun_leased, begun_named, begun_open, column_at, effect_begun, effect_of, effect_of_use, entered_as, holding_at, uses_at, with_begun}
-use Rattle.turn_laws.specs.Columns.{nothing}
-use Rattle.turn_laws.specs.Holdings.{Actor, Holding, IsNotIn, IsOwned, Jumps, Nothing, uses_after}
-use Rattle.turn_laws.specs.Owned.{Lawful, Owned, WritesBook}
-use Rattle.turn_laws.specs.Places.{Ours, Place, Pooled, Theirs, column, is_place, place_of}
-use Rattle.turn_laws.proofs.Begun.{entered-has, fewer-used, none-before, opened-is, ours-spir}
-use Rattle.turn_laws.proofs.Keeping.{keeps-move}
+use Rattle.turn_laws.proofs.Holdings.{owned-after, keeps-goes, differ, is_actor-same}
+use Rattle.turn_laws.proofs.Pools.{lease-within, shows-leased}
+use Rattle.turn_laws.specs.Acts.{Act, Calls, Ends, IsImport, IsUnstarted, Leaps, MayAsk, MayCover, MayDo, Move, Opens, Seals, Starts, Uses, act_by, begun_after, begun_at, begun_by, begun_called, begun_named, begun_open, column_at, effect_begun, effect_of, effect_of_use, entered_as, holding_at, uses_at, with_begun, Opened, opened_by, settled_as, opened_at, effect_ours, effect_of_ours, half_begun, HoldsFor}
+use Rattle.turn_laws.specs.Columns.{nothing, ColumnGoesOn, Column}
+use Rattle.turn_laws.specs.Holdings.{Actor, Holding, IsNotIn, IsOwned, Jumps, Nothing, uses_after, Effect, Draws, holding_after, Half, column_begun, Begins, Passes, is_actor, Rises, raised_to, drawn, jumped_to}
+use Rattle.turn_laws.specs.Owned.{Lawful, Owned, WritesBook, column_half, IsSettled, IsFirstUnheld}
+use Rattle.turn_laws.specs.Places.{Ours, Place, Pooled, Theirs, column, is_place, place_of, column_ours}
+use Rattle.turn_laws.proofs.Begun.{entered-has, fewer-used, none-before}
+use Rattle.turn_laws.proofs.Keeping.{keeps-move, column_half-none, unopened, unbegun-drawn, no_entry}
 use Rattle.keeper_book.specs.Pools.{pool_end}
 use Rattle.keeper_book.specs.declared.pools.Pool.{Pool}
 use Rattle.keeper_book.specs.declared.pools.Pool.TheVariants as pools
@@ -40,21 +49,95 @@ move-cases : {P : Type 0} (move : Move) → ((call : Call) → move ≡ Calls ca
 move-cases (Calls call) f g = f call refl
 move-cases (Uses q n) f g = g tt
 move-cases (Seals key) f g = g tt
-move-cases (Leases pool first count seen) f g = g tt
 move-cases (Leaps q n) f g = g tt
-move-cases (Opens sa) f g = g tt
+move-cases (Opens ticket made) f g = g tt
 move-cases (Starts sa) f g = g tt
 move-cases Ends f g = g tt
 
+-- a move that is no call leaves the book
+same-book : (old new : Book) (move : Move) → IsNoCall move → WritesBook old move new → new ≡ old
+same-book old new (Calls call) none writes = absurd none
+same-book old new (Uses q n) none writes = writes
+same-book old new (Seals key) none writes = writes
+same-book old new (Leaps q n) none writes = writes
+same-book old new (Opens ticket made) none writes = writes
+same-book old new (Starts sa) none writes = writes
+same-book old new Ends none writes = writes
+
 same-entries : (old new : Book) (move : Move) → IsNoCall move → WritesBook old move new → new.entries ≡ old.entries
-same-entries old new (Calls call) none writes = absurd none
-same-entries old new (Leases pool first count seen) none writes = ap (λ (b : Book). b.entries) writes.1 ∙ lease-entries pool (first + count) old
-same-entries old new (Uses q n) none writes = ap (λ (b : Book). b.entries) writes
-same-entries old new (Seals key) none writes = ap (λ (b : Book). b.entries) writes
-same-entries old new (Leaps q n) none writes = ap (λ (b : Book). b.entries) writes
-same-entries old new (Opens sa) none writes = ap (λ (b : Book). b.entries) writes
-same-entries old new (Starts sa) none writes = ap (λ (b : Book). b.entries) writes
-same-entries old new Ends none writes = ap (λ (b : Book). b.entries) writes
+same-entries old new move none writes = ap (λ (b : Book). b.entries) (same-book old new move none writes)
+
+-- a ticket that was spent stays so
+spent-more : (ticket : ℕ) (spent more : List ℕ) → is_spent ticket spent ≡ true → is_spent ticket (spent ++ more) ≡ true
+spent-more ticket spent more is = list_any-append (λ t. t == ticket) spent more ∙ ap (λ b. b || list_any (λ t. t == ticket) more) is
+
+spent-added : (ticket : ℕ) (spent : List ℕ) → is_spent ticket (spent ++ ticket ∷ []) ≡ true
+spent-added ticket spent = list_any-append (λ t. t == ticket) spent (ticket ∷ []) ∙ (let here : (ticket == ticket) ≡ true = eq-eqb ticket ticket refl in rw here (or-true (list_any (λ t. t == ticket) spent)))
+  where
+    or-true : (b : Bool) → (b || true) ≡ true
+    or-true true = refl
+    or-true false = refl
+
+spent-kept : (old new : Book) (asked : KeeperAsk) (answered : KeeperAnswer) → Answers old asked answered new → (ticket : ℕ) → is_spent ticket old.spent ≡ true → is_spent ticket new.spent ≡ true
+spent-kept old new asked answered answers ticket is = ⊎_elim
+    (λ same. ap (λ (b : Book). is_spent ticket b.spent) same ∙ is)
+    (λ has. ap (λ (b : Book). is_spent ticket b.spent) has.is ∙ entered asked)
+    (answers-entry old new asked answered answers)
+  where
+    entered : (asked : KeeperAsk) → is_spent ticket (book_entered old asked).spent ≡ true
+    entered (ask.Enter sa) = is
+    entered (ask.TakeOver asked member) = is
+    entered (ask.Cover asked kind child epoch upto) = is
+    entered (ask.Lease pool count) = is
+    entered (ask.Settle spends asked sa member) = spent-more ticket old.spent (spends ∷ []) is
+    entered (ask.Look looked) = is
+
+and-false : (b : Bool) → (b && false) ≡ false
+and-false true = refl
+and-false false = refl
+
+other_counter : (c : Counter) → c ≢ counter.Iv → is_counter counter.Iv c ≡ false
+other_counter counter.EspOut other = refl
+other_counter counter.EspIn other = refl
+other_counter counter.Iv other = absurd (other refl)
+other_counter counter.Ask other = refl
+other_counter counter.Answer other = refl
+
+-- an effect that begins no first epoch, and passes nothing on
+abbrev IsLaterEffect : Effect → Type 0
+IsLaterEffect (Begins w h) = h.epoch ≢ 1
+IsLaterEffect (Passes w v) = ⊥
+IsLaterEffect effect = Unit {0}
+
+changed-before : (f : Holding → Holding) → ((x : Holding) → (f x).epoch ≡ x.epoch) → (b : Bool) (x : Option Holding) (h : Holding) → (if b then option_map f x else x) ≡ Some h → h.epoch ≡ 1 → (g : Holding) × (x ≡ Some g) × (g.epoch ≡ 1)
+changed-before f keeps true None h is one = absurd (cc)
+changed-before f keeps true (Some g) h is one = (g, refl, sym (keeps g) ∙ (ap (λ (x : Holding). x.epoch) (same_Some (f g) h is) ∙ one))
+changed-before f keeps false x h is one = (h, is, one)
+
+-- who holds a first epoch after it held one before
+first-before : (effect : Effect) (held : Actor → Option Holding) → IsLaterEffect effect → (v : Actor) (h : Holding) → holding_after effect held v ≡ Some h → h.epoch ≡ 1 → (g : Holding) × (held v ≡ Some g) × (g.epoch ≡ 1)
+first-before Nothing held later v h is one = (h, is, one)
+first-before (Passes w u) held later v h is one = absurd later
+first-before (Begins w g) held later v h is one = by_test (is_actor w v) is
+  where
+    by_test : (b : Bool) → (if b then Some g else held v) ≡ Some h → (g : Holding) × (held v ≡ Some g) × (g.epoch ≡ 1)
+    by_test true is = absurd (later (ap (λ (x : Holding). x.epoch) (same_Some g h is) ∙ one))
+    by_test false is = (h, is, one)
+first-before (Rises w n) held later v h is one = changed-before (raised_to n) (λ x. refl) (is_actor w v) (held v) h is one
+first-before (Draws w n) held later v h is one = changed-before (drawn n) (λ x. refl) (is_actor w v) (held v) h is one
+first-before (Jumps w n) held later v h is one = changed-before (jumped_to n) (λ x. refl) (is_actor w v) (held v) h is one
+
+none_some : (g : Holding) → None ≡ Some g → ⊥
+none_some g e = cc
+
+-- whom a settle is by, that was seen
+settles-by : (acts : List Act) (w : Actor) (spir : ℕ) (asked : KeeperAsk) (answered : KeeperAnswer) (sa : Record) → MayAsk acts w asked → settled_as spir asked answered ≡ Some sa → (sa.spir ≡ spir) × (w ≢ Half sa.spir)
+settles-by acts w spir (ask.Settle ticket asked given member) answer.Done sa may is = by_test (given.spir == spir) refl is
+  where
+    by_test : (b : Bool) → (given.spir == spir) ≡ b → (if b then Some given else None) ≡ Some sa → (sa.spir ≡ spir) × (w ≢ Half sa.spir)
+    by_test true t is = let same : given ≡ sa = same_Some given sa is in subst (λ (x : Record). (x.spir ≡ spir) × (w ≢ Half x.spir)) same (eqb-true given.spir spir t, may.by_other)
+    by_test false t is = absurd (cc)
+settles-by acts w spir asked answered sa may is = absurd (cc)
 
 module _ (acts : List Act) (old new : Book) (w : Actor) where
   module _ (owned : Owned acts old) where
@@ -104,7 +187,23 @@ module _ (acts : List Act) (old new : Book) (w : Actor) where
         by_test true t found = raised_case (eqb-true asked spir t) x is (rw t at found)
         by_test false t found = owned.starts spir e (is ∙ (rw t at found)) none
     starts-entry spir (ask.Lease pool count) may granted x is e found none = owned.starts spir e (is ∙ found) none
-    starts-entry spir (ask.Settle ticket asked sa member) may granted x is e found none = absurd may
+    starts-entry spir (ask.Settle ticket asked sa member) may granted x is e found none = by_test (asked == spir) (sa.spir == spir) x is found
+      where
+        settles : settled sa member ≡ e → e.highs ≡ e.sa.starts
+        settles same = absurd (go (ap (λ (y : Entry). y.bases) same ∙ none))
+          where
+            go : sa.starts ∷ [] ≡ [] → ⊥
+            go e = cc
+
+        by_test : (b d : Bool) (x : Option Entry) → entry_of spir old.entries ≡ x → first_some (if b then option_map closed x else x) (if d then Some (settled sa member) else None) ≡ Some e → e.highs ≡ e.sa.starts
+        by_test true d (Some f) is found =
+            let kept : closed f ≡ e = same_Some (closed f) e found in
+            subst (λ (y : Entry). y.highs ≡ y.sa.starts) kept (owned.starts spir f is (ap (λ (y : Entry). y.bases) kept ∙ none))
+        by_test false d (Some f) is found = owned.starts spir e (is ∙ found) none
+        by_test true true None is found = settles (same_Some (settled sa member) e found)
+        by_test false true None is found = settles (same_Some (settled sa member) e found)
+        by_test true false None is found = absurd (cc)
+        by_test false false None is found = absurd (cc)
     starts-entry spir (ask.Look ticket) may granted x is e found none = owned.starts spir e (is ∙ found) none
 
     starts-call : (call : Call) → MayAsk acts w call.asked → Enters old call new → (spir : ℕ) (e : Entry) → entry_of spir new.entries ≡ Some e → e.bases ≡ [] → e.highs ≡ e.sa.starts
@@ -123,25 +222,61 @@ module _ (acts : List Act) (old new : Book) (w : Actor) where
         (λ call is. starts-call call (subst (λ m. MayDo acts w m) is may) (subst (λ m. WritesBook old m new) is writes) spir e found none)
         (λ no. owned.starts spir e (kept-entry move no writes spir (Some e) found) none)
 
-    -- each association of the book is one that was imported
-    imported-call : (call : Call) → MayAsk acts w call.asked → Enters old call new → (spir : ℕ) (e : Entry) → entry_of spir new.entries ≡ Some e → IsImport e.sa
-    imported-call call may enters spir e found = imports-kept old new call.asked call.answer enters (may-enter call.asked may) had spir e.sa (ap record_in found)
+    -- what got half open did so under its own SPI alone
+    opened-kept : (move : Move) → MayDo acts w move → (spir : ℕ) (o : Opened) → opened_at spir acts ≡ Some o → first_some (opened_by spir move) (opened_at spir acts) ≡ Some o
+    opened-kept (Opens ticket made) may spir o is = by_test (made.spir == spir) refl
       where
-        may-enter : (asked : KeeperAsk) → MayAsk acts w asked → MayEnter old asked
-        may-enter (ask.Enter sa) may = may.0
-        may-enter (ask.TakeOver asked member) may = tt
-        may-enter (ask.Cover asked kind child epoch upto) may = tt
-        may-enter (ask.Lease pool count) may = tt
-        may-enter (ask.Settle ticket asked sa member) may = may
-        may-enter (ask.Look ticket) may = tt
+        by_test : (b : Bool) → (made.spir == spir) ≡ b → first_some (if b then Some (record { ticket = ticket; made = made }) else None) (opened_at spir acts) ≡ Some o
+        by_test true t =
+            let none : opened_at spir acts ≡ None = subst (λ n. opened_at n acts ≡ None) (eqb-true made.spir spir t) (unopened acts old new w owned made.spir may) in
+            absurd (cc)
+        by_test false t = is
+    opened-kept (Calls call) may spir o is = is
+    opened-kept (Uses q n) may spir o is = is
+    opened-kept (Seals key) may spir o is = is
+    opened-kept (Leaps q n) may spir o is = is
+    opened-kept (Starts sa) may spir o is = is
+    opened-kept Ends may spir o is = is
 
-        had : AreImports old old
-        had spir r is = let entry = entry-record (entry_of spir old.entries) r is in subst (λ x. IsImport x) entry.2 (owned.imported spir entry.0 entry.1)
+    -- what is recorded stays so
+    abbrev IsRecordedBy : Move → Book → Record → Type 0
+    IsRecordedBy move book sa = IsImport sa ⊎ IsSettled (act_by w move ∷ acts) book sa
 
-    imported-move : (move : Move) → MayDo acts w move → WritesBook old move new → (spir : ℕ) (e : Entry) → entry_of spir new.entries ≡ Some e → IsImport e.sa
-    imported-move move may writes spir e found = move-cases move
-        (λ call is. imported-call call (subst (λ m. MayDo acts w m) is may) (subst (λ m. WritesBook old m new) is writes) spir e found)
-        (λ no. owned.imported spir e (kept-entry move no writes spir (Some e) found))
+    recorded-kept : (move : Move) → MayDo acts w move → ((ticket : ℕ) → is_spent ticket old.spent ≡ true → is_spent ticket new.spent ≡ true) → (sa : Record) → IsImport sa ⊎ IsSettled acts old sa → IsRecordedBy move new sa
+    recorded-kept move may spends sa was = ⊎_elim inl (λ settled. inr (record {
+      opened = settled.opened;
+      is_its = opened-kept move may sa.spir settled.opened settled.is_its;
+      its_record = settled.its_record;
+      spent = spends settled.opened.ticket settled.spent;
+    })) was
+
+    recorded-call : (call : Call) → MayAsk acts w call.asked → Enters old call new → (spir : ℕ) (e : Entry) → entry_of spir new.entries ≡ Some e → IsRecordedBy (Calls call) new e.sa
+    recorded-call call may enters spir e found = of-kept old (IsRecordedBy (Calls call) new) new call.asked call.answer enters (λ is. added call.asked may is) spir e.sa had (ap record_in found)
+      where
+        spends : (ticket : ℕ) → is_spent ticket old.spent ≡ true → is_spent ticket new.spent ≡ true
+        spends = spent-kept old new call.asked call.answer enters
+
+        added : (asked : KeeperAsk) → MayAsk acts w asked → new ≡ book_entered old asked → IsOfAdded old (IsRecordedBy (Calls call) new) asked
+        added (ask.Enter sa) may is = inl may.0
+        added (ask.TakeOver asked member) may is = tt
+        added (ask.Cover asked kind child epoch upto) may is = tt
+        added (ask.Lease pool count) may is = tt
+        added (ask.Settle ticket asked sa member) may is = inr (record {
+          opened = may.opened;
+          is_its = may.is_its;
+          its_record = may.its_record;
+          spent = ap (λ t. is_spent t new.spent) may.its_ticket ∙ (ap (λ (b : Book). is_spent ticket b.spent) is ∙ spent-added ticket old.spent);
+        })
+        added (ask.Look ticket) may is = tt
+
+        had : record_of old spir ≡ Some e.sa → IsRecordedBy (Calls call) new e.sa
+        had is = let entry = entry-record (entry_of spir old.entries) e.sa is in
+            recorded-kept (Calls call) may spends e.sa (subst (λ x. IsImport x ⊎ IsSettled acts old x) entry.2 (owned.recorded spir entry.0 entry.1))
+
+    recorded-move : (move : Move) → MayDo acts w move → WritesBook old move new → (spir : ℕ) (e : Entry) → entry_of spir new.entries ≡ Some e → IsRecordedBy move new e.sa
+    recorded-move move may writes spir e found = move-cases move
+        (λ call is. subst (λ m. IsRecordedBy m new e.sa) (sym is) (recorded-call call (subst (λ m. MayDo acts w m) is may) (subst (λ m. WritesBook old m new) is writes) spir e found))
+        (λ no. recorded-kept move may (λ ticket is. ap (λ (b : Book). is_spent ticket b.spent) (same-book old new move no writes) ∙ is) e.sa (owned.recorded spir e (kept-entry move no writes spir (Some e) found)))
 
     -- no pool gets beyond its end
     pools-same : (q : Pool) → pool_next q new ≡ pool_next q old → pool_next q new ≤ pool_end q
@@ -163,29 +298,202 @@ module _ (acts : List Act) (old new : Book) (w : Actor) where
         (answers-entry old new call.asked call.answer writes)
     pools-move (Uses place n) may writes q = pools-same q (ap (pool_next q) writes)
     pools-move (Seals key) may writes q = pools-same q (ap (pool_next q) writes)
-    pools-move (Leases pool first count seen) may writes q = lease-within old new pool first count may writes.1 q (owned.within q)
     pools-move (Leaps place n) may writes q = pools-same q (ap (pool_next q) writes)
-    pools-move (Opens sa) may writes q = pools-same q (ap (pool_next q) writes)
+    pools-move (Opens ticket made) may writes q = pools-same q (ap (pool_next q) writes)
     pools-move (Starts sa) may writes q = pools-same q (ap (pool_next q) writes)
     pools-move Ends may writes q = pools-same q (ap (pool_next q) writes)
 
-    -- what is half open was drawn
-    opened-move : (move : Move) → (spir : ℕ) (c : Counter) → IsNotIn spir (map (λ u. u.number) (uses_after (effect_of (Pooled pools.Nonce) (begun_at (Pooled pools.Nonce) acts) w move) (holding_at (Pooled pools.Nonce) acts) (uses_at (Pooled pools.Nonce) acts))) → begun_after move (Ours spir c) (begun_at (Ours spir c) acts) ≡ nothing
-    opened-move (Opens sa) spir c none = by_case (begun_open (Ours spir c) sa) refl
+    -- what got half open was drawn
+    abbrev nonces_after : Move → List ℕ
+    nonces_after move = map (λ u. u.number) (uses_after (effect_of (Pooled pools.Nonce) (begun_at (Pooled pools.Nonce) acts) w move) (holding_at (Pooled pools.Nonce) acts) (uses_at (Pooled pools.Nonce) acts))
+
+    opened-other : (move : Move) → ((spir : ℕ) → None ≡ opened_by spir move) → (spir : ℕ) → IsNotIn spir (nonces_after move) → first_some (opened_by spir move) (opened_at spir acts) ≡ None
+    opened-other move none spir unused = subst (λ x. first_some x (opened_at spir acts) ≡ None) (none spir)
+        (owned.opened spir (fewer-used (effect_of (Pooled pools.Nonce) (begun_at (Pooled pools.Nonce) acts) w move) (holding_at (Pooled pools.Nonce) acts) (uses_at (Pooled pools.Nonce) acts) spir unused))
+
+    opened-move : (move : Move) (spir : ℕ) → IsNotIn spir (nonces_after move) → first_some (opened_by spir move) (opened_at spir acts) ≡ None
+    opened-move (Opens ticket made) spir unused = by_test (made.spir == spir) refl
       where
-        by_case : (x : Option Holding) → begun_open (Ours spir c) sa ≡ x → with_begun x (begun_at (Ours spir c) acts) ≡ nothing
-        by_case None e = owned.opened spir c none.1
-        by_case (Some h) e = absurd (none.0 (sym (ours-spir spir sa.spir c counter.Iv (opened-is (Ours spir c) sa h e).at)))
-    opened-move (Calls call) spir c none = owned.opened spir c none
-    opened-move (Leases pool first count seen) spir c none = owned.opened spir c (fewer-used (effect_begun w (begun_leased (Pooled pools.Nonce) (begun_at (Pooled pools.Nonce) acts) pool first count seen)) (holding_at (Pooled pools.Nonce) acts) (uses_at (Pooled pools.Nonce) acts) spir none)
-    opened-move (Starts sa) spir c none = owned.opened spir c none
-    opened-move (Uses q n) spir c none = owned.opened spir c (fewer-used (effect_of_use (Pooled pools.Nonce) q w n) (holding_at (Pooled pools.Nonce) acts) (uses_at (Pooled pools.Nonce) acts) spir none)
-    opened-move (Seals key) spir c none = owned.opened spir c (fewer-used (effect_of_use (Pooled pools.Nonce) (place_of key.name) w key.iv) (holding_at (Pooled pools.Nonce) acts) (uses_at (Pooled pools.Nonce) acts) spir none)
-    opened-move (Leaps q n) spir c none = owned.opened spir c (fewer-used (if is_place q (Pooled pools.Nonce) then Jumps w n else Nothing) (holding_at (Pooled pools.Nonce) acts) (uses_at (Pooled pools.Nonce) acts) spir none)
-    opened-move Ends spir c none = owned.opened spir c none
+        by_test : (b : Bool) → (made.spir == spir) ≡ b → first_some (if b then Some (record { ticket = ticket; made = made }) else None) (opened_at spir acts) ≡ None
+        by_test true t = absurd (unused.0 (eqb-true made.spir spir t))
+        by_test false t = owned.opened spir unused.1
+    opened-move (Calls call) spir unused = opened-other (Calls call) (λ s. refl) spir unused
+    opened-move (Uses q n) spir unused = opened-other (Uses q n) (λ s. refl) spir unused
+    opened-move (Seals key) spir unused = opened-other (Seals key) (λ s. refl) spir unused
+    opened-move (Leaps q n) spir unused = opened-other (Leaps q n) (λ s. refl) spir unused
+    opened-move (Starts sa) spir unused = opened-other (Starts sa) (λ s. refl) spir unused
+    opened-move Ends spir unused = opened-other Ends (λ s. refl) spir unused
+
+    -- and has its first IVs
+    begun-move : (move : Move) → MayDo acts w move → (spir : ℕ) (c : Counter) → begun_after move (Ours spir c) (begun_at (Ours spir c) acts) ≡ column_half c (first_some (opened_by spir move) (opened_at spir acts))
+    begun-move (Opens ticket made) may spir c = by_test (made.spir == spir) refl
+      where
+        opened : Opened
+        opened = record { ticket = ticket; made = made }
+
+        begins : begun_at (Ours spir c) acts ≡ nothing → (d : Counter) → c ≡ d → with_begun (if is_counter counter.Iv d then Some half_begun else None) (begun_at (Ours spir c) acts) ≡ column_half d (Some opened)
+        begins none counter.Iv is = ap (λ (begun : Column). column_begun half_begun begun) none
+        begins none counter.EspOut is = none
+        begins none counter.EspIn is = none
+        begins none counter.Ask is = none
+        begins none counter.Answer is = none
+
+        by_test : (b : Bool) → (made.spir == spir) ≡ b → with_begun (if b && is_counter counter.Iv c then Some half_begun else None) (begun_at (Ours spir c) acts) ≡ column_half c (first_some (if b then Some opened else None) (opened_at spir acts))
+        by_test true t = begins (subst (λ n. begun_at (Ours n c) acts ≡ nothing) (eqb-true made.spir spir t) (unbegun-drawn acts old new w owned made.spir may c)) c refl
+        by_test false t = owned.begun spir c
+    begun-move (Calls call) may spir c = owned.begun spir c
+    begun-move (Uses q n) may spir c = owned.begun spir c
+    begun-move (Seals key) may spir c = owned.begun spir c
+    begun-move (Leaps q n) may spir c = owned.begun spir c
+    begun-move (Starts sa) may spir c = owned.begun spir c
+    begun-move Ends may spir c = owned.begun spir c
+
+    -- from which the book goes on
+    goes-move : (move : Move) → MayDo acts w move → WritesBook old move new → (spir : ℕ) → ColumnGoesOn (begun_after move (Ours spir counter.Iv) (begun_at (Ours spir counter.Iv) acts)) (column (Ours spir counter.Iv) (begun_after move (Ours spir counter.Iv) (begun_at (Ours spir counter.Iv) acts)) new)
+    goes-move move may writes spir = by_move move refl
+      where
+        p : Place
+        p = Ours spir counter.Iv
+
+        goes : ColumnGoesOn (column_at p acts old) (column p (begun_after move p (begun_at p acts)) new)
+        goes = keeps-goes (effect_of p (begun_at p acts) w move) (holding_at p acts) (column_at p acts old) (column p (begun_after move p (begun_at p acts)) new) (keeps-move acts old new w owned p move may writes)
+
+        same : begun_after move p (begun_at p acts) ≡ begun_at p acts → ColumnGoesOn (begun_after move p (begun_at p acts)) (column p (begun_after move p (begun_at p acts)) new)
+        same is = subst (λ begun. ColumnGoesOn begun (column p (begun_after move p (begun_at p acts)) new)) (sym is) (goes_on-trans (begun_at p acts) (column_at p acts old) (column p (begun_after move p (begun_at p acts)) new) (owned.goes_on spir) goes)
+
+        by_move : (m : Move) → move ≡ m → ColumnGoesOn (begun_after move p (begun_at p acts)) (column p (begun_after move p (begun_at p acts)) new)
+        by_move (Opens ticket made) is = by_test (made.spir == spir) refl
+          where
+            may_open : HoldsFor (holding_at (Pooled pools.Nonce) acts w) made.spir
+            may_open = subst (λ m. MayDo acts w m) is may
+
+            by_test : (b : Bool) → (made.spir == spir) ≡ b → ColumnGoesOn (begun_after move p (begun_at p acts)) (column p (begun_after move p (begun_at p acts)) new)
+            by_test false t = same (ap (λ m. begun_after m p (begun_at p acts)) is ∙ ap (λ b. with_begun (if b && true then Some half_begun else None) (begun_at p acts)) t)
+            by_test true t =
+                let at : made.spir ≡ spir = eqb-true made.spir spir t in
+                let absent : entry_of spir new.entries ≡ None = ap (λ es. entry_of spir es) (same-entries old new (Opens ticket made) tt (subst (λ m. WritesBook old m new) is writes)) ∙ subst (λ n. entry_of n old.entries ≡ None) at (no_entry acts old new w owned made.spir may_open) in
+                let none : begun_at p acts ≡ nothing = subst (λ n. begun_at (Ours n counter.Iv) acts ≡ nothing) at (unbegun-drawn acts old new w owned made.spir may_open counter.Iv) in
+                let begun : begun_after move p (begun_at p acts) ≡ column_begun half_begun nothing = ap (λ m. begun_after m p (begun_at p acts)) is ∙ (ap (λ b. with_begun (if b && true then Some half_begun else None) (begun_at p acts)) t ∙ ap (λ (x : Column). column_begun half_begun x) none) in
+                let all : column p (begun_after move p (begun_at p acts)) new ≡ column_begun half_begun nothing = ap (column_ours counter.Iv (begun_after move p (begun_at p acts))) absent ∙ begun in
+                subst (λ x. ColumnGoesOn x (column p (begun_after move p (begun_at p acts)) new)) (sym begun)
+                (subst (λ x. ColumnGoesOn (column_begun half_begun nothing) x) (sym all)
+                (goes_on-refl (column_begun half_begun nothing) (rising-one half_begun.base half_begun.high half_begun.end (omega arith))))
+        by_move (Calls call) is = same (ap (λ m. begun_after m p (begun_at p acts)) is)
+        by_move (Uses q n) is = same (ap (λ m. begun_after m p (begun_at p acts)) is)
+        by_move (Seals key) is = same (ap (λ m. begun_after m p (begun_at p acts)) is)
+        by_move (Leaps q n) is = same (ap (λ m. begun_after m p (begun_at p acts)) is)
+        by_move (Starts sa) is = same (ap (λ m. begun_after m p (begun_at p acts)) is)
+        by_move Ends is = same (ap (λ m. begun_after m p (begun_at p acts)) is)
+
+    -- nothing but a settle begins the first epoch of an association that was half open
+    begins-later : (spir : ℕ) (o : Opened) → opened_at spir acts ≡ Some o → (e : Entry) → entry_of spir old.entries ≡ Some e → 1 ≤ length e.bases
+    begins-later spir o is e found =
+        let begun : begun_at (Ours spir counter.Iv) acts ≡ column_half counter.Iv (Some o) = owned.begun spir counter.Iv ∙ ap (column_half counter.Iv) is in
+        let first : 1 ≤ length (begun_at (Ours spir counter.Iv) acts).bases = subst (λ (x : Column). 1 ≤ length x.bases) (sym begun) (omega arith) in
+        let more : length (begun_at (Ours spir counter.Iv) acts).bases ≤ length (column_at (Ours spir counter.Iv) acts old).bases = (owned.goes_on spir).no_shorter in
+        let count : length (column_at (Ours spir counter.Iv) acts old).bases ≡ length e.bases = ap (λ x. length (column_ours counter.Iv (begun_at (Ours spir counter.Iv) acts) x).bases) found ∙ length-map e.bases (λ five. five_at five counter.Iv) in
+        omega arith
+
+    later-called : (spir : ℕ) (o : Opened) → opened_at spir acts ≡ Some o → (c : Counter) (asked : KeeperAsk) (answered : KeeperAnswer) → Answers old asked answered new → IsLaterEffect (effect_ours w c (granted spir asked answered) (covered spir c asked answered))
+    later-called spir o is c (ask.TakeOver asked member) (answer.Taken taken) a = by_test (asked == spir) refl
+      where
+        by_test : (b : Bool) → (asked == spir) ≡ b → IsLaterEffect (effect_ours w c (if b then Some taken else None) None)
+        by_test true t =
+            let shows = shows-taken taken (entry_of asked old.entries) (refusal old (ask.TakeOver asked member)) a.0 in
+            let some : 1 ≤ length shows.entry.bases = begins-later spir o is shows.entry (ap (λ n. entry_of n old.entries) (sym (eqb-true asked spir t)) ∙ shows.found) in
+            let epoch : taken.epoch ≡ length shows.entry.bases + 1 = ap (λ (x : Taken). x.epoch) shows.is in
+            λ first. absurd (omega (arith, first))
+        by_test false t = tt
+    later-called spir o is c (ask.Cover asked kind child epoch upto) answer.Done a = by_test ((asked == spir) && is_named c (counter_named kind child))
+      where
+        by_test : (b : Bool) → IsLaterEffect (effect_ours w c None (if b then Some upto else None))
+        by_test true = tt
+        by_test false = tt
+    later-called spir o is c asked answered a = tt
+
+    later-call : (spir : ℕ) (o : Opened) → opened_at spir acts ≡ Some o → (c : Counter) (call : Call) → Enters old call new → IsLaterEffect (effect_ours w c (granted spir call.asked (seen call)) (covered spir c call.asked (seen call)))
+    later-call spir o is c call enters = by_test call.hidden refl
+      where
+        hidden : (asked : KeeperAsk) → IsLaterEffect (effect_ours w c (granted spir asked (answer.Refused fault.Failed)) (covered spir c asked (answer.Refused fault.Failed)))
+        hidden (ask.Enter sa) = tt
+        hidden (ask.TakeOver asked member) = tt
+        hidden (ask.Cover asked kind child epoch upto) = tt
+        hidden (ask.Lease pool count) = tt
+        hidden (ask.Settle ticket asked sa member) = tt
+        hidden (ask.Look ticket) = tt
+
+        by_test : (b : Bool) → call.hidden ≡ b → IsLaterEffect (effect_ours w c (granted spir call.asked (seen call)) (covered spir c call.asked (seen call)))
+        by_test true t = rw t (hidden call.asked)
+        by_test false t = rw t (later-called spir o is c call.asked call.answer enters)
+
+    later-use : (p q : Place) (n : ℕ) → IsLaterEffect (effect_of_use p q w n)
+    later-use p q n = by_test (is_place q p)
+      where
+        by_test : (b : Bool) → IsLaterEffect (if b then Draws w n else Nothing)
+        by_test true = tt
+        by_test false = tt
+
+    later-leap : (p q : Place) (n : ℕ) → IsLaterEffect (if is_place q p then Jumps w n else Nothing)
+    later-leap p q n = by_test (is_place q p)
+      where
+        by_test : (b : Bool) → IsLaterEffect (if b then Jumps w n else Nothing)
+        by_test true = tt
+        by_test false = tt
+
+    -- what holds the first epoch after an act that begins none held it before
+    unheld-by : (spir : ℕ) (o : Opened) (g : Holding) (c : Counter) → opened_at spir acts ≡ Some o → (first other : Effect) → IsLaterEffect first → IsLaterEffect other → holding_after first (holding_at (Ours spir counter.Iv) acts) (Half spir) ≡ Some g → g.epoch ≡ 1 → c ≢ counter.Iv → IsFirstUnheld (holding_after other (holding_at (Ours spir c) acts))
+    unheld-by spir o g c is first other begins_none none_other holds epoch apart v h has one =
+        let half = first-before first (holding_at (Ours spir counter.Iv) acts) begins_none (Half spir) g holds epoch in
+        let before = first-before other (holding_at (Ours spir c) acts) none_other v h has one in
+        owned.unheld spir o half.0 c is half.1 half.2 apart v before.0 before.1 before.2
+
+    unheld-call : (spir : ℕ) (o : Opened) (g : Holding) (c : Counter) → opened_at spir acts ≡ Some o → (call : Call) → MayAsk acts w call.asked → Enters old call new → (x : Option Record) → settled_as spir call.asked (seen call) ≡ x
+        → holding_after (effect_of_ours w counter.Iv x (granted spir call.asked (seen call)) (covered spir counter.Iv call.asked (seen call))) (holding_at (Ours spir counter.Iv) acts) (Half spir) ≡ Some g → g.epoch ≡ 1 → c ≢ counter.Iv
+        → IsFirstUnheld (holding_after (effect_of_ours w c x (granted spir call.asked (seen call)) (covered spir c call.asked (seen call))) (holding_at (Ours spir c) acts))
+    unheld-call spir o g c is call may enters None e holds epoch apart = unheld-by spir o g c is
+        (effect_ours w counter.Iv (granted spir call.asked (seen call)) (covered spir counter.Iv call.asked (seen call))) (effect_ours w c (granted spir call.asked (seen call)) (covered spir c call.asked (seen call)))
+        (later-call spir o is counter.Iv call enters) (later-call spir o is c call enters) holds epoch apart
+    unheld-call spir o g c is call may enters (Some sa) e holds epoch apart = absurd (passed (settles-by acts w spir call.asked (seen call) sa may e) holds)
+      where
+        passed : (sa.spir ≡ spir) × (w ≢ Half sa.spir) → holding_after (Passes (Half sa.spir) w) (holding_at (Ours spir counter.Iv) acts) (Half spir) ≡ Some g → ⊥
+        passed so holds =
+            let half : Half sa.spir ≡ Half spir = ap Half so.0 in
+            let apart : is_actor w (Half spir) ≡ false = differ w (Half spir) (λ same. so.1 (same ∙ sym half)) in
+            let here : is_actor (Half sa.spir) (Half spir) ≡ true = ap (λ v. is_actor v (Half spir)) half ∙ is_actor-same (Half spir) in
+            none_some g (rw (apart, here) at holds)
+
+    unheld-move : (move : Move) → MayDo acts w move → WritesBook old move new → (spir : ℕ) (o : Opened) (g : Holding) (c : Counter) → first_some (opened_by spir move) (opened_at spir acts) ≡ Some o → holding_after (effect_of (Ours spir counter.Iv) (begun_at (Ours spir counter.Iv) acts) w move) (holding_at (Ours spir counter.Iv) acts) (Half spir) ≡ Some g → g.epoch ≡ 1 → c ≢ counter.Iv
+        → IsFirstUnheld (holding_after (effect_of (Ours spir c) (begun_at (Ours spir c) acts) w move) (holding_at (Ours spir c) acts))
+    unheld-move (Calls call) may writes spir o g c is holds epoch apart = unheld-call spir o g c is call may writes (settled_as spir call.asked (seen call)) refl holds epoch apart
+    unheld-move (Uses q n) may writes spir o g c is holds epoch apart = unheld-by spir o g c is (effect_of_use (Ours spir counter.Iv) q w n) (effect_of_use (Ours spir c) q w n) (later-use (Ours spir counter.Iv) q n) (later-use (Ours spir c) q n) holds epoch apart
+    unheld-move (Seals key) may writes spir o g c is holds epoch apart = unheld-by spir o g c is (effect_of_use (Ours spir counter.Iv) (place_of key.name) w key.iv) (effect_of_use (Ours spir c) (place_of key.name) w key.iv) (later-use (Ours spir counter.Iv) (place_of key.name) key.iv) (later-use (Ours spir c) (place_of key.name) key.iv) holds epoch apart
+    unheld-move (Leaps q n) may writes spir o g c is holds epoch apart = unheld-by spir o g c is (if is_place q (Ours spir counter.Iv) then Jumps w n else Nothing) (if is_place q (Ours spir c) then Jumps w n else Nothing) (later-leap (Ours spir counter.Iv) q n) (later-leap (Ours spir c) q n) holds epoch apart
+    unheld-move (Starts sa) may writes spir o g c is holds epoch apart = owned.unheld spir o g c is holds epoch apart
+    unheld-move Ends may writes spir o g c is holds epoch apart = owned.unheld spir o g c is holds epoch apart
+    unheld-move (Opens ticket made) may writes spir o g c is holds epoch apart = by_test (made.spir == spir) refl
+      where
+        other : begun_open (Ours spir c) made.spir ≡ None
+        other = ap (λ b. if (made.spir == spir) && b then Some half_begun else None) (other_counter c apart) ∙ ap (λ b. if b then Some half_begun else None) (and-false (made.spir == spir))
+
+        unheld : IsFirstUnheld (holding_at (Ours spir c) acts) → IsFirstUnheld (holding_after (effect_begun (Half made.spir) (begun_open (Ours spir c) made.spir)) (holding_at (Ours spir c) acts))
+        unheld none = subst (λ x. IsFirstUnheld (holding_after (effect_begun (Half made.spir) x) (holding_at (Ours spir c) acts))) (sym other) none
+
+        by_test : (b : Bool) → (made.spir == spir) ≡ b → IsFirstUnheld (holding_after (effect_begun (Half made.spir) (begun_open (Ours spir c) made.spir)) (holding_at (Ours spir c) acts))
+        by_test true t = unheld (λ v h has. nobody spir (eqb-true made.spir spir t) v h has)
+          where
+            nobody : (s : ℕ) → made.spir ≡ s → (v : Actor) (h : Holding) → holding_at (Ours s c) acts v ≡ Some h → h.epoch ≢ 1
+            nobody s same v h has =
+                let none : column_at (Ours made.spir c) acts old ≡ nothing = ap (column_ours c (begun_at (Ours made.spir c) acts)) (no_entry acts old new w owned made.spir may) ∙ unbegun-drawn acts old new w owned made.spir may c in
+                let of = (owned.numbers (Ours made.spir c)).holdings v h (subst (λ n. holding_at (Ours n c) acts v ≡ Some h) (sym same) has) in
+                let begun : h.epoch ≤ length nothing.bases = subst (λ (x : Column). h.epoch ≤ length x.bases) none of.begun in
+                let some : 1 ≤ h.epoch = of.some in
+                absurd (omega arith)
+        by_test false t = unheld (owned.unheld spir o g c
+            (ap (λ b. first_some (if b then Some (record { ticket = ticket; made = made }) else None) (opened_at spir acts)) (sym t) ∙ is)
+            (ap (λ b. holding_after (effect_begun (Half made.spir) (if b && true then Some half_begun else None)) (holding_at (Ours spir counter.Iv) acts) (Half spir)) (sym t) ∙ holds) epoch apart)
 
     -- what the peer has is in the book, or was resumed
-    entered-call : (name : CounterName) (spir : ℕ) → spir_of_origin name.origin ≡ Some spir → IsUnstarted name acts → (call : Call) → Enters old call new → entry_of spir new.entries ≡ None → with_begun (begun_called (Theirs name) call.asked (seen call)) (begun_at (Theirs name) acts) ≡ nothing
+    entered-call : (name : CounterName) (spir : ℕ) → spir_of_origin name.origin ≡ Some spir → IsUnstarted name acts → (call : Call) → Enters old call new → entry_of spir new.entries ≡ None → with_begun (begun_called (Theirs name) (begun_at (Theirs name) acts) call.asked (seen call)) (begun_at (Theirs name) acts) ≡ nothing
     entered-call name spir of unstarted call enters none = by_case (begun_by name (entered_as call.asked (seen call))) refl
       where
         before : begun_at (Theirs name) acts ≡ nothing
@@ -204,9 +512,8 @@ module _ (acts : List Act) (old new : Book) (w : Actor) where
         by_case (Some h) e = let not : true ≡ false = sym (ap is_some e) ∙ unstarted.0 in absurd (cc)
     entered-move (Uses q n) writes name spir of unstarted none = owned.entered name spir of unstarted.1 (kept-entry (Uses q n) tt writes spir None none)
     entered-move (Seals key) writes name spir of unstarted none = owned.entered name spir of unstarted.1 (kept-entry (Seals key) tt writes spir None none)
-    entered-move (Leases pool first count seen) writes name spir of unstarted none = owned.entered name spir of unstarted.1 (kept-entry (Leases pool first count seen) tt writes spir None none)
     entered-move (Leaps q n) writes name spir of unstarted none = owned.entered name spir of unstarted.1 (kept-entry (Leaps q n) tt writes spir None none)
-    entered-move (Opens sa) writes name spir of unstarted none = owned.entered name spir of unstarted.1 (kept-entry (Opens sa) tt writes spir None none)
+    entered-move (Opens ticket made) writes name spir of unstarted none = owned.entered name spir of unstarted.1 (kept-entry (Opens ticket made) tt writes spir None none)
     entered-move Ends writes name spir of unstarted none = owned.entered name spir of unstarted.1 (kept-entry Ends tt writes spir None none)
 
     -- one move more
@@ -214,9 +521,12 @@ module _ (acts : List Act) (old new : Book) (w : Actor) where
     owned-move move may writes = record {
       numbers = λ p. owned-after (holding_at p acts) (uses_at p acts) (column_at p acts old) (column p (begun_after move p (begun_at p acts)) new) (effect_of p (begun_at p acts) w move) (owned.numbers p) (keeps-move acts old new w owned p move may writes);
       starts = starts-move move may writes;
-      imported = imported-move move may writes;
+      recorded = recorded-move move may writes;
       within = pools-move move may writes;
       opened = opened-move move;
+      begun = begun-move move may;
+      goes_on = goes-move move may writes;
+      unheld = unheld-move move may writes;
       entered = entered-move move writes;
     }
 
@@ -235,9 +545,12 @@ pub owned-empty : Owned [] empty
 owned-empty = record {
   numbers = numbers;
   starts = λ spir e found none. absurd (cc);
-  imported = λ spir e found. absurd (cc);
+  recorded = λ spir e found. absurd (cc);
   within = within;
-  opened = λ spir c none. refl;
+  opened = λ spir none. refl;
+  begun = λ spir c. sym (column_half-none c);
+  goes_on = λ spir. goes_on-refl nothing (rising-none 0 0);
+  unheld = λ spir o g c is holds epoch apart v h has one. absurd (cc);
   entered = λ name spir of unstarted none. refl;
 }
   where

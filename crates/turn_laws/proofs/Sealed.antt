@@ -12,7 +12,7 @@ use Rattle.turn_laws.proofs.Moves.{IsUseOrEnd, are-uses}
 use Rattle.turn_laws.proofs.Names.{is_place-same}
 use Rattle.turn_laws.proofs.Begun.{fewer-used}
 use Rattle.turn_laws.proofs.Safety.{owned-lawful}
-use Rattle.turn_laws.specs.Acts.{Act, Calls, Ends, Leaps, Leases, Move, Opens, Seals, Starts, Uses, act_by, begun_at, effect_of, effect_of_use, holding_at, numbers_at, uses_at}
+use Rattle.turn_laws.specs.Acts.{Act, Calls, Ends, Leaps, Move, Opens, Seals, Starts, Uses, act_by, begun_at, effect_of, effect_of_use, holding_at, numbers_at, uses_at}
 use Rattle.turn_laws.specs.Holdings.{Actor, Draws, Holding, IsNotIn, Nothing, Use, uses_after}
 use Rattle.turn_laws.specs.Owned.{Lawful, Owned}
 use Rattle.turn_laws.specs.Places.{Place, is_place, place_of}
@@ -59,9 +59,8 @@ sealed-once (act ∷ acts) book lawful = by_move act.move refl (sealed-once acts
     by_move : (move : Move) → act.move ≡ move → IsEachOnce (sealed_in acts) → IsEachOnce (sealed_by move (sealed_in acts))
     by_move (Calls call) is rest = rest
     by_move (Uses q n) is rest = rest
-    by_move (Leases pool first count seen) is rest = rest
     by_move (Leaps q n) is rest = rest
-    by_move (Opens sa) is rest = rest
+    by_move (Opens ticket made) is rest = rest
     by_move (Starts sa) is rest = rest
     by_move Ends is rest = rest
     by_move (Seals key) is rest = (
@@ -107,9 +106,8 @@ module _ (w : Actor) where
   sealed-uses (Calls call ∷ moves) uses rest acts = absurd uses.0
   sealed-uses (Uses place n ∷ moves) uses rest acts = sealed-uses moves uses.1 rest (act_by w (Uses place n) ∷ acts)
   sealed-uses (Seals key ∷ moves) uses rest acts = absurd uses.0
-  sealed-uses (Leases pool first count seen ∷ moves) uses rest acts = absurd uses.0
   sealed-uses (Leaps place n ∷ moves) uses rest acts = absurd uses.0
-  sealed-uses (Opens sa ∷ moves) uses rest acts = absurd uses.0
+  sealed-uses (Opens ticket made ∷ moves) uses rest acts = absurd uses.0
   sealed-uses (Starts sa ∷ moves) uses rest acts = absurd uses.0
   sealed-uses (Ends ∷ moves) uses rest acts = sealed-uses moves uses.1 rest (act_by w (Ends) ∷ acts)
 

@@ -1,5 +1,7 @@
--- An event that uses one number of a member.
-use Rattle.std.proofs.Common.{◌≡◌, ℕ, Bool, true, false, Option, Some, None, option_to_list, List, [], ◌∷◌, refl, ap, sym, ◌∙◌, if◌then◌else◌}
+-- An event that uses one number, of a member or of the peer.
+use Rattle.turn_rules.specs.Peers.{record_entered}
+use Rattle.turn_rules.specs.Slots.{Slot, first_slot, slots_by, peer_counter}
+use Rattle.std.proofs.Common.{◌≡◌, ℕ, Bool, true, false, Option, Some, None, option_to_list, List, [], ◌∷◌, refl, ap, sym, ◌∙◌, if◌then◌else◌, inl}
 use Rattle.std.specs.List.{cons_option}
 use Rattle.events.specs.declared.event.Event.{Event}
 use Rattle.events.specs.declared.turn.Step.{Step}
@@ -9,13 +11,13 @@ use Rattle.keeper_book.specs.declared.calls.Call.{Call}
 use Rattle.keeper_book.specs.declared.counters.Counter.{Counter}
 use Rattle.keeper_book.specs.declared.counters.Counter.TheVariants as counter
 use Rattle.turn_laws.proofs.Covers.{ready-as}
-use Rattle.turn_laws.proofs.Deeds.{Deed, IsOpen, Last, Rests, Used, UsesIt, UsesOne}
-use Rattle.turn_laws.proofs.Begun.{is_place-true}
+use Rattle.turn_laws.proofs.Deeds.{Deed, IsOpen, Last, Rests, Used, UsesIt, UsesOne, Used_theirs, IsOpenTo, Spends, number_theirs}
+use Rattle.turn_laws.proofs.Begun.{is_place-true, ours-spir}
 use Rattle.turn_laws.proofs.Uses.{number_at, spent_of}
-use Rattle.turn_laws.specs.Places.{Ours, Place, is_place}
+use Rattle.turn_laws.specs.Places.{Ours, Place, is_place, Theirs}
 use Rattle.turn_rules.specs.Draws.{reach_of}
-use Rattle.turn_rules.specs.Ends.{Member, own, performer_at}
-use Rattle.turn_rules.specs.Held.{Held, held_by, window_by}
+use Rattle.turn_rules.specs.Ends.{Member, own, performer_at, Peer}
+use Rattle.turn_rules.specs.Held.{Held, held_by, window_by, used}
 
 -- a member that holds an association uses a number of it, once that is ready
 pub record UsesNext (past : List Turn) (event : Event) (calls : List Call) (step : Step) : Type 0 where
@@ -43,6 +45,8 @@ one-listed (Some n) = refl
 
 one-uses : (spir : ℕ) (c : Counter) (n : ℕ) (event : Event) (step : Step) → UsesOne spir c n event step → UsesIt (spent_of (Ours spir c) n ∷ []) event step
 one-uses spir c n event step it = record {
+  ss = spent_of (Ours spir c) n ∷ [];
+  were_needed = (inl refl, tt);
   served = it.spends.served;
   uses_them = it.spends.uses_it;
   apart = (tt, tt);
@@ -56,6 +60,7 @@ pub one-used : {past : List Turn} {event : Event} {calls : List Call} {step : St
 one-used {past} {event} {calls} {step} u = Used (record {
   member = u.member;
   needs = record { held = u.held; c = u.c; number = u.number; is_held = u.is_held; is_open = u.is_open } ∷ [];
+  lot = None;
   by_it = u.by_it;
   ready = ready-as (reach_of u.held u.c) u.number
       (λ why rest. (rest ≡ []) × Rests step) (λ why rest. Last rest (Rests step))
@@ -63,4 +68,45 @@ one-used {past} {event} {calls} {step} u = Used (record {
       (λ why rest s. record { ended = s.0; is = s.1 })
       (λ high rest s. record { ended = s.0; is = one-uses u.held.sa.spir u.c u.number event step s.1 })
       calls u.ready;
+})
+
+-- the peer uses a number of an association
+pub record PeerUsesNext (past : List Turn) (event : Event) (calls : List Call) (step : Step) : Type 0 where
+  pub test : Slot → Bool
+  pub slot : Slot
+  pub c : Counter
+  pub number : ℕ
+  pub by_it : performer_at event step.verdict ≡ Some Peer
+  pub is_first : first_slot test (slots_by (window_by past) (own Peer past)) ≡ Some slot
+  pub is_open : IsOpenTo slot c number
+  pub no_calls : calls ≡ []
+  pub spends : Spends (Theirs (peer_counter slot.sa c)) number event step
+  pub not_ours : (spir : ℕ) (d : Counter) → used spir d event step ≡ None
+  pub told : (other : ℕ) (d : Counter) → number_theirs other d event step ≡ number_at (Ours other d) (Ours slot.sa.spir c) number
+  pub no_entry : record_entered event step.verdict ≡ None
+
+ours-counter : (a b : ℕ) (c d : Counter) → Ours a c ≡ Ours b d → c ≡ d
+ours-counter a b c d same = ap counter_in same
+  where
+    counter_in : Place → Counter
+    counter_in (Ours spir counter) = counter
+    counter_in p = c
+
+pub one-peer-used : {past : List Turn} {event : Event} {calls : List Call} {step : Step} → PeerUsesNext past event calls step → Deed past event calls step
+one-peer-used {past} {event} {calls} {step} u = Used_theirs (record {
+  needs = record { test = u.test; slot = u.slot; c = u.c; number = u.number; is_first = u.is_first; is_open = u.is_open } ∷ [];
+  by_it = u.by_it;
+  no_calls = u.no_calls;
+  served = u.spends.served;
+  uses_them = u.spends.uses_it;
+  apart = (tt, tt);
+  not_ours = u.not_ours;
+  told = λ other d. one-listed (number_at (Ours other d) (Ours u.slot.sa.spir u.c) u.number) ∙ ap option_to_list (sym (u.told other d));
+  named = λ packet accepted other n is.
+      let here : Ours u.slot.sa.spir u.c ≡ Ours other counter.EspIn = number-here (Ours other counter.EspIn) (Ours u.slot.sa.spir u.c) u.number n (sym (u.told other counter.EspIn) ∙ is) in
+      inl (
+        ours-spir u.slot.sa.spir other u.c counter.EspIn here,
+        (u.spends.of_packet packet accepted).0 ∙ ap (λ c. Theirs (peer_counter u.slot.sa c)) (ours-counter u.slot.sa.spir other u.c counter.EspIn here),
+      );
+  no_entry = u.no_entry;
 })

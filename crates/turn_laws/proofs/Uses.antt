@@ -1,5 +1,5 @@
 -- Moves that use numbers of places, each once.
-use Rattle.std.proofs.Common.{◌≡◌, ◌≢◌, ℕ, Bool, true, false, Option, Some, None, List, [], ◌∷◌, refl, ap, sym, ◌∙◌, subst, if◌then◌else◌}
+use Rattle.std.proofs.Common.{◌≡◌, ◌≢◌, ℕ, Bool, true, false, Option, Some, None, List, [], ◌∷◌, refl, ap, sym, ◌∙◌, subst, if◌then◌else◌, ◌⊎◌, ⊎_elim}
 use Rattle.std.specs.List.{AllByRecursion, cons_option, filter_map}
 use Rattle.turn_laws.proofs.Acting.{MayDoMoves}
 use Rattle.turn_laws.proofs.Listed.{moved, number_moved}
@@ -32,6 +32,20 @@ AreUses (s ∷ ss) (move ∷ moves) = IsUse s.place s.number move × AreUses ss 
 
 pub used-alone : (p : Place) (n : ℕ) (move : Move) (moves : List Move) → IsUse p n move → moves ≡ move ∷ [] → AreUses (spent_of p n ∷ []) moves
 used-alone p n move moves one is = subst (λ ms. AreUses (spent_of p n ∷ []) ms) (sym is) (one, tt)
+
+-- a number is one of these
+abbrev pub IsAmong : Spent → List Spent → Type 0
+IsAmong s [] = ⊥
+IsAmong s (t ∷ ts) = (s ≡ t) ⊎ IsAmong s ts
+
+-- what holds of all of these holds of those among them
+among-holds : (P : Spent → Type 0) (s : Spent) (ts : List Spent) → AllByRecursion P ts → IsAmong s ts → P s
+among-holds P s [] all is = absurd is
+among-holds P s (t ∷ ts) all is = ⊎_elim (λ same. subst P (sym same) all.0) (λ more. among-holds P s ts all.1 more) is
+
+pub all-among : (P : Spent → Type 0) (ss ts : List Spent) → AllByRecursion P ts → AllByRecursion (λ s. IsAmong s ts) ss → AllByRecursion P ss
+all-among P [] ts all are = tt
+all-among P (s ∷ ss) ts all are = (among-holds P s ts all are.0, all-among P ss ts all are.1)
 
 -- no two of them are of one place
 abbrev pub AreElsewhere : List Spent → Type 0

@@ -1,5 +1,7 @@
 -- The moves of every turn that is explained may be made.
-use Rattle.std.proofs.Common.{◌≡◌, ℕ, ◌<◌, ◌≤◌, ◌==◌, max, true, Bool, Option, Some, None, MatchOption, List, [], ◌∷◌, ◌++◌, map, ⊎_elim, refl, ap, sym, ◌∙◌, subst, arith}
+use Rattle.turn_laws.proofs.Settled.{IsInOrder, lots-ordered, lease-lot}
+use Rattle.keeper_book.specs.declared.pools.Pool.{Pool}
+use Rattle.std.proofs.Common.{◌≡◌, ℕ, ◌<◌, ◌≤◌, ◌==◌, max, true, Bool, Option, Some, None, MatchOption, List, [], ◌∷◌, ◌++◌, map, ⊎_elim, refl, ap, sym, ◌∙◌, subst, arith, ◌⊎◌, length}
 use Rattle.std.proofs.lemmas.Bool.{cases_lt, eq-eqb}
 use Rattle.std.specs.List.{AllByRecursion}
 use Rattle.events.specs.declared.event.Event.{Event}
@@ -19,19 +21,19 @@ use Rattle.keeper_book.specs.declared.calls.KeeperAsk.TheVariants as ask
 use Rattle.keeper_book.specs.declared.counters.Counter.{Counter}
 use Rattle.keeper_book.specs.declared.counters.Counter.TheVariants as counter
 use Rattle.turn_laws.proofs.Acting.{MayDoMoves}
-use Rattle.turn_laws.proofs.Covers.{IsCover}
-use Rattle.turn_laws.proofs.Deeds.{AreReady, Asked, Deed, Ended, IsOpenTo, Last, Need, NoneStarted, Rested, Rests, Used, Used_theirs, UsesIt, rest_of, spent_by}
+use Rattle.turn_laws.proofs.Covers.{IsCover, IsLease}
+use Rattle.turn_laws.proofs.Deeds.{AreReady, Asked, Deed, Ended, IsOpenTo, Last, Need, NoneStarted, Rested, Rests, Used, Used_theirs, UsesIt, rest_of, spent_by, PeerNeed, spent_theirs, LotNeed, lots_of, IsLotReady, with_lot, Left, Leased, InVain}
 use Rattle.turn_laws.proofs.Entries.{is_counter-same}
 use Rattle.turn_laws.proofs.Holdings.{is_actor-same}
 use Rattle.turn_rules.proofs.SlotTies.{all-weaker}
 use Rattle.turn_rules.proofs.Readies.{counter-named}
 use Rattle.turn_laws.proofs.Outcomes.{over-rest, rests-rest}
 use Rattle.turn_laws.proofs.Tells.{Tells, tells}
-use Rattle.turn_laws.proofs.Uses.{may-use, spent_of}
-use Rattle.turn_laws.specs.Acts.{Act, Calls, HoldsFor, MayDo, act_by, effect_ours, holding_at}
+use Rattle.turn_laws.proofs.Uses.{may-use, Spent, all-among}
+use Rattle.turn_laws.specs.Acts.{Act, Calls, HoldsFor, MayDo, act_by, effect_ours, holding_at, lot_begun, begun_at}
 use Rattle.turn_laws.specs.Holdings.{Actor, End, Holding, IsNotIn, holding_after, is_actor, raised_to}
-use Rattle.turn_laws.specs.Places.{Ours, Theirs}
-use Rattle.turn_laws.specs.Turns.{actor_as, told}
+use Rattle.turn_laws.specs.Places.{Ours, Theirs, Pooled}
+use Rattle.turn_laws.specs.Turns.{actor_as, told, acts_of}
 use Rattle.turn_rules.specs.Draws.{reach_of}
 use Rattle.turn_rules.specs.Ends.{Member, Peer, own, performer_at}
 use Rattle.turn_rules.specs.Held.{covered, is_named, window_by}
@@ -136,7 +138,7 @@ module _ (past : List Turn) (member : ℕ) (event : Event) (step : Step) where
             let named : _ = counter-named need.c in
             rw (asked, sees, here, named, this, mine, held)
 
-  module _ (stops goes : Type 0) (stopped : (acts : List Act) → stops → MayMake acts []) where
+  module _ (stops : Type 0) (goes : List Call → Type 0) (stopped : (acts : List Act) → stops → MayMake acts []) where
     ends-well : (acts : List Act) (rest : List Call) (so : Type 0) → Last rest so → (so → MayMake acts []) → MayMake acts rest
     ends-well acts rest so last f = subst (λ calls. MayMake acts calls) (sym last.ended) (f last.is)
 
@@ -169,9 +171,9 @@ module _ (past : List Turn) (member : ℕ) (event : Event) (step : Step) where
           (cases_lt need.number (five_at need.held.highs need.c))
 
     pub ready-well : (needs : List (Need past member)) (P : List Act → Type 0) → ((acts : List Act) (call : Call) → IsCover call → P acts → P (act_by w (Calls call) ∷ acts))
-        → ((acts : List Act) → P acts → AllByRecursion (λ n. IsUsable n acts) needs → goes → MayMake acts [])
+        → ((acts : List Act) → P acts → AllByRecursion (λ n. IsUsable n acts) needs → (calls : List Call) → goes calls → MayMake acts calls)
         → (acts : List Act) → P acts → AllByRecursion (λ n. Kept n acts) needs → (calls : List Call) → AreReady needs calls stops goes → MayMake acts calls
-    ready-well [] P later gone acts p kept calls last = ends-well acts calls goes last (gone acts p tt)
+    ready-well [] P later gone acts p kept calls so = gone acts p tt calls so
     ready-well (need ∷ needs) P later gone acts p kept calls ready = one-well need needs P later
         (ready-well needs (λ acts. P acts × IsUsable need acts) (λ acts call cover both. (later acts call cover both.0, usable-later acts call cover need both.1)) (λ acts both all. gone acts both.0 (both.1, all)))
         acts p kept.0 kept.1 calls ready
@@ -203,20 +205,99 @@ module _ (past : List Turn) (member : ℕ) (event : Event) (step : Step) where
         unused = (so.1.unused need.number need.is_open).1;
       }
 
+  -- what a member may use before a lease it may use after it
+  module _ (acts : List Act) (call : Call) (lease : IsLease call) where
+    abbrev leased : List Act
+    leased = act_by w (Calls call) ∷ acts
+
+    leased-holds : (spir : ℕ) (c : Counter) → holding_at (Ours spir c) leased w ≡ holding_at (Ours spir c) acts w
+    leased-holds spir c = let asked : _ = lease.asked in rw asked refl
+
+    leased-usable : (needs : List (Need past member)) → AllByRecursion (λ n. IsUsable n acts) needs → AllByRecursion (λ n. IsUsable n leased) needs
+    leased-usable needs all = all-weaker needs (λ need usable. record {
+      kept = record {
+        now = usable.kept.now;
+        holds = leased-holds need.held.sa.spir need.c ∙ usable.kept.holds;
+        epoch = usable.kept.epoch;
+        end = usable.kept.end;
+        high = usable.kept.high;
+        from_base = usable.kept.from_base;
+        unused = usable.kept.unused;
+      };
+      above = usable.above;
+    }) all
+
+    may-lease : MayDo acts w (Calls call)
+    may-lease = let asked : _ = lease.asked in rw asked tt
+
+  -- the lots are those before the turn, until one is leased
+  abbrev AreLots : List Act → Type 0
+  AreLots acts = (pool : Pool) → holding_at (Pooled pool) acts w ≡ lots_of past member pool
+
+  lots-later : (acts : List Act) (call : Call) → IsCover call → AreLots acts → AreLots (act_by w (Calls call) ∷ acts)
+  lots-later acts call cover lots pool = (let asked : _ = cover.asked in rw asked refl) ∙ lots pool
+
+  abbrev MayAll : List Act → List Spent → Type 0
+  MayAll acts ss = AllByRecursion (λ s. HoldsFor (holding_at s.place acts w) s.number) ss
+
+  it-well : (acts : List Act) (needed : List Spent) → MayAll acts needed → UsesIt needed event step → MayMake acts []
+  it-well acts needed may it = may-use w acts it.ss (rest_of event step) it.uses_them it.apart (all-among (λ s. HoldsFor (holding_at s.place acts w) s.number) it.ss needed may it.were_needed)
+
+  rests-well : (acts : List Act) → Rests step → MayMake acts []
+  rests-well acts rests = let quiet : _ = rests-rest event step rests in rw quiet tt
+
+  -- the next number of a lot
+  left-may : (acts : List Act) (need : LotNeed) (h : Holding) → AreLots acts → lots_of past member need.pool ≡ Some h → h.next < h.high → need.number ≡ h.next → HoldsFor (holding_at (Pooled need.pool) acts w) need.number
+  left-may acts need h lots holds below is =
+      let order : IsInOrder h = lots-ordered (acts_of past) need.pool w h holds in
+      subst (λ n. HoldsFor (holding_at (Pooled need.pool) acts w) n) (sym is) (record {
+        holding = h;
+        holds = lots need.pool ∙ holds;
+        may = record { from_base = order.from_base; below_high = below; unused = all-weaker h.numbers (λ k less same. absurd (let a : k < h.next = less in omega (arith, same))) order.above_used };
+      })
+
+  -- and the first one of a range that was leased
+  leased-may : (acts : List Act) (need : LotNeed) (call : Call) → call.asked ≡ ask.Lease need.pool need.count → seen call ≡ answer.First need.number → HoldsFor (holding_at (Pooled need.pool) (act_by w (Calls call) ∷ acts) w) need.number
+  leased-may acts need call asked sees = record {
+    holding = lot_begun (length (begun_at (Pooled need.pool) acts).bases) need.pool need.number need.count;
+    holds = lease-lot acts w need.pool need.number need.count call asked sees;
+    may = record { from_base = omega arith; below_high = let some : 1 ≤ need.count = need.some in omega arith; unused = tt };
+  }
+
+  lot-well : (needs : List (Need past member)) (lot : Option LotNeed) (acts : List Act) → AreLots acts → AllByRecursion (λ n. IsUsable n acts) needs → (calls : List Call)
+      → IsLotReady lot (lots_of past member) calls (Rests step ⊎ UsesIt (map spent_by needs) event step) (UsesIt (with_lot lot (map spent_by needs)) event step) → MayMake acts calls
+  lot-well needs None acts lots usable calls last = subst (λ calls. MayMake acts calls) (sym last.ended) (it-well acts (map spent_by needs) (usable-holds acts needs usable) last.is)
+  lot-well needs (Some need) acts lots usable calls (Left h holds below is ended it) = subst (λ calls. MayMake acts calls) (sym ended)
+      (it-well acts (with_lot (Some need) (map spent_by needs)) (left-may acts need h lots holds below is, usable-holds acts needs usable) it)
+  lot-well needs (Some need) acts lots usable calls (Leased call one asked sees it) =
+      let lease : IsLease call = record { pool = need.pool; count = need.count; asked = asked } in
+      subst (λ calls. MayMake acts calls) (sym one) (
+        may-lease acts call lease,
+        it-well (act_by w (Calls call) ∷ acts) (with_lot (Some need) (map spent_by needs)) (leased-may acts need call asked sees, usable-holds (act_by w (Calls call) ∷ acts) needs (leased-usable acts call lease needs usable)) it,
+      )
+  lot-well needs (Some need) acts lots usable calls (InVain call why one asked sees so) =
+      let lease : IsLease call = record { pool = need.pool; count = need.count; asked = asked } in
+      subst (λ calls. MayMake acts calls) (sym one) (
+        may-lease acts call lease,
+        ⊎_elim (λ rests. rests-well (act_by w (Calls call) ∷ acts) rests)
+            (λ it. it-well (act_by w (Calls call) ∷ acts) (map spent_by needs) (usable-holds (act_by w (Calls call) ∷ acts) needs (leased-usable acts call lease needs usable)) it) so,
+      )
+
   -- a member uses the numbers that it needs
-  pub uses-well : (acts : List Act) → ((spir : ℕ) (c : Counter) → told spir c (own (Member member) past) ≡ holding_at (Ours spir c) acts w) → (needs : List (Need past member)) (calls : List Call) → AreReady needs calls (Rests step) (UsesIt (map spent_by needs) event step) → MayMake acts calls
-  uses-well acts agrees needs calls ready = ready-well (Rests step) (UsesIt (map spent_by needs) event step)
-      (λ acts rests. let quiet : _ = rests-rest event step rests in rw quiet tt)
-      needs (λ acts. Unit {0}) (λ acts call cover p. tt)
-      (λ acts p usable it. may-use w acts (map spent_by needs) (rest_of event step) it.uses_them it.apart (usable-holds acts needs usable))
-      acts tt (told-kept acts agrees needs) calls ready
+  pub uses-well : (acts : List Act) → ((spir : ℕ) (c : Counter) → told spir c (own (Member member) past) ≡ holding_at (Ours spir c) acts w) → AreLots acts → (needs : List (Need past member)) (lot : Option LotNeed) (calls : List Call)
+      → AreReady needs calls (Rests step) (λ rest. IsLotReady lot (lots_of past member) rest (Rests step ⊎ UsesIt (map spent_by needs) event step) (UsesIt (with_lot lot (map spent_by needs)) event step)) → MayMake acts calls
+  uses-well acts agrees lots needs lot calls ready = ready-well (Rests step) _
+      rests-well
+      needs AreLots lots-later
+      (λ acts lots usable calls so. lot-well needs lot acts lots usable calls so)
+      acts lots (told-kept acts agrees needs) calls ready
 
 -- the peer may use what is open to it
 abbrev pub PeerMayUse : List Turn → List Act → Type 0
 PeerMayUse past acts = (test : Slot → Bool) (slot : Slot) → first_slot test (slots_by (window_by past) (own Peer past)) ≡ Some slot → (c : Counter) (n : ℕ) → IsOpenTo slot c n → HoldsFor (holding_at (Theirs (peer_counter slot.sa c)) acts (End Peer)) n
 
 module _ (past : List Turn) (acts : List Act) (agrees : (member spir : ℕ) (c : Counter) → told spir c (own (Member member) past) ≡ holding_at (Ours spir c) acts (End (Member member))) (peer_may : PeerMayUse past acts) (none_started : NoneStarted acts)
-    (event : Event) (calls : List Call) (step : Step) where
+    (lots : (member : ℕ) (pool : Pool) → holding_at (Pooled pool) acts (End (Member member)) ≡ lots_of past member pool) (event : Event) (calls : List Call) (step : Step) where
   -- the moves of a deed may be made
   pub deed-well : Deed past event calls step → MayDoMoves acts (actor_as (performer_at event step.verdict)) (map Calls calls ++ rest_of event step)
   deed-well (Rested none rests no_entry) = let quiet : _ = rests-rest event step rests in rw (none, quiet) tt
@@ -224,8 +305,12 @@ module _ (past : List Turn) (acts : List Act) (agrees : (member spir : ℕ) (c :
   deed-well (Ended member by none said ends quiet) = let over : _ = over-rest event step member said ends quiet in rw (none, over) (tt, tt)
   deed-well (Used u) =
       subst (λ v. MayDoMoves acts v (map Calls calls ++ rest_of event step)) (sym (ap actor_as u.by_it))
-      (uses-well past u.member event step acts (λ spir c. agrees u.member spir c) u.needs calls u.ready)
+      (uses-well past u.member event step acts (λ spir c. agrees u.member spir c) (lots u.member) u.needs u.lot calls u.ready)
   deed-well (Used_theirs u) =
       subst (λ v. MayDoMoves acts v (map Calls calls ++ rest_of event step)) (sym (ap actor_as u.by_it))
       (let none : _ = u.no_calls in rw none
-      (may-use (End Peer) acts (spent_of (Theirs (peer_counter u.slot.sa u.c)) u.number ∷ []) (rest_of event step) u.spends.uses_it (tt, tt) (peer_may u.test u.slot u.is_first u.c u.number u.is_open, tt)))
+      (may-use (End Peer) acts (map spent_theirs u.needs) (rest_of event step) u.uses_them u.apart (each u.needs)))
+    where
+      each : (needs : List (PeerNeed past)) → AllByRecursion (λ s. HoldsFor (holding_at s.place acts (End Peer)) s.number) (map spent_theirs needs)
+      each [] = tt
+      each (need ∷ needs) = (peer_may need.test need.slot need.is_first need.c need.number need.is_open, each needs)

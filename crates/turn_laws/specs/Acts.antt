@@ -1,14 +1,16 @@
 -- What ends do, as data, and what it does to the numbers of each counter. A list of acts has the
 -- newest first.
-use Rattle.std.specs.Prelude.{ℕ, ◌+◌, ◌≡◌, ◌≢◌, ◌≤◌, Bool, true, false, Option, Some, None, MatchOption, List, [], ◌∷◌, length, map, is_some, if◌then◌else◌}
+use Rattle.std.specs.Prelude.{ℕ, ◌+◌, ◌≡◌, ◌≢◌, ◌≤◌, Bool, false, Option, Some, None, MatchOption, List, [], ◌∷◌, length, map, is_some, if◌then◌else◌, ◌==◌}
 use Rattle.std.specs.List.{AllByRecursion}
 use Rattle.ha_base.specs.declared.counter_names.CounterName.{CounterName}
-use Rattle.keeper_book.specs.Book.{Book}
+use Rattle.ha_base.specs.declared.counter_names.Derivation.{Derivation}
+use Rattle.keeper_book.specs.Book.{Book, settled_highs}
 use Rattle.ha_base.specs.declared.limits.TheConstants.{LEAST_ESP_SPI, LEAST_SPI}
 use Rattle.keeper_book.specs.CounterEnds.{end_of}
-use Rattle.keeper_book.specs.Counters.{counter_named, five_at}
+use Rattle.keeper_book.specs.Counters.{counter_named, extended_end, five_at}
 use Rattle.keeper_book.specs.Pools.{pool_end}
 use Rattle.keeper_book.specs.Told.{seen}
+use Rattle.keeper_book.specs.declared.TheConstants.{SETTLED_IV_HIGH}
 use Rattle.keeper_book.specs.declared.calls.Call.{Call}
 use Rattle.keeper_book.specs.declared.calls.KeeperAnswer.{KeeperAnswer}
 use Rattle.keeper_book.specs.declared.calls.KeeperAnswer.TheVariants as answer
@@ -21,10 +23,11 @@ use Rattle.keeper_book.specs.declared.pools.Pool.TheVariants as pools
 use Rattle.keeper_book.specs.declared.records.Record.{Record}
 use Rattle.keeper_book.specs.declared.records.Taken.{Taken}
 use Rattle.turn_laws.specs.Columns.{Column, nothing}
-use Rattle.turn_laws.specs.Holdings.{Actor, Begins, Draws, Effect, Half, Holding, Jumps, MayUse, Nothing, Rises, Use, column_begun, holding_after, uses_after}
+use Rattle.turn_laws.specs.Holdings.{Actor, Begins, Draws, Effect, Half, Holding, Jumps, MayUse, Nothing, Passes, Rises, Use, column_begun, holding_after, uses_after}
 use Rattle.turn_laws.specs.Names.{is_name}
 use Rattle.turn_laws.specs.Places.{Place, Ours, Pooled, Theirs, column, is_place, is_pool, place_of, start_of}
-use Rattle.turn_rules.specs.Held.{covered, granted}
+use Rattle.turn_laws.specs.Resumed.{IsResumedRecord, resumed_starts}
+use Rattle.turn_rules.specs.Held.{covered, first_some, granted}
 use Rattle.turn_rules.specs.Safe.{KeyIv}
 use Rattle.turn_rules.specs.Slots.{peer_counter}
 
@@ -35,14 +38,11 @@ pub data Move : Type 0 where
   Uses : (place : Place) → (number : ℕ) → Move
   -- something is sealed under a key and an IV, which is a number of the key's counter
   Seals : (key : KeyIv) → Move
-  -- The book leases a range of a pool, from a number on and so many. Where the caller saw it, the
-  -- range is its lot, in place of an earlier one.
-  Leases : (pool : Pool) → (first count : ℕ) → (seen : Bool) → Move
   -- an end goes on with a number of a place, or with a later one
   Leaps : (place : Place) → (number : ℕ) → Move
-  -- A resumption gets half open, which will be this association: its responder's SPI is a number
-  -- that is drawn of the nonces' pool.
-  Opens : (sa : Record) → Move
+  -- A resumption by a ticket gets half open, whose keys will be derived so: the responder's SPI is a
+  -- number that is drawn of the nonces' pool.
+  Opens : (ticket : ℕ) → (made : Derivation) → Move
   -- the peer begins an association that was resumed
   Starts : (sa : Record) → Move
   -- a member ends
@@ -90,15 +90,26 @@ abbrev pub begun_by : CounterName → Option Record → Option Holding
 begun_by name None = None
 begun_by name (Some sa) = begun_named name sa
 
--- What is half open holds the first IVs of what it will be. A member that settles it begins above
--- them.
-abbrev pub half_begun : Record → Holding
-half_begun sa = record {
+-- What is half open holds the first IVs of what it will be, up to where the highs of a settled
+-- association begin. They pass to the member that settles it, and later epochs begin above them.
+abbrev pub half_begun : Holding
+half_begun = record {
   epoch = 1;
-  base = 1;
-  next = 1;
-  high = 64;
-  end = end_of sa counter.Iv;
+  base = resumed_starts.iv;
+  next = resumed_starts.iv;
+  high = SETTLED_IV_HIGH;
+  end = extended_end counter.Iv;
+  numbers = [];
+}
+
+-- what a member holds of a counter of an association that it settled
+abbrev pub holding_settled : Counter → Record → Holding
+holding_settled c sa = record {
+  epoch = 1;
+  base = five_at sa.starts c;
+  next = five_at sa.starts c;
+  high = five_at (settled_highs sa.starts) c;
+  end = end_of sa c;
   numbers = [];
 }
 
@@ -107,6 +118,22 @@ abbrev pub effect_ours : Actor → Counter → Option Taken → Option ℕ → E
 effect_ours w c (Some taken) upto = Begins w (holding_begun c taken)
 effect_ours w c None (Some upto) = Rises w upto
 effect_ours w c None None = Nothing
+
+-- The association that the caller saw settled: it holds the first numbers of it, and of the IVs
+-- what was half open held.
+abbrev pub settled_as : ℕ → KeeperAsk → KeeperAnswer → Option Record
+settled_as spir (ask.Settle ticket old_spir sa member) answer.Done =
+    if sa.spir == spir then Some sa else None
+settled_as spir asked answered = None
+
+abbrev pub effect_settled : Actor → Counter → Record → Effect
+effect_settled w counter.Iv sa = Passes (Half sa.spir) w
+effect_settled w c sa = Begins w (holding_settled c sa)
+
+-- by what was settled, and else by what was granted or covered
+abbrev pub effect_of_ours : Actor → Counter → Option Record → Option Taken → Option ℕ → Effect
+effect_of_ours w c (Some sa) taken upto = effect_settled w c sa
+effect_of_ours w c None taken upto = effect_ours w c taken upto
 
 -- by what begins, if something does
 abbrev pub effect_begun : Actor → Option Holding → Effect
@@ -117,14 +144,6 @@ effect_begun w None = Nothing
 abbrev pub entered_as : KeeperAsk → KeeperAnswer → Option Record
 entered_as (ask.Enter sa) answer.Done = Some sa
 entered_as asked answered = None
-
--- what a call does at a place, by what its caller saw
-abbrev pub effect_of_call : Place → Actor → KeeperAsk → KeeperAnswer → Effect
-effect_of_call (Ours spir c) w asked answered = effect_ours w c (granted spir asked answered)
-    (covered spir c asked answered)
-effect_of_call (Theirs name) w asked answered =
-    effect_begun w (begun_by name (entered_as asked answered))
-effect_of_call (Pooled pool) w asked answered = Nothing
 
 abbrev pub effect_of_use : Place → Place → Actor → ℕ → Effect
 effect_of_use p q w n = if is_place q p then Draws w n else Nothing
@@ -140,17 +159,30 @@ lot_begun before pool first count = record {
   numbers = [];
 }
 
--- the lot of a lease that its caller saw, after what began at a place
-abbrev pub begun_leased : Place → Column → Pool → ℕ → ℕ → Bool → Option Holding
-begun_leased (Pooled q) begun pool first count true =
-    if is_pool pool q then Some (lot_begun (length begun.bases) pool first count) else None
-begun_leased p begun pool first count seen = None
+-- The lot of a pool that a caller saw leased, after so many: all its numbers may be used, in place
+-- of an earlier lot.
+abbrev pub lot_of : Pool → ℕ → KeeperAsk → KeeperAnswer → Option Holding
+lot_of q before (ask.Lease pool count) (answer.First first) =
+    if is_pool pool q then Some (lot_begun before pool first count) else None
+lot_of q before asked answered = None
 
--- what gets half open at a place
-abbrev pub begun_open : Place → Record → Option Holding
-begun_open (Ours spir c) sa =
-    if is_place (Ours sa.spir counter.Iv) (Ours spir c) then Some (half_begun sa) else None
-begun_open p sa = None
+-- what a call begins at a place, by what its caller saw, but for what the book begins
+abbrev pub begun_called : Place → Column → KeeperAsk → KeeperAnswer → Option Holding
+begun_called (Ours spir c) begun asked answered = None
+begun_called (Theirs name) begun asked answered = begun_by name (entered_as asked answered)
+begun_called (Pooled q) begun asked answered = lot_of q (length begun.bases) asked answered
+
+-- what a call does at a place, by what its caller saw
+abbrev pub effect_of_call : Place → Column → Actor → KeeperAsk → KeeperAnswer → Effect
+effect_of_call (Ours spir c) begun w asked answered = effect_of_ours w c
+    (settled_as spir asked answered) (granted spir asked answered) (covered spir c asked answered)
+effect_of_call p begun w asked answered = effect_begun w (begun_called p begun asked answered)
+
+-- what gets half open at a place, under this responder's SPI
+abbrev pub begun_open : Place → ℕ → Option Holding
+begun_open (Ours spir c) drawn =
+    if is_place (Ours drawn counter.Iv) (Ours spir c) then Some half_begun else None
+begun_open p drawn = None
 
 -- what the peer begins at a place
 abbrev pub begun_started : Place → Record → Option Holding
@@ -159,32 +191,24 @@ begun_started p sa = None
 
 -- what a resumption does at a place as it gets half open: a number of the pool is used, and the
 -- holding is that of no end yet
-abbrev pub effect_of_open : Place → Actor → Record → Effect
-effect_of_open (Pooled q) w sa = effect_of_use (Pooled q) (Pooled pools.Nonce) w sa.spir
-effect_of_open p w sa = effect_begun (Half sa.spir) (begun_open p sa)
+abbrev pub effect_of_open : Place → Actor → ℕ → Effect
+effect_of_open (Pooled q) w drawn = effect_of_use (Pooled q) (Pooled pools.Nonce) w drawn
+effect_of_open p w drawn = effect_begun (Half drawn) (begun_open p drawn)
 
 -- what a move does at a place, after what began there without the book
 abbrev pub effect_of : Place → Column → Actor → Move → Effect
-effect_of p begun w (Calls call) = effect_of_call p w call.asked (seen call)
+effect_of p begun w (Calls call) = effect_of_call p begun w call.asked (seen call)
 effect_of p begun w (Uses q n) = effect_of_use p q w n
 effect_of p begun w (Seals key) = effect_of_use p (place_of key.name) w key.iv
-effect_of p begun w (Leases pool first count seen) =
-    effect_begun w (begun_leased p begun pool first count seen)
 effect_of p begun w (Leaps q n) = if is_place q p then Jumps w n else Nothing
-effect_of p begun w (Opens sa) = effect_of_open p w sa
+effect_of p begun w (Opens ticket made) = effect_of_open p w made.spir
 effect_of p begun w (Starts sa) = effect_begun w (begun_started p sa)
 effect_of p begun w Ends = Nothing
 
--- what a call begins at a place of the peer
-abbrev pub begun_called : Place → KeeperAsk → KeeperAnswer → Option Holding
-begun_called (Theirs name) asked answered = begun_by name (entered_as asked answered)
-begun_called p asked answered = None
-
 -- what a move begins at a place, but for what the book begins
 abbrev pub begun_moved : Move → Place → Column → Option Holding
-begun_moved (Calls call) p begun = begun_called p call.asked (seen call)
-begun_moved (Leases pool first count seen) p begun = begun_leased p begun pool first count seen
-begun_moved (Opens sa) p begun = begun_open p sa
+begun_moved (Calls call) p begun = begun_called p begun call.asked (seen call)
+begun_moved (Opens ticket made) p begun = begun_open p made.spir
 begun_moved (Starts sa) p begun = begun_started p sa
 begun_moved move p begun = None
 
@@ -250,6 +274,34 @@ starts_name name move = false
 abbrev pub IsUnstarted : CounterName → List Act → Type 0
 IsUnstarted name acts = AllByRecursion (λ act. starts_name name act.move ≡ false) acts
 
+-- a resumption that got half open: by which ticket, and under which derivation
+pub record Opened : Type 0 where
+  pub ticket : ℕ
+  pub made : Derivation
+
+-- the one under this responder's SPI
+abbrev pub opened_by : ℕ → Move → Option Opened
+opened_by spir (Opens ticket made) =
+    if made.spir == spir then Some (record { ticket = ticket; made = made }) else None
+opened_by spir move = None
+
+abbrev pub opened_at : ℕ → List Act → Option Opened
+opened_at spir [] = None
+opened_at spir (act ∷ acts) = first_some (opened_by spir act.move) (opened_at spir acts)
+
+-- a resumption that is half open and used no IV
+abbrev pub IsHalfOpen : List Act → ℕ → Type 0
+IsHalfOpen acts spir = holding_at (Ours spir counter.Iv) acts (Half spir) ≡ Some half_begun
+
+-- A member settles what is half open by its own ticket, and with the record of its derivation.
+pub record MaySettle (acts : List Act) (w : Actor) (ticket : ℕ) (sa : Record) : Type 0 where
+  pub half_open : IsHalfOpen acts sa.spir
+  pub opened : Opened
+  pub is_its : opened_at sa.spir acts ≡ Some opened
+  pub its_ticket : opened.ticket ≡ ticket
+  pub its_record : IsResumedRecord opened.made sa
+  pub by_other : w ≢ Half sa.spir
+
 -- what a call needs beside the book
 abbrev pub MayAsk : List Act → Actor → KeeperAsk → Type 0
 MayAsk acts w (ask.Cover spir kind child epoch upto) =
@@ -257,8 +309,7 @@ MayAsk acts w (ask.Cover spir kind child epoch upto) =
     (holding_at (Ours spir c) acts w) epoch upto)
 MayAsk acts w (ask.Enter sa) = IsImport sa
     × ((c : Counter) → IsUnstarted (peer_counter sa c) acts)
--- no event has an end spend a ticket
-MayAsk acts w (ask.Settle ticket old_spir sa member) = ⊥
+MayAsk acts w (ask.Settle ticket old_spir sa member) = MaySettle acts w ticket sa
 MayAsk acts w asked = Unit {0}
 
 -- what a move needs beside the book
@@ -266,9 +317,9 @@ abbrev pub MayDo : List Act → Actor → Move → Type 0
 MayDo acts w (Calls call) = MayAsk acts w call.asked
 MayDo acts w (Uses p n) = HoldsFor (holding_at p acts w) n
 MayDo acts w (Seals key) = HoldsFor (holding_at (place_of key.name) acts w) key.iv
-MayDo acts w (Leases pool first count seen) = first + count ≤ pool_end pool
 MayDo acts w (Leaps p n) = Unit {0}
-MayDo acts w (Opens sa) = HoldsFor (holding_at (Pooled pools.Nonce) acts w) sa.spir
+MayDo acts w (Opens ticket made) =
+    HoldsFor (holding_at (Pooled pools.Nonce) acts w) made.spir
 MayDo acts w (Starts sa) = (c : Counter) → begun_at (Theirs (peer_counter sa c)) acts ≡ nothing
 MayDo acts w Ends = Unit {0}
 
@@ -282,16 +333,12 @@ abbrev pub acts_onto : List Act → List Act → List Act
 acts_onto [] acts = acts
 acts_onto (act ∷ more) acts = acts_onto more (act ∷ acts)
 
--- an act that leaves what another one holds: it is not by it, and does not open it
+-- an act that leaves what another one holds: it is not by it, and neither opens it nor settles it
 abbrev pub Spares : Actor → Move → Type 0
-Spares (Half spir) (Opens sa) = sa.spir ≢ spir
+Spares (Half spir) (Opens ticket made) = made.spir ≢ spir
+Spares (Half spir) (Calls call) = settled_as spir call.asked (seen call) ≡ None
 Spares w move = Unit {0}
 
 pub record IsNotBy (w : Actor) (act : Act) : Type 0 where
   pub other : act.by ≢ w
   pub spares : Spares w act.move
-
--- a resumption that is half open and used no IV
-abbrev pub IsHalfOpen : List Act → Record → Type 0
-IsHalfOpen acts sa = holding_at (Ours sa.spir counter.Iv) acts (Half sa.spir)
-    ≡ Some (half_begun sa)

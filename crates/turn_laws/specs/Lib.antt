@@ -9,4 +9,5 @@ pub mod Owned
 pub mod PeerTurns
 pub mod Places
 pub mod Replaced
+pub mod Resumed
 pub mod Turns

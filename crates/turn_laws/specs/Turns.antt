@@ -1,10 +1,11 @@
 -- The moves of a turn, and what an end's own turns say of one counter.
-use Rattle.std.specs.Prelude.{ℕ, ◌+◌, Option, Some, None, List, [], ◌∷◌, ◌++◌, map}
-use Rattle.std.specs.List.{filter_map}
+use Rattle.std.specs.Prelude.{ℕ, ◌+◌, ◌<◌, Option, Some, None, List, [], ◌∷◌, ◌++◌, map}
+use Rattle.std.specs.List.{AllByRecursion, filter_map}
 use Rattle.std.specs.Option.{option_map}
 use Rattle.events.specs.declared.event.Event.{Event}
 use Rattle.events.specs.declared.event.Event.TheVariants as event
 use Rattle.events.specs.declared.seals.Seal.{Seal}
+use Rattle.events.specs.declared.turn.Step.{Step}
 use Rattle.events.specs.declared.turn.Turn.{Turn}
 use Rattle.events.specs.declared.verdict.Verdict.{Verdict}
 use Rattle.events.specs.declared.verdict.Verdict.TheVariants as out
@@ -13,10 +14,10 @@ use Rattle.keeper_book.specs.CounterEnds.{end_of}
 use Rattle.keeper_book.specs.Counters.{five_at}
 use Rattle.keeper_book.specs.declared.counters.Counter.{Counter}
 use Rattle.keeper_book.specs.declared.counters.Counter.TheVariants as counter
-use Rattle.turn_laws.specs.Acts.{Act, Calls, Ends, Move, Seals, Uses, act_by, acts_onto}
+use Rattle.turn_laws.specs.Acts.{Act, Calls, Ends, Move, Seals, Uses, act_by, acts_onto, uses_at}
 use Rattle.turn_laws.specs.Holdings.{Actor, End, Holding, Run}
 use Rattle.turn_laws.specs.Owned.{Owned}
-use Rattle.turn_laws.specs.Places.{Ours, place_of}
+use Rattle.turn_laws.specs.Places.{Ours, Place, place_of}
 use Rattle.turn_rules.specs.Ends.{Performer, performer}
 use Rattle.turn_rules.specs.Held.{found, grant_of, greatest, high_of, received, since, used}
 use Rattle.turn_rules.specs.Safe.{KeyIv}
@@ -66,13 +67,17 @@ acts_of (turn ∷ past) = acts_onto (acts_in turn) (acts_of past)
 abbrev pub AreOwned : List Turn → Book → Type 0
 AreOwned past book = Owned (acts_of past) book
 
+-- each number that was used lies below its counter's end, as the record of what was held gave it
+abbrev pub AreBelowEnds : List Turn → Type 0
+AreBelowEnds past = (p : Place) → AllByRecursion (λ u. u.number < u.end) (uses_at p (acts_of past))
+
 -- the number of the counter of the association that an event used, or received
-abbrev pub number_taken : ℕ → Counter → Event → Verdict → Option ℕ
-number_taken spir counter.EspIn event verdict = received spir event verdict
-number_taken spir c event verdict = used spir c event verdict
+abbrev pub number_taken : ℕ → Counter → Event → Step → Option ℕ
+number_taken spir counter.EspIn event step = received spir event step.verdict
+number_taken spir c event step = used spir c event step
 
 abbrev pub turn_taken : ℕ → Counter → Turn → Option ℕ
-turn_taken spir c turn = number_taken spir c turn.event turn.step.verdict
+turn_taken spir c turn = number_taken spir c turn.event turn.step
 
 -- what an end with these turns of its own holds of a counter of the association, and what it used
 -- of it

@@ -1,14 +1,16 @@
 //! The laws. Each is the contract of a function that does nothing.
 
-ghost use Rattle.std.specs.Prelude.{◌+◌, ◌≡◌, ◌≢◌, ◌<◌, ◌≤◌, ◌⊎◌, ℕ, Bool, Option, Some, None, List, [], ◌∷◌};
+ghost use Rattle.std.specs.Prelude.{◌+◌, ◌≡◌, ◌≢◌, ◌<◌, ◌≤◌, ◌⊎◌, ℕ, Bool, Option, Some, None, List, [], ◌∷◌, length, true};
 ghost use Rattle.std.specs.List.{AllByRecursion, Contains, filter_map, flat_map};
 ghost use Rattle.events.specs.declared.turn.Turn.{Turn};
-ghost use Rattle.keeper_book.specs.Book.{Answers, Book, Enters, book_after, entry_of, pool_next, with_pool_next};
+ghost use Rattle.keeper_book.specs.Book.{Answers, Book, Enters, Entry, book_after, entry_of, is_spent, pool_next};
 ghost use Rattle.keeper_book.specs.Counters.{counter_named, five_at};
 ghost use Rattle.keeper_book.specs.declared.calls.Call.{Call};
 ghost use Rattle.ha_base.specs.declared.counter_names.CounterName.{CounterName};
 ghost use Rattle.ha_base.specs.declared.counter_names.Kind.{Kind};
-ghost use Rattle.keeper_book.specs.Pools.{pool_end};
+ghost use Rattle.ha_base.specs.declared.counter_names.Derivation.{Derivation};
+ghost use Rattle.keeper_book.specs.Told.{seen};
+ghost use Rattle.keeper_book.specs.declared.TheConstants.{SETTLED_IV_HIGH};
 ghost use Rattle.keeper_book.specs.declared.records.Record.{Record};
 ghost use Rattle.turn_rules.specs.Slots.{peer_counter};
 ghost use Rattle.keeper_book.specs.declared.calls.KeeperAnswer.TheVariants as answer;
@@ -18,7 +20,7 @@ ghost use Rattle.keeper_book.specs.declared.counters.Counter.TheVariants as coun
 ghost use Rattle.keeper_book.specs.declared.faults.KeeperFault.TheVariants as fault;
 ghost use Rattle.keeper_book.specs.declared.pools.Pool.{Pool};
 ghost use Rattle.keeper_book.specs.declared.pools.Pool.TheVariants as pools;
-ghost use Rattle.turn_laws.specs.Acts.{Act, Calls, Ends, HoldsFor, IsHalfOpen, IsNotBy, Leases, MayAsk, MayDo, MayDoAll, Move, Opens, Seals, Starts, act_by, acts_onto, begun_at, column_at, end_at, half_begun, holding_at, numbers_at, uses_at};
+ghost use Rattle.turn_laws.specs.Acts.{Act, Calls, Ends, HoldsFor, IsHalfOpen, IsNotBy, MayAsk, MayDo, MayDoAll, MaySettle, Move, Opened, Opens, Seals, Starts, act_by, acts_onto, begun_at, column_at, end_at, half_begun, holding_at, holding_settled, lot_begun, numbers_at, opened_at, uses_at};
 ghost use Rattle.turn_laws.specs.Columns.{Column, ColumnGoesOn, column_mark, nothing};
 ghost use Rattle.turn_laws.specs.FirstDelivery.{MemberAcceptsFirst, PeerAcceptsFirst};
 ghost use Rattle.turn_laws.specs.Holdings.{Actor, Begins, Draws, End, Half, Holding, IsNew, IsOwned, Jumps, MayUse, Passes, Rises, Use, holding_after, uses_after};
@@ -28,8 +30,9 @@ ghost use Rattle.turn_laws.specs.Owned.{Owned, WritesBook};
 ghost use Rattle.turn_laws.specs.PeerTurns.{told_theirs};
 ghost use Rattle.turn_laws.specs.Places.{Ours, Place, Pooled, Theirs, place_of};
 ghost use Rattle.turn_laws.specs.Replaced.{AreReplacedLater};
-ghost use Rattle.turn_laws.specs.Turns.{AreOwned, acts_in, acts_of, told};
-ghost use Rattle.turn_rules.specs.Ends.{Member, Peer, own};
+ghost use Rattle.turn_laws.specs.Resumed.{IsResumedRecord};
+ghost use Rattle.turn_laws.specs.Turns.{AreBelowEnds, AreOwned, acts_in, acts_of, told};
+ghost use Rattle.turn_rules.specs.Ends.{Member, Peer, Performer, own};
 ghost use Rattle.turn_rules.specs.Genuine.{AreAccepted};
 ghost use Rattle.turn_rules.specs.Held.{Held, held_by, number_of, window_by};
 ghost use Rattle.turn_rules.specs.Local.{Explained, Stands};
@@ -114,33 +117,65 @@ pub fn moves_keep_owned()
         → Owned (act_by w move ∷ acts) new }
 {}
 
-/// Acts leave what everybody else holds, but that a resumption that gets half open begins to hold.
+/// Acts leave what everybody else holds, but that a resumption that gets half open begins to hold,
+/// and that one which is settled passes on.
 pub fn others_change_nothing()
     ensures { (p : Place) (v : Actor) (more acts : List Act) → AllByRecursion (IsNotBy v) more
         → holding_at p (acts_onto more acts) v ≡ holding_at p acts v }
 {}
 
-/// A range that is leased of a pool keeps what is owned, whether its caller saw it, and has it as
-/// its lot, or not.
+/// A range that is leased of a pool keeps what is owned, whether its caller saw it or not. Where it
+/// did, the range is its lot, in place of an earlier one.
 pub fn leases_keep_owned()
-    ensures { (acts : List Act) (w : Actor) (pool : Pool) (first count : ℕ) (seen : Bool)
+    ensures owned { (acts : List Act) (w : Actor) (pool : Pool) (count : ℕ) (call : Call)
         (old new : Book)
-        → Owned acts old
-        → first + count ≤ pool_end pool → first ≡ pool_next pool old
-        → new ≡ with_pool_next pool (first + count) old
-        → Owned (act_by w (Leases pool first count seen) ∷ acts) new }
+        → Owned acts old → call.asked ≡ ask.Lease pool count → Enters old call new
+        → Owned (act_by w (Calls call) ∷ acts) new }
+    ensures lot { (acts : List Act) (w : Actor) (pool : Pool) (first count : ℕ) (call : Call)
+        → call.asked ≡ ask.Lease pool count → seen call ≡ answer.First first
+        → holding_at (Pooled pool) (act_by w (Calls call) ∷ acts) w
+        ≡ Some (lot_begun (length (begun_at (Pooled pool) acts).bases) pool first count) }
 {}
 
 /// A resumption that gets half open under a number that is drawn of the nonces keeps what is owned,
 /// and so does what it seals, by itself, under its first IV when it fails.
 pub fn half_opens_keep_owned()
-    ensures opens { (acts : List Act) (w : Actor) (sa : Record) (book : Book) → Owned acts book
-        → HoldsFor (holding_at (Pooled pools.Nonce) acts w) sa.spir
-        → Owned (act_by w (Opens sa) ∷ acts) book }
-    ensures fails { (acts : List Act) (key : KeyIv) (sa : Record) (book : Book) → Owned acts book
-        → place_of key.name ≡ Ours sa.spir counter.Iv → key.iv ≡ 1
-        → holding_at (Ours sa.spir counter.Iv) acts (Half sa.spir) ≡ Some (half_begun sa)
-        → Owned (act_by (Half sa.spir) (Seals key) ∷ acts) book }
+    ensures opens { (acts : List Act) (w : Actor) (ticket : ℕ) (made : Derivation) (book : Book)
+        → Owned acts book
+        → HoldsFor (holding_at (Pooled pools.Nonce) acts w) made.spir
+        → Owned (act_by w (Opens ticket made) ∷ acts) book }
+    ensures fails { (acts : List Act) (key : KeyIv) (spir : ℕ) (book : Book) → Owned acts book
+        → place_of key.name ≡ Ours spir counter.Iv → key.iv ≡ 1 → IsHalfOpen acts spir
+        → Owned (act_by (Half spir) (Seals key) ∷ acts) book }
+{}
+
+/// A settle keeps what is owned, however it is answered: a member's that settles what is half open
+/// by its ticket, and with the record of its derivation. Where the member saw it done, it holds the
+/// first epoch of each counter. That of the IVs passes to it from what was half open, which holds
+/// nothing any more.
+pub fn settles_keep_owned()
+    ensures owned { (acts : List Act) (w : Actor) (ticket old_spir member : ℕ) (sa : Record)
+        (call : Call) (old new : Book)
+        → Owned acts old → call.asked ≡ ask.Settle ticket old_spir sa member
+        → MaySettle acts w ticket sa → Enters old call new
+        → Owned (act_by w (Calls call) ∷ acts) new }
+    ensures begins { (acts : List Act) (w : Actor) (ticket old_spir member : ℕ) (sa : Record)
+        (call : Call) (c : Counter)
+        → call.asked ≡ ask.Settle ticket old_spir sa member → seen call ≡ answer.Done
+        → c ≢ counter.Iv
+        → holding_at (Ours sa.spir c) (act_by w (Calls call) ∷ acts) w
+        ≡ Some (holding_settled c sa) }
+    ensures passes { (acts : List Act) (w : Actor) (ticket old_spir member : ℕ) (sa : Record)
+        (call : Call)
+        → call.asked ≡ ask.Settle ticket old_spir sa member → seen call ≡ answer.Done
+        → MaySettle acts w ticket sa
+        → holding_at (Ours sa.spir counter.Iv) (act_by w (Calls call) ∷ acts) w ≡ Some half_begun }
+    ensures leaves { (acts : List Act) (w : Actor) (ticket old_spir member : ℕ) (sa : Record)
+        (call : Call)
+        → call.asked ≡ ask.Settle ticket old_spir sa member → seen call ≡ answer.Done
+        → MaySettle acts w ticket sa
+        → holding_at (Ours sa.spir counter.Iv) (act_by w (Calls call) ∷ acts) (Half sa.spir)
+        ≡ None }
 {}
 
 /// The beginning of an association of the peer that was resumed keeps what is owned, where the peer
@@ -151,23 +186,48 @@ pub fn starts_keep_owned()
         → Owned (act_by w (Starts sa) ∷ acts) book }
 {}
 
-/// What is half open holds its first epoch's IVs below 64 alone, and none of them was used. Its SPI
-/// was drawn of the nonces, and the book has no association of it.
+/// What got half open did so under a number that was drawn of the nonces. While it is half open it
+/// holds the first epoch's IVs alone, nobody used one of them, and no member holds the first epoch
+/// of a counter. The book's IVs go on from these, so that its high and the base of each later epoch
+/// are no lower than where they end. An association of the book under its SPI has the record of its
+/// derivation, and its ticket is spent.
 pub fn half_opens_are_apart()
     ensures alone { (acts : List Act) (book : Book) → Owned acts book
-        → (sa : Record) → IsHalfOpen acts sa → (v : Actor) (h : Holding)
-        → holding_at (Ours sa.spir counter.Iv) acts v ≡ Some h → h.epoch ≡ 1 → v ≡ Half sa.spir }
+        → (spir : ℕ) → IsHalfOpen acts spir → (v : Actor) (h : Holding)
+        → holding_at (Ours spir counter.Iv) acts v ≡ Some h → h.epoch ≡ 1 → v ≡ Half spir }
     ensures unused { (acts : List Act) (book : Book) → Owned acts book
-        → (sa : Record) → IsHalfOpen acts sa
-        → AllByRecursion (λ u. u.epoch ≢ 1) (uses_at (Ours sa.spir counter.Iv) acts) }
+        → (spir : ℕ) → IsHalfOpen acts spir
+        → AllByRecursion (λ u. u.epoch ≢ 1) (uses_at (Ours spir counter.Iv) acts) }
+    ensures none_yet { (acts : List Act) (book : Book) → Owned acts book
+        → (spir : ℕ) (o : Opened) → opened_at spir acts ≡ Some o → IsHalfOpen acts spir
+        → entry_of spir book.entries ≡ None → numbers_at (Ours spir counter.Iv) acts ≡ [] }
+    ensures above { (acts : List Act) (book : Book) → Owned acts book
+        → (spir : ℕ) (o : Opened) → opened_at spir acts ≡ Some o → IsHalfOpen acts spir
+        → AllByRecursion (λ n. SETTLED_IV_HIGH ≤ n) (numbers_at (Ours spir counter.Iv) acts) }
+    ensures unheld { (acts : List Act) (book : Book) → Owned acts book
+        → (spir : ℕ) (o : Opened) → opened_at spir acts ≡ Some o → IsHalfOpen acts spir
+        → (c : Counter) (end : Performer) (h : Holding)
+        → holding_at (Ours spir c) acts (End end) ≡ Some h → h.epoch ≢ 1 }
     ensures goes_on { (acts : List Act) (book : Book) → Owned acts book → (spir : ℕ)
         → ColumnGoesOn (begun_at (Ours spir counter.Iv) acts)
         (column_at (Ours spir counter.Iv) acts book) }
-    ensures drawn { (acts : List Act) (book : Book) → Owned acts book → (spir : ℕ)
-        → begun_at (Ours spir counter.Iv) acts ≢ nothing
+    ensures later { (acts : List Act) (book : Book) → Owned acts book
+        → (spir : ℕ) (o : Opened) → opened_at spir acts ≡ Some o → (i : ℕ) → 1 ≤ i
+        → SETTLED_IV_HIGH ≤ column_mark (column_at (Ours spir counter.Iv) acts book) i }
+    ensures high { (acts : List Act) (book : Book) → Owned acts book
+        → (spir : ℕ) (o : Opened) → opened_at spir acts ≡ Some o
+        → (e : Entry) → entry_of spir book.entries ≡ Some e
+        → SETTLED_IV_HIGH ≤ five_at e.highs counter.Iv }
+    ensures drawn { (acts : List Act) (book : Book) → Owned acts book
+        → (spir : ℕ) (o : Opened) → opened_at spir acts ≡ Some o
         → Contains (numbers_at (Pooled pools.Nonce) acts) spir }
-    ensures unrecorded { (acts : List Act) (book : Book) → Owned acts book → (spir : ℕ)
-        → begun_at (Ours spir counter.Iv) acts ≢ nothing → entry_of spir book.entries ≡ None }
+    ensures its_record { (acts : List Act) (book : Book) → Owned acts book
+        → (spir : ℕ) (o : Opened) → opened_at spir acts ≡ Some o
+        → (e : Entry) → entry_of spir book.entries ≡ Some e → IsResumedRecord o.made e.sa }
+    ensures spent { (acts : List Act) (book : Book) → Owned acts book
+        → (spir : ℕ) (o : Opened) → opened_at spir acts ≡ Some o
+        → (e : Entry) → entry_of spir book.entries ≡ Some e
+        → is_spent o.ticket book.spent ≡ true }
 {}
 
 /// Lots of a pool lie below its next number and do not meet, a lot belongs to one end, and each
@@ -245,8 +305,7 @@ pub fn no_number_twice()
 /// No number reaches its counter's end, as the record of what was held gives it, whatever the
 /// keeper's book is. An honest book gives the same end.
 pub fn no_number_past_its_end()
-    ensures uses { (boxes : ℕ) (past : List Turn) → Explained boxes past → (p : Place)
-        → AllByRecursion (λ u. u.number < u.end) (uses_at p (acts_of past)) }
+    ensures uses { (boxes : ℕ) (past : List Turn) → Explained boxes past → AreBelowEnds past }
     ensures places { (boxes : ℕ) (past : List Turn) (book : Book) → Explained boxes past
         → Stands past book
         → (p : Place) → AllByRecursion (λ n. n < end_at p (acts_of past) book)

@@ -11,5 +11,5 @@ pub use laws::{
     no_number_past_its_end, no_number_twice, nothing_is_executed, one_receives_at_an_spi,
     others_change_nothing, own_turns_tell_holdings, own_turns_tell_states, packets_once,
     passes_keep_owned, replaced_by_later_epochs, rises_keep_owned, runs_are_safe,
-    starts_keep_owned, turns_are_moves, uses_are_told, uses_keep_owned,
+    settles_keep_owned, starts_keep_owned, turns_are_moves, uses_are_told, uses_keep_owned,
 };

@@ -18,10 +18,12 @@ returns-clause-played g c = if_ok-as c.play_run-played.result (λ played p.
       written = p.written;
       local = p.local;
       own_turns = p.own_turns;
+      below_ends = p.below_ends;
       serves = p.serves;
       asks = search rules;
       stands = search rules;
       owned = search rules;
       safe = search rules;
+      replaced_later = search rules;
       caused = search rules;
     }) c.play_run-played.ensures.played

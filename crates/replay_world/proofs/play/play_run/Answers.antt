@@ -1,10 +1,10 @@
 -- A run begins with no turn, and what holds of it follows from the laws of whole runs.
 use Rattle.std.proofs.Common.{ap, subst, ◌∙◌}
 use Rattle.run_ends.specs.Runs.{Run}
-use Rattle.turn_rules.proofs.StateLaws.{local-explained, states-told}
+use Rattle.turn_rules.proofs.StateLaws.{local-explained}
 use Rattle.turn_rules.specs.Local.{Local}
 use Rattle.replay_world.proofs.AskedLaws.{asks-nothing}
-use Rattle.replay_world.proofs.OwnedLaws.{owned_told, safe_told}
+use Rattle.replay_world.proofs.OwnedLaws.{owned_told, replaced_told, safe_told}
 use Rattle.replay_world.proofs.PlayedLaws.{none_caused, none_given}
 use Rattle.replay_world.proofs.play.play_run.Goals as goal
 
@@ -18,11 +18,13 @@ returns-clause-played g c =
       events = p.events;
       written = p.text;
       local = subst (λ n. Local n past) boxes p.local;
-      own_turns = states-told _ past (subst (λ n. Local n past) boxes p.local);
+      own_turns = c.own_turns_tell_states.ensures _ past (local-explained _ past (subst (λ n. Local n past) boxes p.local));
+      below_ends = c.no_number_past_its_end.ensures.uses c.play.new.world.ends.boxes past (local-explained c.play.new.world.ends.boxes past p.local);
       serves = none_given _ _ past (c.nothing_is_executed.ensures c.play.new.world.ends.boxes past (local-explained c.play.new.world.ends.boxes past p.local));
       asks = p.asks _ (asks-nothing _ _);
       stands = p.stands;
-      owned = λ before. owned_told c.play.new.world.ends.boxes past _ p.local (p.stands before);
+      owned = λ before. owned_told c.all_is_owned.ensures c.play.new.world.ends.boxes past _ p.local (p.stands before);
       safe = λ before. safe_told c.runs_are_safe.ensures c.play.new.world.ends.boxes past _ p.local (p.stands before);
+      replaced_later = λ before. replaced_told c.replaced_by_later_epochs.ensures.calls c.play.new.world.ends.boxes past _ p.local (p.stands before);
       caused = p.caused _ (none_caused _);
     }
