@@ -1,5 +1,6 @@
 pub mod Advancing
 pub mod GenuineLaws
+pub mod HeldMessages
 pub mod KeySizes
 pub mod PlaceLemmas
 pub mod Placed

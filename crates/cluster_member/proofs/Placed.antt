@@ -6,15 +6,17 @@ use Rattle.events.specs.declared.turn.Step.{Step}
 use Rattle.events.specs.declared.verdict.Refusal.{Refusal}
 use Rattle.events.specs.declared.verdict.Verdict.TheVariants as out
 use Rattle.events.specs.declared.verdict.EspVerdict.TheVariants as esp
+use Rattle.ha_base.specs.declared.counter_names.End.TheVariants as end
 use Rattle.ha_base.specs.declared.esp_outcomes.EspDrop.{EspDrop}
 use Rattle.keeper_book.specs.declared.calls.Call.{Call}
 use Rattle.turn_rules.proofs.Readies.{none-vain}
 use Rattle.turn_rules.proofs.Ties.{used-receiving}
 use Rattle.turn_rules.specs.Held.{Held, accepted, advanced, held_begun, first_some, grant_in, held_after, held_at}
 use Rattle.turn_rules.specs.Packets.{IsVerdictOf}
+use Rattle.turn_rules.specs.Steps.{IsQuiet, Says}
 use Rattle.turn_rules.specs.Tasks as task
 use Rattle.turn_rules.specs.Tasks.{Task}
-use Rattle.cluster_member.proofs.Advancing.{Advances, refused-unmoved, unmoved}
+use Rattle.cluster_member.proofs.Advancing.{Advances, received-no-message, refused-unmoved, unmoved}
 use Rattle.cluster_member.specs.Members.{HoldsAfter, HoldsOn}
 use Rattle.cluster_member.specs.Places.{KeepsOthers}
 
@@ -41,10 +43,13 @@ module _ (size : ℕ) (asked : Task) (calls : List Call) (step : Step) where
           ∙ sym (stays-held s (advances.no_grant s) (advances.elsewhere s (ap (λ n. n == s) is ∙ e)) (held_at old s))
 
 -- what is refused without a call leaves what is held
-pub refused-holds : (asked : Task) (step : Step) (why : Refusal) (held : List Held) → step.verdict ≡ out.Refused why → HoldsOn asked [] step held held
-refused-holds asked step why held said size s = sym (stays-held size asked [] step s refl (refused-unmoved asked [] step why (none-vain [] refl) said s) (held_at held s))
+pub refused-holds : (asked : Task) (step : Step) (why : Refusal) (held : List Held) → Says (out.Refused why) step → HoldsOn asked [] step held held
+refused-holds asked step why held says size s = sym (stays-held size asked [] step s refl (refused-unmoved asked [] step why (none-vain [] refl) says s) (held_at held s))
 
 -- and so does a packet that is dropped
-pub dropped-holds : (step : Step) (why : EspDrop) (after : List ℕ) (held : List Held) → IsVerdictOf (esp.Dropped why) after step.verdict → HoldsOn task.Receive [] step held held
-dropped-holds step why after held said size s =
-    sym (stays-held size task.Receive [] step s refl (unmoved task.Receive [] step (none-vain [] refl) (λ spir c. used-receiving spir c step.verdict) (λ spir. ap (accepted spir) said) s) (held_at held s))
+pub dropped-holds : (step : Step) (why : EspDrop) (after : List ℕ) (held : List Held) → IsVerdictOf (esp.Dropped why) after step.verdict → IsQuiet step → HoldsOn task.Receive [] step held held
+dropped-holds step why after held said quiet size s =
+    sym (stays-held size task.Receive [] step s refl
+    (unmoved task.Receive [] step (none-vain [] refl) (λ spir c. used-receiving end.Cluster spir c step quiet) (λ spir. ap (accepted spir) said)
+    (received-no-message step (out.DroppedEsp why) said (λ spir. refl) (λ spir. refl)) s)
+    (held_at held s))

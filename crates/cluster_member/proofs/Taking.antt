@@ -13,11 +13,11 @@ use Rattle.turn_rules.specs.Tasks as task
 use Rattle.cluster_member.specs.Members.{HoldsAfter}
 use Rattle.cluster_member.specs.Places.{KeepsOthers}
 
-module _ (size spir member : ℕ) (call : Call) (step : Step) (asked : call.asked ≡ ask.TakeOver spir member) where
-  -- a takeover uses and covers no number
+module _ (size spir member : ℕ) (call : Call) (step : Step) (asked : call.asked ≡ ask.TakeOver spir member) (sealed : step.seals ≡ []) where
+  -- a takeover seals nothing, and uses and covers no number
   unmoved-by : (s : ℕ) (x : Option Held) → option_map (advanced s (task.TakeOver spir) (call ∷ []) step) x ≡ x
   unmoved-by s None = refl
-  unmoved-by s (Some held) = rw asked
+  unmoved-by s (Some held) = rw (asked, sealed)
 
   -- an association is held as it was granted, and every other one as before
   pub took : (taken : Taken) (old new : List Held) → seen call ≡ answer.Taken taken → taken.sa.spir ≡ spir → held_at new taken.sa.spir ≡ Some (held_begun size taken) → KeepsOthers taken.sa.spir old new

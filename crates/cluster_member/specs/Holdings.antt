@@ -1,14 +1,16 @@
 -- The horizons of what a member holds.
-use Rattle.std.specs.Prelude.{ℕ, ◌≡◌}
+use Rattle.std.specs.Prelude.{ℕ, ◌≡◌, ◌==◌}
 use Rattle.events.specs.declared.verdict.EspVerdict.{EspVerdict}
 use Rattle.events.specs.declared.verdict.EspVerdict.TheVariants as esp
 use Rattle.ha_base.specs.declared.esp_outcomes.EspOpened.{EspOpened}
 use Rattle.horizons.specs.Reaches.{Reach}
+use Rattle.ike_sas.specs.Held.{IkeHeld}
 use Rattle.keeper_book.specs.CounterEnds.{end_of}
 use Rattle.keeper_book.specs.declared.counters.Counter.{Counter}
 use Rattle.keeper_book.specs.declared.counters.Counter.TheVariants as counter
 use Rattle.keeper_book.specs.declared.records.Record.{Record}
 use Rattle.turn_rules.specs.Draws.{counter_name}
+use Rattle.turn_rules.specs.MemberMessages.{cluster_keys}
 use Rattle.turn_rules.specs.Packets.{Inbound, Outbound}
 
 -- the horizon is that of this counter of the association, in this epoch
@@ -39,10 +41,18 @@ pub record AreOfRecord (sa : Record) (esp_in : Reach) (outbound : Outbound)
   pub received_spi : inbound.spi ≡ sa.spi_in
   pub received_base : inbound.window.base ≡ esp_in.base
 
+-- IKE messages are sealed and opened with the keys of the record, the next request has the next
+-- Message ID, and an epoch has to synchronise unless it is the first
+pub record AreMessages (sa : Record) (epoch : ℕ) (ask : Reach) (ike : IkeHeld) : Type 0 where
+  pub keys : ike.keys ≡ cluster_keys sa
+  pub next : ike.next ≡ ask.next
+  pub synced : ike.synced ≡ (epoch == 1)
+
 pub record IsHolding (sa : Record) (epoch : ℕ) (esp_out esp_in iv ask answer : Reach)
-    (outbound : Outbound) (inbound : Inbound) : Type 0 where
+    (outbound : Outbound) (inbound : Inbound) (ike : IkeHeld) : Type 0 where
   pub horizons : AreHorizons sa epoch esp_out esp_in iv ask answer
   pub packets : AreOfRecord sa esp_in outbound inbound
+  pub messages : AreMessages sa epoch ask ike
 
 -- where a packet is accepted, it is this one
 abbrev pub TookPacket : EspOpened → EspVerdict → Type 0

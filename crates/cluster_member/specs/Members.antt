@@ -11,6 +11,7 @@ use Rattle.keeper_book.specs.declared.keepers.Keeper.{Ghosts}
 use Rattle.turn_rules.specs.Configurations.{Configuration}
 use Rattle.turn_rules.specs.Held.{Held, held_after, held_at}
 use Rattle.turn_rules.specs.Packets.{IsVerdictOf}
+use Rattle.turn_rules.specs.Steps.{IsQuiet}
 use Rattle.turn_rules.specs.Tasks as task
 use Rattle.turn_rules.specs.Tasks.{Task}
 use Rattle.cluster_member.specs.declared.config.Config.{Config}
@@ -39,10 +40,10 @@ HoldsAfter size asked calls step old new = (spir : ℕ)
 abbrev pub HoldsOn : Task → List Call → Step → List Held → List Held → Type 0
 HoldsOn asked calls step old new = (size : ℕ) → HoldsAfter size asked calls step old new
 
--- the same of a packet, by the step that words the answer
+-- the same of a packet, by the quiet step that words the answer
 abbrev pub ReceivesOn : List Call → EspVerdict → List ℕ → List Held → List Held → Type 0
 ReceivesOn calls answered after old new = (step : Step) → IsVerdictOf answered after step.verdict
-    → HoldsOn task.Receive calls step old new
+    → IsQuiet step → HoldsOn task.Receive calls step old new
 
 -- what a member is after a task
 pub record IsAfter (asked : Task) (calls : List Call) (step : Step)
@@ -52,10 +53,10 @@ pub record IsAfter (asked : Task) (calls : List Call) (step : Step)
   pub fresh : new.fresh ≡ old.fresh
   pub holds : HoldsAfter old.config.window asked calls step old.held new.held
 
--- the same of a packet, by the step that words the answer
+-- the same of a packet, by the quiet step that words the answer
 abbrev pub IsAfterPacket : List Call → EspVerdict → List ℕ → Holder → Holder → Type 0
 IsAfterPacket calls answered after old new = (step : Step) → IsVerdictOf answered after step.verdict
-    → IsAfter task.Receive calls step old new
+    → IsQuiet step → IsAfter task.Receive calls step old new
 
 -- for want of memory: the keeper is as it was, or it was asked once and lacked the memory itself
 abbrev pub AsksInVain : {K : Type 0} → Ghosts K → K → K → Type 0

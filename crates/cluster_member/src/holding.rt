@@ -1,4 +1,4 @@
-ghost use Rattle.std.specs.Prelude.{◌≡◌, ◌<◌, ◌≤◌, Ok, length};
+ghost use Rattle.std.specs.Prelude.{◌≡◌, ◌<◌, ◌≤◌, [], Ok, length};
 ghost use Rattle.keeper_book.specs.CounterEnds.{end_of};
 ghost use Rattle.keeper_book.specs.Counters.{AreWithinEnds};
 ghost use Rattle.keeper_book.specs.declared.counters.Counter.TheVariants as counter;
@@ -7,20 +7,27 @@ ghost use Rattle.replay_set.specs.declared.judgement.Judgement.TheVariants as ju
 ghost use Rattle.cluster_member.specs.Holdings.{TookPacket};
 ghost use Rattle.cluster_member.specs.Uses.{DrawsNext, Notes, NotesPacket, SendsNext};
 ghost use Rattle.keeper_book.specs.Asks.{AsksFor};
-ghost use Rattle.turn_rules.specs.Held.{held_begun};
+ghost use Rattle.ha_base.specs.KeySizes.{HasKeySize};
+ghost use Rattle.ike_window.specs.Stored.{no_responses};
+ghost use Rattle.turn_rules.specs.Held.{held_begun, synced_at_once};
+ghost use Rattle.turn_rules.specs.MemberMessages.{cluster_keys};
+ghost use Rattle.turn_rules.specs.Slots.{peer_counter};
 ghost use Rattle.turn_rules.specs.Packets.{LiesWithin};
 ghost use Rattle.ha_base.specs.declared.limits.TheConstants.{DATAGRAM_OCTETS, PAYLOAD_OCTETS};
 
 use crate::refusals;
+use aes_gcm::Key;
 use esp_sas::{InboundSa, OutboundSa, Room};
 use events::{EspVerdict, Step, Verdict};
 use ha_base::EspOpened;
 use horizons::Horizon;
+use ike_sas::{IkeKeys, IkeSa};
 use keeper_book::{Keeper, Record, Taken};
 use spend_once::{CounterName, End, Kind};
 use std::marker::Model;
 
-/// What a member holds of an association in an epoch: the record, and a horizon for each counter.
+/// What a member holds of an association in an epoch: the record, a horizon for each counter, and
+/// what it sends and receives with.
 #[derive(Drop)]
 pub struct Holding {
     sa: Record,
@@ -32,6 +39,7 @@ pub struct Holding {
     answer: Horizon,
     outbound: OutboundSa,
     inbound: InboundSa,
+    ike: IkeSa,
 }
 
 impl Model for Holding {
@@ -47,9 +55,12 @@ impl Model for Holding {
       nexts = record { esp_out = h.esp_out.next; esp_in = h.esp_in.next; iv = h.iv.next; ask = h.ask.next; answer = h.answer.next };
       highs = record { esp_out = h.esp_out.high; esp_in = h.esp_in.high; iv = h.iv.high; ask = h.ask.high; answer = h.answer.high };
       window = h.inbound.window;
+      asked = h.ike.asked;
+      answered = h.ike.answered;
+      synced = h.ike.synced;
     } };
 
-    ghost invariant = { λ h. IsHolding h.sa h.epoch h.esp_out h.esp_in h.iv h.ask h.answer h.outbound h.inbound };
+    ghost invariant = { λ h. IsHolding h.sa h.epoch h.esp_out h.esp_in h.iv h.ask h.answer h.outbound h.inbound h.ike };
 }
 
 // the cluster's counter of an association
@@ -79,6 +90,63 @@ fn peer_out(sa: &Record) -> CounterName {
     }
 }
 
+// the counter of the peer's IVs
+fn peer_iv(sa: &Record) -> CounterName
+    ensures { result ≡ peer_counter sa.now counter.Iv }
+{
+    CounterName {
+        origin: sa.origin,
+        kind: Kind::Iv,
+        child: 0,
+        end: End::Peer,
+    }
+}
+
+// an AES key and four octets of salt, whose IVs are the numbers of the counter
+fn key_of(counter: CounterName, octets: &[u8]) -> Key
+    requires { HasKeySize octets.now }
+    ensures { result ≡ record { name = counter; octets = octets.now } }
+{
+    match Key::new(counter, octets) {
+        Some(key) => key,
+        None => unreachable!(),
+    }
+}
+
+// the keys of the IKE messages of an association (RFC 7296, section 2.14)
+#[tactic(auto, using(crate::proofs::KeySizes::sized_sk_ei, crate::proofs::KeySizes::sized_sk_er))]
+fn cluster_keys(sa: &Record) -> IkeKeys
+    ensures { result ≡ cluster_keys sa.now }
+{
+    IkeKeys {
+        end: End::Cluster,
+        spii: sa.spii,
+        spir: sa.spir,
+        sending: key_of(name_of(sa, Kind::Iv, 0), sa.keys.sk_er.as_slice()),
+        receiving: key_of(peer_iv(sa), sa.keys.sk_ei.as_slice()),
+    }
+}
+
+// nothing was asked or answered in an epoch; a later one has to synchronise first (RFC 6311,
+// section 5.1)
+fn unasked(taken: &Taken) -> IkeSa
+    requires bases { AreWithinEnds taken.now.bases }
+    ensures { result ≡ record {
+      keys = cluster_keys taken.now.sa;
+      asked = [];
+      next = taken.now.bases.ask;
+      answered = no_responses taken.now.bases.answer;
+      synced = synced_at_once taken.now;
+    } }
+{
+    IkeSa::new(
+        cluster_keys(&taken.sa),
+        taken.bases.ask as u32,
+        taken.bases.answer as u32,
+        taken.epoch == 1,
+    )
+}
+
 impl Holding {
     /// What a takeover granted: each counter begins at its base, and nothing was received in the
     /// window, which has this size.
@@ -88,6 +156,7 @@ impl Holding {
         requires window { IsWindowSize window }
         ensures { result ≡ held_begun window taken }
     {
+        let ike = unasked(&taken);
         let Taken { epoch, bases, sa } = taken;
         let spir = sa.spir;
         Holding {
@@ -134,6 +203,7 @@ impl Holding {
                 window,
                 bases.esp_in,
             ),
+            ike,
             sa,
         }
     }

@@ -1,4 +1,5 @@
 mod GenuineLaws
 pub mod KeySizes
+mod Moves
 mod SlotLaws
 mod SlotLemmas

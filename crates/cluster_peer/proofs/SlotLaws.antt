@@ -16,14 +16,15 @@ use Rattle.keeper_book.specs.CounterEnds.{end_of}
 use Rattle.keeper_book.specs.declared.counters.Counter.TheVariants as counter
 use Rattle.keeper_book.specs.declared.records.Record.{Record}
 use Rattle.turn_rules.proofs.SlotTies.{admits-differ, apart-append}
-use Rattle.turn_rules.proofs.Ties.{received-refused, used-refused}
-use Rattle.turn_rules.specs.Held.{accepted, after_number, after_received, is_of_spir, received_in, used_in}
-use Rattle.turn_rules.specs.Packets.{IsVerdictOf}
+use Rattle.turn_rules.specs.IkeState.{is_of_spir}
+use Rattle.turn_rules.specs.Packets.{IsVerdictOf, SendsEsp}
 use Rattle.turn_rules.specs.PeerStates.{PeerHeld}
 use Rattle.turn_rules.specs.Peers.{AreDistinct, Differ, admits}
-use Rattle.turn_rules.specs.Slots.{Slot, SlotReceives, SlotSends, SlotTakes, entered_slot, peer_counter, records, slot_after}
+use Rattle.turn_rules.specs.Slots.{Slot, SlotReceives, SlotSends, SlotTakes, entered_slot, peer_counter, records, slot_after, slot_outbound}
+use Rattle.turn_rules.specs.Steps.{IsQuiet, Says}
 use Rattle.turn_rules.specs.Tasks as task
 use Rattle.turn_rules.specs.Tasks.{Task}
+use Rattle.cluster_peer.proofs.Moves.{Made, moved-after, nothing-after, received-made, received_esp, refused-made, sent-made, sent_esp}
 use Rattle.cluster_peer.specs.Slots.{slot_noted}
 
 differ-sym : (a b : Record) → Differ a b → Differ b a
@@ -71,19 +72,9 @@ module _ (f : Slot → Slot) where
   put (suc place) (x ∷ xs) slot now within is apart now_is kept =
       ap₂ (λ slot slots. slot ∷ slots) (kept x (differ-sym x.sa slot.sa (all-at x.sa place xs slot (omega arith) is apart.0))) (put place xs slot now (omega arith) is apart.1 now_is kept)
 
-module _ (asked : Task) (step : Step) where
-  -- a turn by which nothing was sent or received leaves a slot
-  slot-kept : (slot : Slot) → used_in slot.sa.spir counter.EspOut asked step.verdict ≡ None → received_in slot.sa.spir asked step.verdict ≡ None → slot ≡ slot_after asked step slot
-  slot-kept slot unused unreceived i = record {
-    sa = slot.sa;
-    next = after_number (sym unused i) slot.next;
-    window = after_received (sym unreceived i) slot.window;
-  }
-
-  pub refused-kept : (why : Refusal) → step.verdict ≡ out.Refused why → (slot : Slot) → slot ≡ slot_after asked step slot
-  refused-kept why said slot = slot-kept slot
-      (ap (used_in slot.sa.spir counter.EspOut asked) said ∙ used-refused slot.sa.spir counter.EspOut asked why)
-      (ap (received_in slot.sa.spir asked) said ∙ received-refused slot.sa.spir asked why)
+-- what is refused leaves a slot
+pub refused-kept : (asked : Task) (step : Step) (why : Refusal) → Says (out.Refused why) step → (slot : Slot) → slot ≡ slot_after asked step slot
+refused-kept asked step why says slot = nothing-after asked step slot (refused-made asked step slot.sa.spir why says)
 
 module _ (spir : ℕ) (payload : List ℕ) (step : Step) (place : ℕ) (slots : List Slot) (slot now : Slot) (within : place < length slots) (is : slot ≡ get_or slots place slot) (apart : AreDistinct (records slots)) where
   -- what the peer holds after it sent in an association
@@ -91,31 +82,30 @@ module _ (spir : ℕ) (payload : List ℕ) (step : Step) (place : ℕ) (slots : 
       → set slots place now ≡ map (slot_after (task.Send spir payload) step) slots
   sent-after its sends goes stays = ⊎_elim went stopped (cases_lt slot.next (end_of slot.sa counter.EspOut))
     where
-      asked : Task
-      asked = task.Send spir payload
+      made : (other : Slot) (number : Option ℕ) → SendsEsp (slot_outbound slot) slot.next payload step → (if spir == other.sa.spir then Some slot.next else None) ≡ number → Made (task.Send spir payload) step other.sa.spir (sent_esp number)
+      made other number sent used = subst (λ n. Made (task.Send spir payload) step other.sa.spir (sent_esp n)) used (sent-made other.sa.spir spir slot.next payload payload slot step sent)
 
       went : slot.next < end_of slot.sa counter.EspOut → set slots place now ≡ map (slot_after (task.Send spir payload) step) slots
       went below =
-          let said = (sends.within below).said in
-          let here : used_in slot.sa.spir counter.EspOut (task.Send spir payload) step.verdict ≡ Some slot.next =
-          ap (used_in slot.sa.spir counter.EspOut (task.Send spir payload)) said ∙ ap (λ b. if b then Some slot.next else None) (eq-eqb spir slot.sa.spir (sym its)) in
+          let sent : SendsEsp (slot_outbound slot) slot.next payload step = sends.within below in
           let more : slot.next + 1 ≡ max (slot.next + 1) slot.next = omega arith in
           put (slot_after (task.Send spir payload) step) place slots slot now within is apart
-          (goes below ∙ (λ i. record slot { next = more i }) ∙ (λ i. record slot { next = after_number (sym here i) slot.next }))
-          (λ other differ. slot-kept (task.Send spir payload) step other
-          (ap (used_in other.sa.spir counter.EspOut (task.Send spir payload)) said ∙ ap (λ b. if b then Some slot.next else None) (ne_eqb spir other.sa.spir (λ same. differ.spir (its ∙ same)))) refl)
+          (goes below ∙ (λ i. record slot { next = more i })
+          ∙ moved-after (task.Send spir payload) step slot (sent_esp (Some slot.next)) (made slot (Some slot.next) sent (ap (λ b. if b then Some slot.next else None) (eq-eqb spir slot.sa.spir (sym its)))))
+          (λ other differ. nothing-after (task.Send spir payload) step other
+          (made other None sent (ap (λ b. if b then Some slot.next else None) (ne_eqb spir other.sa.spir (λ same. differ.spir (its ∙ same))))))
 
       stopped : end_of slot.sa counter.EspOut ≤ slot.next → set slots place now ≡ map (slot_after (task.Send spir payload) step) slots
       stopped above =
-          let kept : (any : Slot) → any ≡ slot_after (task.Send spir payload) step any = refused-kept (task.Send spir payload) step refusal.Exhausted (sends.ended above).said in
+          let kept : (any : Slot) → any ≡ slot_after (task.Send spir payload) step any = refused-kept (task.Send spir payload) step refusal.Exhausted (sends.ended above) in
           put (slot_after (task.Send spir payload) step) place slots slot now within is apart (stays above ∙ kept slot) (λ other differ. kept other)
 
-module _ (answer : EspVerdict) (after : List ℕ) (step : Step) (worded : IsVerdictOf answer after step.verdict) where
+module _ (answer : EspVerdict) (after : List ℕ) (step : Step) (worded : IsVerdictOf answer after step.verdict) (quiet : IsQuiet step) where
   -- a packet that is dropped leaves a slot
   pub dropped-kept : (why : EspDrop) → answer ≡ esp.Dropped why → (slot : Slot) → slot ≡ slot_after task.Receive step slot
   dropped-kept why e slot =
       let said : step.verdict ≡ out.DroppedEsp why = subst (λ a. IsVerdictOf a after step.verdict) e worded in
-      slot-kept task.Receive step slot refl (ap (accepted slot.sa.spir) said)
+      nothing-after task.Receive step slot (received-made slot.sa.spir step (out.DroppedEsp why) None quiet said refl refl refl)
 
   module _ (place : ℕ) (slots : List Slot) (slot now : Slot) (within : place < length slots) (is : slot ≡ get_or slots place slot) (apart : AreDistinct (records slots)) (noted : now ≡ slot_noted answer slot) where
     -- what the peer holds after an association answered a packet
@@ -126,19 +116,17 @@ module _ (answer : EspVerdict) (after : List ℕ) (step : Step) (worded : IsVerd
         (λ other differ. dropped-kept why takes other)
     received-after (Ok packet) takes =
         put (slot_after task.Receive step) place slots slot now within is apart
-        (noted ∙ ap (λ a. slot_noted a slot) takes ∙ (λ i. record slot { window = after_received (sym here i) slot.window }))
-        (λ other differ. slot-kept task.Receive step other refl (any other ∙ ap (λ b. if b then Some packet.number else None) (ne_eqb slot.sa.spir other.sa.spir differ.spir)))
+        (noted ∙ ap (λ a. slot_noted a slot) takes ∙ moved-after task.Receive step slot (received_esp (Some packet.number)) (made slot (Some packet.number) (ap (λ b. if b then Some packet.number else None) (eq-eqb slot.sa.spir slot.sa.spir refl))))
+        (λ other differ. nothing-after task.Receive step other (made other None (ap (λ b. if b then Some packet.number else None) (ne_eqb slot.sa.spir other.sa.spir differ.spir))))
       where
         as_said : IsVerdictOf (esp.Accepted (peer_counter slot.sa counter.EspIn) packet) after step.verdict
         as_said = subst (λ a. IsVerdictOf a after step.verdict) takes worded
 
-        any : (other : Slot) → accepted other.sa.spir step.verdict ≡ (if slot.sa.spir == other.sa.spir then Some packet.number else None)
-        any other =
-            ap (accepted other.sa.spir) as_said.2
-            ∙ ap (λ (x : Option ℕ). if is_of_spir other.sa.spir x then Some packet.number else None) slot.sa.origin_is_own
-
-        here : accepted slot.sa.spir step.verdict ≡ Some packet.number
-        here = any slot ∙ ap (λ b. if b then Some packet.number else None) (eq-eqb slot.sa.spir slot.sa.spir refl)
+        -- it is accepted there, and in no other association
+        made : (other : Slot) (number : Option ℕ) → (if slot.sa.spir == other.sa.spir then Some packet.number else None) ≡ number → Made task.Receive step other.sa.spir (received_esp number)
+        made other number same =
+            received-made other.sa.spir step (out.Accepted (peer_counter slot.sa counter.EspIn) packet.number packet.next_header as_said.0) number quiet as_said.2
+            (ap (λ (x : Option ℕ). if is_of_spir other.sa.spir x then Some packet.number else None) slot.sa.origin_is_own ∙ same) refl refl
 
     pub packet-after : (octets : List ℕ) → SlotReceives slot octets answer after → set slots place now ≡ map (slot_after task.Receive step) slots
     packet-after octets receives = received-after receives.opened receives.takes

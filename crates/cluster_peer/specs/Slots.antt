@@ -8,6 +8,7 @@ use Rattle.replay_set.specs.Window.{with_noted}
 use Rattle.turn_rules.specs.Packets.{IsVerdictOf}
 use Rattle.turn_rules.specs.PeerStates.{PeerHeld, peer_after}
 use Rattle.turn_rules.specs.Slots.{Slot, first_slot}
+use Rattle.turn_rules.specs.Steps.{IsQuiet}
 use Rattle.turn_rules.specs.Tasks as task
 use Rattle.turn_rules.specs.Tasks.{Task}
 
@@ -41,7 +42,7 @@ pub record IsPeerAfter (asked : Task) (step : Step) (old new : PeerWithRoom) : T
   pub window : new.window ≡ old.window
   pub holds : (now : Moment) → new.held ≡ peer_after old.window now asked step old.held
 
--- the same of a packet, by the step that words the answer
+-- the same of a packet, by a step that words the answer and does nothing else
 abbrev pub IsPeerAfterPacket : EspVerdict → List ℕ → PeerWithRoom → PeerWithRoom → Type 0
 IsPeerAfterPacket answer after old new = (step : Step) → IsVerdictOf answer after step.verdict
-    → IsPeerAfter task.Receive step old new
+    → IsQuiet step → IsPeerAfter task.Receive step old new

@@ -4,68 +4,49 @@ ghost use Rattle.keeper_book.specs.CounterEnds.{end_of};
 ghost use Rattle.keeper_book.specs.declared.counters.Counter.TheVariants as counter;
 ghost use Rattle.turn_rules.specs.Packets.{LiesWithin};
 ghost use Rattle.turn_rules.specs.Peers.{clashes};
-ghost use Rattle.turn_rules.specs.Slots.{SlotReceives, SlotSends, entered_slot, peer_counter};
+ghost use Rattle.turn_rules.specs.Slots.{SlotReceives, SlotSends, entered_slot};
 ghost use Rattle.cluster_peer.specs.Slots.{slot_noted};
 ghost use Rattle.ha_base.specs.declared.limits.TheConstants.{DATAGRAM_OCTETS, PAYLOAD_OCTETS};
 
+use crate::names::{ike_keys, name_at};
 use esp_sas::{InboundSa, OutboundSa, Room};
 use events::{EspVerdict, Refusal, Step, Verdict};
-use ha_base::{CounterName, End, Kind};
+use ha_base::End;
+use ike_sas::IkeSa;
 use keeper_book::{Counter, Record};
 use spend_once::Lot;
 use std::marker::Model;
 
-/// An association of the peer: the numbers that it may still send, and what it sends and receives
-/// with.
+/// An association of the peer: the ESP numbers and the IVs that it may still send, what it sends and
+/// receives packets with, and what it holds of IKE messages.
 #[derive(Drop)]
 pub struct Association {
     sa: Record,
     lot: Lot,
+    ivs: Lot,
+    ike: IkeSa,
     outbound: OutboundSa,
     inbound: InboundSa,
 }
 
 impl Model for Association {
     ghost use Rattle.turn_rules.specs.Slots.{Slot};
-    ghost use Rattle.cluster_peer.specs.Associations.{IsOfRecord};
+    ghost use Rattle.cluster_peer.specs.Associations.{IsIkeOfRecord, IsOfRecord};
 
     ghost Value = { Slot };
 
-    ghost view = { λ a. record { sa = a.sa; next = a.lot.next; window = a.inbound.window } };
+    ghost view = { λ a. record {
+      sa = a.sa;
+      next = a.lot.next;
+      window = a.inbound.window;
+      iv = a.ivs.next;
+      ask = a.ike.next;
+      asked = a.ike.asked;
+      answered = a.ike.answered;
+    } };
 
-    ghost invariant = { λ a. IsOfRecord a.sa a.lot a.outbound a.inbound };
-}
-
-fn esp_out(sa: &Record) -> CounterName
-    ensures { result ≡ peer_counter sa.now counter.EspOut }
-{
-    CounterName {
-        origin: sa.origin,
-        kind: Kind::EspOut,
-        child: 1,
-        end: End::Peer,
-    }
-}
-
-fn esp_in(sa: &Record) -> CounterName
-    ensures { result ≡ peer_counter sa.now counter.EspIn }
-{
-    CounterName {
-        origin: sa.origin,
-        kind: Kind::EspIn,
-        child: 1,
-        end: End::Peer,
-    }
-}
-
-// the counter of the numbers that the cluster sends
-fn cluster_out(sa: &Record) -> CounterName {
-    CounterName {
-        origin: sa.origin,
-        kind: Kind::EspOut,
-        child: 1,
-        end: End::Cluster,
-    }
+    ghost invariant = { λ a. IsOfRecord a.sa a.lot a.outbound a.inbound
+        × IsIkeOfRecord a.sa a.ivs a.ike };
 }
 
 impl Association {
@@ -76,11 +57,30 @@ impl Association {
         ensures { result ≡ entered_slot window sa }
     {
         Association {
-            lot: Lot::new(esp_out(&sa), sa.starts.esp_in, sa.end(Counter::EspOut)),
-            outbound: OutboundSa::new(esp_out(&sa), sa.child.to_cluster.as_slice(), sa.spi_in),
+            lot: Lot::new(
+                name_at(End::Peer, &sa, Counter::EspOut),
+                sa.starts.esp_in,
+                sa.end(Counter::EspOut),
+            ),
+            ivs: Lot::new(
+                name_at(End::Peer, &sa, Counter::Iv),
+                sa.starts.iv,
+                sa.end(Counter::Iv),
+            ),
+            ike: IkeSa::new(
+                ike_keys(&sa),
+                sa.starts.answer as u32,
+                sa.starts.ask as u32,
+                true,
+            ),
+            outbound: OutboundSa::new(
+                name_at(End::Peer, &sa, Counter::EspOut),
+                sa.child.to_cluster.as_slice(),
+                sa.spi_in,
+            ),
             inbound: InboundSa::new(
-                esp_in(&sa),
-                cluster_out(&sa),
+                name_at(End::Peer, &sa, Counter::EspIn),
+                name_at(End::Cluster, &sa, Counter::EspOut),
                 sa.child.to_peer.as_slice(),
                 sa.spi_out,
                 window,

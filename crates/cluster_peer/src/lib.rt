@@ -2,6 +2,7 @@
 #![tactic(auto)]
 
 mod association;
+mod names;
 mod peer;
 mod slots;
 

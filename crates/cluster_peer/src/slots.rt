@@ -4,6 +4,7 @@ ghost use Rattle.events.specs.declared.turn.Step.{Step};
 ghost use Rattle.turn_rules.specs.Packets.{Drops, IsVerdictOf, LiesWithin};
 ghost use Rattle.turn_rules.specs.Peers.{admits};
 ghost use Rattle.turn_rules.specs.Slots.{PeerReceives, PeerSends, SlotReceives, entered_slot, first_slot, has_spir, receives_at, records, slot_after};
+ghost use Rattle.turn_rules.specs.Steps.{IsQuiet};
 ghost use Rattle.turn_rules.specs.Tasks as task;
 ghost use Rattle.cluster_peer.specs.Slots.{IsFirstSlot};
 ghost use Rattle.ha_base.specs.declared.esp_outcomes.EspDrop.TheVariants as drop;
@@ -129,7 +130,7 @@ impl Slots {
     pub fn receive(&mut self, bytes: &mut [u8]) -> EspVerdict
         requires { length bytes.old ≤ DATAGRAM_OCTETS }
         ensures receives { PeerReceives self.old.slots bytes.old result bytes.new }
-        ensures after { (step : Step) → IsVerdictOf result bytes.new step.verdict
+        ensures after { (step : Step) → IsVerdictOf result bytes.new step.verdict → IsQuiet step
             → self.new.slots ≡ map (slot_after task.Receive step) self.old.slots }
         ensures within { LiesWithin result (length bytes.new) }
     {
@@ -145,7 +146,7 @@ impl Slots {
         ensures receives { MatchOption (first_slot (receives_at spi) self.old.slots)
             (Drops drop.WrongSpi bytes.old result bytes.new)
             (λ slot. SlotReceives slot bytes.old result bytes.new) }
-        ensures after { (step : Step) → IsVerdictOf result bytes.new step.verdict
+        ensures after { (step : Step) → IsVerdictOf result bytes.new step.verdict → IsQuiet step
             → self.new.slots ≡ map (slot_after task.Receive step) self.old.slots }
         ensures within { LiesWithin result (length bytes.new) }
     {

@@ -4,7 +4,7 @@ use Rattle.std.proofs.lemmas.Bool.Decides.{nat_tests}
 use Rattle.ike_sas.specs.Arrivals.{IsOrdinaryRequest}
 use Rattle.ike_sas.specs.Held.{IkeHeld}
 use Rattle.ike_sas.specs.declared.arrival.Arrival.TheVariants as arrival
-use Rattle.ike_sas.specs.declared.arrival.IkeDrop.TheVariants as drop
+use Rattle.events.specs.declared.ike_outcomes.IkeDrop.TheVariants as drop
 use Rattle.ike_window.specs.Requests.{IsRequestJudgedBy}
 use Rattle.ike_window.specs.Windows.{IsAnswered}
 use Rattle.ike_window.specs.declared.judged.Judged.TheVariants as judged

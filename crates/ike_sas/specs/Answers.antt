@@ -1,9 +1,9 @@
 -- What a new request is answered with (RFC 7296, sections 1.4, 2.5 and 2.21).
 use Rattle.std.specs.Prelude.{ℕ, ◌==◌, nat_lt, List, [], ◌∷◌, length, Option, None, Some, unwrap_or, Result, Ok, Err, if◌then◌else◌}
 use Rattle.ha_base.specs.declared.services.TheConstants.{LONGEST_REQUEST}
-use Rattle.ike_grammar.specs.declared.fault.Bad.{Bad}
-use Rattle.ike_grammar.specs.declared.fault.Reason.{Reason}
-use Rattle.ike_grammar.specs.declared.fault.Reason.TheVariants.{UnknownCritical}
+use Rattle.ike_values.specs.declared.fault.Bad.{Bad}
+use Rattle.ike_values.specs.declared.fault.Reason.{Reason}
+use Rattle.ike_values.specs.declared.fault.Reason.TheVariants.{UnknownCritical}
 use Rattle.ike_sas.specs.declared.answers.RequestError.{RequestError}
 use Rattle.ike_sas.specs.declared.answers.RequestError.TheVariants.{InvalidSyntax, NoProposalChosen, UnsupportedCriticalPayload}
 use Rattle.ike_sas.specs.declared.exchanges.TheConstants.{CREATE_CHILD_SA, IKE_AUTH}

@@ -5,12 +5,12 @@ use Rattle.events.specs.declared.turn.Datagram.{Datagram}
 use Rattle.events.specs.declared.turn.Medium.TheVariants.{Ike}
 use Rattle.ha_base.specs.declared.counter_names.End.{End}
 use Rattle.ha_base.specs.declared.counter_names.End.TheVariants.{Cluster, Peer}
-use Rattle.ike_grammar.specs.declared.fault.Bad.{Bad}
+use Rattle.ike_values.specs.declared.fault.Bad.{Bad}
 use Rattle.ike_grammar.specs.Messages.{MessageRefused}
 use Rattle.ike_sas.specs.Held.{IkeHeld, is_initiator}
 use Rattle.ike_sas.specs.declared.arrival.Arrival.{Arrival}
 use Rattle.ike_sas.specs.declared.arrival.Arrival.TheVariants as arrival
-use Rattle.ike_sas.specs.declared.arrival.IkeDrop.TheVariants as drop
+use Rattle.events.specs.declared.ike_outcomes.IkeDrop.TheVariants as drop
 use Rattle.ike_sas.specs.declared.exchanges.TheConstants.{CREATE_CHILD_SA, IKE_AUTH, IKE_SESSION_RESUME, INFORMATIONAL}
 use Rattle.ike_values.specs.Headers.{IsMessage}
 use Rattle.ike_values.specs.Values.{PayloadValue, sk}

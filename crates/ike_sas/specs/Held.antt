@@ -1,12 +1,13 @@
 -- What an end holds of the IKE messages of an association (RFC 7296, sections 2.1 to 2.3).
-use Rattle.std.specs.Prelude.{◌≡◌, ℕ, ◌+◌, ◌==◌, not, Bool, true, false, List, [], ◌∷◌, ◌++◌, filter}
+use Rattle.std.specs.Prelude.{ℕ, ◌+◌, ◌==◌, not, Bool, true, false, List, [], ◌∷◌, ◌++◌, filter}
 use Rattle.ha_base.specs.declared.counter_names.End.{End}
 use Rattle.ha_base.specs.declared.counter_names.End.TheVariants.{Cluster, Peer}
 use Rattle.ike_sas.specs.declared.exchanges.TheConstants.{INFORMATIONAL}
 use Rattle.ike_sas.specs.declared.keys.IkeKeys.{IkeKeys}
 use Rattle.ike_values.specs.declared.header.Header.{Header}
 use Rattle.ike_window.specs.Kept.{KeptMessage}
-use Rattle.ike_window.specs.Windows.{ResponseWindow, Stores}
+use Rattle.ike_window.specs.Stored.{with_response}
+use Rattle.ike_window.specs.Windows.{ResponseWindow}
 
 -- the keys; the requests that are outstanding, in ascending order of Message ID; the least Message
 -- ID that an own request may have; what was answered; and whether requests may be answered, which a
@@ -60,6 +61,7 @@ without_asked id held = record held {
 }
 
 -- a response was stored under the Message ID of its request
-pub record StoresResponse (id : ℕ) (octets : List ℕ) (old new : IkeHeld) : Type 0 where
-  pub stored : Stores (record { id = id; octets = octets }) old.answered new.answered
-  pub same : new ≡ record old { answered = new.answered }
+abbrev pub with_answered : ℕ → List ℕ → IkeHeld → IkeHeld
+with_answered id octets held = record held {
+  answered = with_response (record { id = id; octets = octets }) held.answered;
+}

@@ -15,6 +15,10 @@ use sk_payload::Opened;
 /// How many octets a service's reply has at most.
 pub const LONGEST_REPLY: usize = 256;
 
+/// The notify types of errors are below this, and those of status are not (RFC 7296, section
+/// 3.10.1).
+pub const FIRST_STATUS: u16 = 16384;
+
 /// How many octets of inner payloads an answer has at most: a notification with the longest reply.
 pub const ANSWER_OCTETS: usize = 8 + LONGEST_REPLY;
 
@@ -88,8 +92,9 @@ pub fn error_of(request: &Opened) -> Option<RequestError>
     }
 }
 
-/// The data that a request has for the service.
-fn data_of(request: &Opened) -> &[u8]
+/// The data that a request has for the service: those of the first notification that asks for an
+/// execution, and no octets where there is none, or the inner payloads are faulty.
+pub fn data_of(request: &Opened) -> &[u8]
     ensures { result.now ≡ data_of request.now.inner }
 {
     match &request.inner {

@@ -1,5 +1,4 @@
-use events::Datagram;
-use ike_grammar::Bad;
+use events::{Datagram, IkeDrop};
 use ike_values::Message;
 use sk_payload::Opened;
 
@@ -21,28 +20,4 @@ pub enum Arrival {
     Repeat { id: u32, datagram: Datagram },
     /// A request that was not answered yet and may be.
     New(Opened),
-}
-
-/// Why an IKE message was dropped, in the order of the checks.
-#[derive(Clone, Copy, Debug, PartialEq, Eq)]
-pub enum IkeDrop {
-    /// The octets spell no message, or the inner payloads of a response are faulty: where, counted
-    /// in octets from 0, of the message or of the plaintext, and why.
-    Bad(Bad),
-    /// The Initiator flag is that of this end.
-    Direction,
-    /// Messages of this exchange type are not taken, or SK is not the only payload.
-    Exchange(u8),
-    /// No association has these SPIs.
-    UnknownSpi,
-    /// The integrity check value does not hold.
-    NotOpened,
-    /// A request whose Message ID lies below the floor, or too far below the window.
-    Old(u32),
-    /// A request whose Message ID lies above the window.
-    Ahead(u32),
-    /// A request at an end that has yet to synchronise (RFC 6311, section 5.1).
-    NotSynced(u32),
-    /// A response to a request that is not outstanding.
-    NotAsked,
 }

@@ -18,9 +18,12 @@ mod responses;
 mod sa;
 mod synchronisation;
 
-pub use answers::{ANSWER_OCTETS, RequestError, error_of, execute};
-pub use arrival::{Arrival, IkeDrop};
+pub use answers::{
+    ANSWER_OCTETS, FIRST_STATUS, LONGEST_REPLY, RequestError, data_of, error_of, execute,
+};
+pub use arrival::Arrival;
 pub use draft::{Draft, SentMessage};
+pub use events::IkeDrop;
 pub use exchanges::{CREATE_CHILD_SA, IKE_AUTH, IKE_SESSION_RESUME, INFORMATIONAL};
 pub use keys::IkeKeys;
 pub use receiving::{Associations, receive};

@@ -6,11 +6,12 @@ ghost use Rattle.ike_values.specs.declared.header.Header.{Header};
 ghost use Rattle.ike_window.specs.Requests.{IsRepeat};
 ghost use Rattle.ike_window.specs.Windows.{IsAnswered};
 
-use crate::arrival::{Arrival, IkeDrop};
+use crate::arrival::Arrival;
 use crate::exchanges::{CREATE_CHILD_SA, IKE_AUTH, IKE_SESSION_RESUME, INFORMATIONAL};
 use crate::requests::copied;
 use crate::sa::IkeSa;
 use crate::synchronisation::{bad_in, is_synchronisation};
+use events::IkeDrop;
 use ha_base::{End, Memory};
 use ike_grammar::{Unread, decode_message, one_message};
 use ike_values::{Message, Payload, Payloads};

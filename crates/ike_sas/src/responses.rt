@@ -1,6 +1,6 @@
 ghost use Rattle.std.specs.Prelude.{◌≡◌, ◌≤◌, [], length};
 ghost use Rattle.ike_sas.specs.Answers.{answer_payloads};
-ghost use Rattle.ike_sas.specs.Held.{StoresResponse, response_header};
+ghost use Rattle.ike_sas.specs.Held.{response_header, with_answered};
 ghost use Rattle.ike_sas.specs.Sending.{SendsIke};
 ghost use Rattle.ike_sas.specs.declared.answers.TheConstants.{ANSWER_OCTETS, LONGEST_REPLY};
 ghost use Rattle.ike_window.specs.Requests.{IsNewRequest};
@@ -40,8 +40,8 @@ impl IkeSa {
             request.now.id }
         ensures sends { SendsIke self.old.keys.sending number.value
             (response_header self.old.keys request.now) draft.payloads result }
-        ensures held { StoresResponse request.now.id result.datagram.octets.octets
-            self.old self.new }
+        ensures held { self.new
+            ≡ with_answered request.now.id result.datagram.octets.octets self.old }
     {
         let header = self.keys.response_header(request);
         let Sealed { sent, kept } = draft.seal(&self.keys.sending, number, &header);
@@ -67,8 +67,8 @@ impl IkeSa {
         ensures sends { SendsIke self.old.keys.sending number.value
             (response_header self.old.keys request.now.header)
             (answer_payloads request.now reply.now) result }
-        ensures held { StoresResponse request.now.header.id result.datagram.octets.octets
-            self.old self.new }
+        ensures held { self.new
+            ≡ with_answered request.now.header.id result.datagram.octets.octets self.old }
     {
         draft.put_answer(request, reply);
         self.respond(draft, &request.header, number)

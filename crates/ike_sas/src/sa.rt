@@ -1,4 +1,5 @@
 ghost use Rattle.std.specs.Prelude.{◌≡◌, []};
+ghost use Rattle.ike_window.specs.Stored.{no_responses};
 
 use crate::keys::IkeKeys;
 use ike_window::{Answering, Asking};
@@ -40,7 +41,7 @@ impl IkeSa {
           keys = keys;
           asked = [];
           next = next;
-          answered = record { floor = floor; low = floor; responses = [] };
+          answered = no_responses floor;
           synced = synced;
         } }
     {

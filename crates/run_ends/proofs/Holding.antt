@@ -12,12 +12,13 @@ use Rattle.events.specs.declared.turn.Turn.{Turn}
 use Rattle.events.specs.declared.verdict.Refusal.{Refusal}
 use Rattle.events.specs.declared.verdict.Verdict.{Verdict}
 use Rattle.events.specs.declared.verdict.Verdict.TheVariants as out
+use Rattle.ha_base.specs.declared.counter_names.End.TheVariants as end
 use Rattle.ha_base.specs.declared.outside.Moment.{Moment}
 use Rattle.keeper_book.specs.declared.calls.Call.{Call}
 use Rattle.keeper_book.specs.declared.records.Record.{Record}
 use Rattle.turn_rules.specs.Configurations.{Configuration, Membership, configured_in, first_ticket_key, fresh_in, gateway_of, membership}
 use Rattle.turn_rules.specs.Ends.{Member, Peer, Performer, is_end, is_of_run, is_refused_by_run, performer_at, performer_of}
-use Rattle.turn_rules.specs.Held.{Held, first_some, held_after, held_at}
+use Rattle.turn_rules.specs.Held.{Held, after_number, first_some, held_after, held_at, iv_in}
 use Rattle.turn_rules.specs.Peers.{entered_at_task}
 use Rattle.turn_rules.specs.PeerStates.{PeerHeld, peer_after, peer_configured}
 use Rattle.turn_rules.specs.Slots.{Slot, entered_slot, slot_after, slots_after}
@@ -202,19 +203,19 @@ module _ (past : List Turn) (old : EndsHeld) (moment : Moment) (at : Event) (cal
       (λ k. member-same k (k == suc place) refl ∙ ap (λ b. member_unless b (if k == suc place then acts past old moment at calls step k else member_at old.members k)) (not_ended k))
 
 -- a task that asks nothing makes nothing of what is held
-pub idle-held : (size spir : ℕ) (calls : List Call) (step : Step) (x : Option Held) → calls ≡ [] → held_after size spir task.Nothing calls step x ≡ x
-idle-held size spir calls step x none = subst (λ cs. held_after size spir task.Nothing cs step x ≡ x) (sym none) (go x)
+pub idle-held : (size spir : ℕ) (calls : List Call) (step : Step) (x : Option Held) → calls ≡ [] → step.seals ≡ [] → held_after size spir task.Nothing calls step x ≡ x
+idle-held size spir calls step x none unsealed = subst (λ cs. held_after size spir task.Nothing cs step x ≡ x) (sym none) (go x)
   where
     go : (x : Option Held) → held_after size spir task.Nothing [] step x ≡ x
     go None = refl
-    go (Some held) = refl
+    go (Some held) = ap (λ seals. Some (record held { nexts = record held.nexts { iv = after_number (iv_in end.Cluster spir seals) held.nexts.iv } })) unsealed
 
-either-member : (b : Bool) (config : Configuration) (moment : Moment) (calls : List Call) (step : Step) (m : MemberHeld) → calls ≡ [] → (if b then member_after config moment None task.Nothing calls step m else m) ≡ m
-either-member true config moment calls step m none = λ i. record { given = m.given; held = λ spir. idle-held config.window spir calls step (m.held spir) none i }
-either-member false config moment calls step m none = refl
+either-member : (b : Bool) (config : Configuration) (moment : Moment) (calls : List Call) (step : Step) (m : MemberHeld) → calls ≡ [] → step.seals ≡ [] → (if b then member_after config moment None task.Nothing calls step m else m) ≡ m
+either-member true config moment calls step m none unsealed = λ i. record { given = m.given; held = λ spir. idle-held config.window spir calls step (m.held spir) none unsealed i }
+either-member false config moment calls step m none unsealed = refl
 
 -- nobody is in the place of a member that ended
-module _ (past : List Turn) (old : EndsHeld) (moment : Moment) (calls : List Call) (step : Step) (place : ℕ) (within : place < length old.members) (none : calls ≡ []) (said : step.verdict ≡ out.Down) where
+module _ (past : List Turn) (old : EndsHeld) (moment : Moment) (calls : List Call) (step : Step) (place : ℕ) (within : place < length old.members) (none : calls ≡ []) (said : step.verdict ≡ out.Down) (unsealed : step.seals ≡ []) where
   abbrev gone : List (Option Holder)
   gone = set old.members place None
 
@@ -239,11 +240,11 @@ module _ (past : List Turn) (old : EndsHeld) (moment : Moment) (calls : List Cal
       (λ k.
       crash-member k (k == suc place) refl
       ∙ ap (λ b. member_unless (b || is_none (holder_of old.members k)) (member_at old.members k)) (sym (is_ended k (k == suc place) refl))
-      ∙ ap (member_unless (ends k crash step.verdict || is_none (holder_of old.members k))) (sym (either-member (k == suc place) old.config moment calls step (member_at old.members k) none)))
+      ∙ ap (member_unless (ends k crash step.verdict || is_none (holder_of old.members k))) (sym (either-member (k == suc place) old.config moment calls step (member_at old.members k) none unsealed)))
 
 -- a member that joined is the newest, and holds nothing
 module _ (past : List Turn) (old : EndsHeld) (moment : Moment) (fresh : List ℕ) (calls : List Call) (step : Step) (x : Holder) (empty : x.held ≡ []) (given : given_to x ≡ membership old.config fresh)
-    (none : calls ≡ []) (number : ℕ) (last : number ≡ suc (length old.members)) (said : step.verdict ≡ out.Member number) where
+    (none : calls ≡ []) (number : ℕ) (last : number ≡ suc (length old.members)) (said : step.verdict ≡ out.Member number) (unsealed : step.seals ≡ []) where
   abbrev join : Event
   join = event.Join fresh
 
@@ -263,7 +264,7 @@ module _ (past : List Turn) (old : EndsHeld) (moment : Moment) (fresh : List ℕ
   new-seen : member_seen (Some x) ≡ member_after old.config moment (Some fresh) task.Nothing calls step no_member
   new-seen i = record {
     given = ap Some given i;
-    held = λ spir. (ap (λ hs. held_at hs spir) empty ∙ sym (idle-held old.config.window spir calls step None none)) i;
+    held = λ spir. (ap (λ hs. held_at hs spir) empty ∙ sym (idle-held old.config.window spir calls step None none unsealed)) i;
   }
 
   free : is_none (holder_of old.members (suc (length old.members))) ≡ false
@@ -299,20 +300,23 @@ module _ (past : List Turn) (old : EndsHeld) (moment : Moment) (fresh : List ℕ
   }
 
 -- an association that was entered is the peer's newest
-entered-slots : (size : ℕ) (sa : Record) (step : Step) (slots : List Slot) → map (slot_after (task.Enter sa) step) slots ≡ slots
-entered-slots size sa step [] = refl
-entered-slots size sa step (slot ∷ slots) = ap (λ rest. slot ∷ rest) (entered-slots size sa step slots)
+entered-slot : (sa : Record) (step : Step) (slot : Slot) → step.seals ≡ [] → slot_after (task.Enter sa) step slot ≡ slot
+entered-slot sa step slot unsealed = ap (λ seals. record slot { iv = after_number (iv_in end.Peer slot.sa.spir seals) slot.iv }) unsealed
+
+entered-slots : (sa : Record) (step : Step) (slots : List Slot) → step.seals ≡ [] → map (slot_after (task.Enter sa) step) slots ≡ slots
+entered-slots sa step [] unsealed = refl
+entered-slots sa step (slot ∷ slots) unsealed = ap₂ (λ first rest. first ∷ rest) (entered-slot sa step slot unsealed) (entered-slots sa step slots unsealed)
 
 abbrev with_entry : ℕ → Record → Step → List Slot → Verdict → List Slot
 with_entry size sa step slots verdict = map (slot_after (task.Enter sa) step) slots ++ option_to_list (option_map (entered_slot size) (entered_at_task (task.Enter sa) verdict))
 
-pub entered-after : (size : ℕ) (sa : Record) (step : Step) (slots : List Slot) → step.verdict ≡ out.Entered → slots ++ entered_slot size sa ∷ [] ≡ slots_after size (task.Enter sa) step slots
-entered-after size sa step slots said =
-    ap (λ old. old ++ entered_slot size sa ∷ []) (sym (entered-slots size sa step slots)) ∙ ap (with_entry size sa step slots) (sym said)
+pub entered-after : (size : ℕ) (sa : Record) (step : Step) (slots : List Slot) → step.verdict ≡ out.Entered → step.seals ≡ [] → slots ++ entered_slot size sa ∷ [] ≡ slots_after size (task.Enter sa) step slots
+entered-after size sa step slots said unsealed =
+    ap (λ old. old ++ entered_slot size sa ∷ []) (sym (entered-slots sa step slots unsealed)) ∙ ap (with_entry size sa step slots) (sym said)
 
-pub not_entered-after : (size : ℕ) (sa : Record) (step : Step) (slots : List Slot) (why : Refusal) → step.verdict ≡ out.Refused why → slots ≡ slots_after size (task.Enter sa) step slots
-not_entered-after size sa step slots why said =
-    sym (append-nil (map (slot_after (task.Enter sa) step) slots) ∙ entered-slots size sa step slots) ∙ ap (with_entry size sa step slots) (sym said)
+pub not_entered-after : (size : ℕ) (sa : Record) (step : Step) (slots : List Slot) (why : Refusal) → step.verdict ≡ out.Refused why → step.seals ≡ [] → slots ≡ slots_after size (task.Enter sa) step slots
+not_entered-after size sa step slots why said unsealed =
+    sym (append-nil (map (slot_after (task.Enter sa) step) slots) ∙ entered-slots sa step slots unsealed) ∙ ap (with_entry size sa step slots) (sym said)
 
 -- the cluster was configured before anything else
 pub configured-holds : (past : List Turn) (old : EndsHeld) (moment : Moment) (config : Configuration) (ticket_key : List ℕ) → config.ticket_key ≡ first_ticket_key ticket_key → (calls : List Call) (step : Step) → step.verdict ≡ out.Configured

@@ -113,7 +113,7 @@ crashes past s moment member place x in_place is seat was some step says new lea
     let e : member ≡ suc place = counted member place s.members is in
     subst (λ later. Plays past s moment (event.Crash member) [] step later) (sym leaves) (record {
       does = does-performed (state_of past s) moment (event.Crash member) [] step (up-refusal past s moment (event.Crash member) member refl refl in_place place x is seat was some) (record { no_calls = refl; says = says });
-      holds = subst (λ n. Holds past s moment (event.Crash n) [] step (record s { members = set s.members place None })) (sym e) (crash-holds past s moment [] step place is.within refl says.said);
+      holds = subst (λ n. Holds past s moment (event.Crash n) [] step (record s { members = set s.members place None })) (sym e) (crash-holds past s moment [] step place is.within refl says.said says.quiet.seals);
       in_place = ended-in_place s place is.within in_place;
     })
 
@@ -133,7 +133,7 @@ module _ (past : List Turn) (s : EndsHeld) (moment : Moment) (in_place : AreInPl
       let last : length s.members + 1 ≡ suc (length s.members) = omega arith in
       subst (λ later. Plays past s moment (event.Join fresh) [] step later) (sym leaves) (record {
         does = does-performed (state_of past s) moment (event.Join fresh) [] step (ap (λ b. refused_where b (refusal.NoRoom (length s.members)) None) is) (record { no_calls = refl; says = says });
-        holds = join-holds past s moment fresh [] step x refl refl refl (length s.members + 1) last says.said;
+        holds = join-holds past s moment fresh [] step x refl refl refl (length s.members + 1) last says.said says.quiet.seals;
         in_place = joined-in_place s x in_place (record { number_is = last; config_is = refl });
       })
 
@@ -152,7 +152,7 @@ module _ (past : List Turn) (s : EndsHeld) (moment : Moment) (in_place : AreInPl
   clashes is clash says new same = subst (λ later. Plays past s moment (event.Import sa) [] step later) (sym same) (record {
     does = does-performed (state_of past s) moment (event.Import sa) [] step (within is)
         (subst (λ b. Refusing (not b) refusal.SpiInUse [] step (Quietly (EntersRecord sa) [] step)) (sym clash) (record { no_calls = refl; says = says }));
-    holds = peer-holds past s moment (event.Import sa) [] step s.peer (record { no_join = ap is_join says.said; heard = ap is_refused_by_run says.said }) refl refl refl (ap with_slots (not_entered-after s.config.window sa step s.peer.slots refusal.SpiInUse says.said));
+    holds = peer-holds past s moment (event.Import sa) [] step s.peer (record { no_join = ap is_join says.said; heard = ap is_refused_by_run says.said }) refl refl refl (ap with_slots (not_entered-after s.config.window sa step s.peer.slots refusal.SpiInUse says.said says.quiet.seals));
     in_place = in_place;
   })
 
@@ -167,10 +167,10 @@ module _ (past : List Turn) (s : EndsHeld) (moment : Moment) (in_place : AreInPl
   -- or the keeper answers
   pub entered_it : is_importable sa ≡ true → admits (records s.peer.slots) sa ≡ true → Quietly (EntersRecord sa) calls step → step.verdict ≡ out.Entered → (new : EndsHeld) → new ≡ record s { peer = record s.peer { slots = s.peer.slots ++ entered_slot s.config.window sa ∷ [] } }
       → Plays past s moment (event.Import sa) calls step new
-  entered_it is free quietly said = enters (s.peer.slots ++ entered_slot s.config.window sa ∷ []) is free quietly (entered-after s.config.window sa step s.peer.slots said)
+  entered_it is free quietly said = enters (s.peer.slots ++ entered_slot s.config.window sa ∷ []) is free quietly (entered-after s.config.window sa step s.peer.slots said quietly.quiet.seals)
 
   pub not_entered : (why : Refusal) → is_importable sa ≡ true → admits (records s.peer.slots) sa ≡ true → Quietly (EntersRecord sa) calls step → step.verdict ≡ out.Refused why → (new : EndsHeld) → new ≡ s → Plays past s moment (event.Import sa) calls step new
-  not_entered why is free quietly said = enters s.peer.slots is free quietly (not_entered-after s.config.window sa step s.peer.slots why said)
+  not_entered why is free quietly said = enters s.peer.slots is free quietly (not_entered-after s.config.window sa step s.peer.slots why said quietly.quiet.seals)
 
 -- the cluster is configured first, or not
 module _ (past : List Turn) (s : EndsHeld) (moment : Moment) (in_place : AreInPlace s) (config : Configuration) (ticket_key : List ℕ) (step : Step) where

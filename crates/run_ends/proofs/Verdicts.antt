@@ -258,6 +258,8 @@ module _ (state : RunState) (moment : Moment) (calls : List Call) (step : Step) 
       (none-few calls p.0, (peer_sends-proper spir state.peer.slots payload.octets step (fits_send parties.Peer spir payload fits) p.1).brief)
   performs-few (event.Send (parties.Member member) spir payload) fits p =
       proper-few (sends-proper ((state.members member).held spir) payload.octets calls step (fits_send (parties.Member member) spir payload fits) p)
+  performs-few (event.Ask from spir request) fits p = absurd p
+  performs-few (event.Again from spir id) fits p = absurd p
   performs-few (event.Deliver which to) fits p = receives-few to (arrives state.datagrams (event.Deliver which to)) p
   performs-few (event.Alter which to place octet) fits p = receives-few to (arrives state.datagrams (event.Alter which to place octet)) p
   performs-few (event.Cut which to keep) fits p = receives-few to (arrives state.datagrams (event.Cut which to keep)) p

@@ -136,6 +136,8 @@ impl Parties {
                 spir,
                 payload,
             } => return self.send(keeper, trace, *from, *spir, payload.as_slice()),
+            Event::Ask { .. } => return Ok(refused(Refusal::NotBuilt)),
+            Event::Again { .. } => return Ok(refused(Refusal::NotBuilt)),
             Event::Deliver { to, .. } => return self.deliver(keeper, now, trace, *to, event),
             Event::Alter { to, .. } => return self.deliver(keeper, now, trace, *to, event),
             Event::Cut { to, .. } => return self.deliver(keeper, now, trace, *to, event),

@@ -72,6 +72,8 @@ besides-run state (event.Deliver which to) = arrival-run (changed (datagram_at w
 besides-run state (event.Alter which to place octet) = arrival-run (changed (datagram_at which state.datagrams) (altered place octet)) (changed-run (datagram_at which state.datagrams) (altered place octet))
 besides-run state (event.Cut which to keep) = arrival-run (changed (datagram_at which state.datagrams) (cut keep)) (changed-run (datagram_at which state.datagrams) (cut keep))
 besides-run state (event.Inject to medium octets) = medium-run medium
+besides-run state (event.Ask from spir request) = medium-run medium.Ike
+besides-run state (event.Again from spir id) = medium-run medium.Ike
 besides-run state event = none-run
 
 -- the run refuses with refusals of its own

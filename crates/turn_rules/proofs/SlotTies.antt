@@ -15,16 +15,19 @@ use Rattle.events.specs.declared.verdict.Refusal.TheVariants as refusal
 use Rattle.events.specs.declared.verdict.Verdict.{Verdict}
 use Rattle.events.specs.declared.verdict.Verdict.TheVariants as out
 use Rattle.ha_base.specs.declared.outside.Moment.{Moment}
+use Rattle.ike_window.specs.Stored.{window_of_responses}
 use Rattle.keeper_book.specs.declared.calls.Call.{Call}
+use Rattle.keeper_book.specs.declared.counters.Counter.TheVariants as counter
 use Rattle.keeper_book.specs.declared.records.Record.{Record}
 use Rattle.replay_set.specs.Window.{window_of}
-use Rattle.turn_rules.proofs.Ties.{greatest-cons_option, received-peer, window_of-cons_option}
+use Rattle.turn_rules.proofs.Ties.{greatest-cons_option, received-peer, responses-cons_option, window_of-cons_option}
 use Rattle.turn_rules.specs.Configurations.{Configuration, configured_in, default_configuration}
 use Rattle.turn_rules.specs.Ends.{Peer, Performer, is_by, is_end, own, performer_at}
 use Rattle.turn_rules.specs.Fits.{Does, Imports, Refuses, Refusing, run_refusal}
 use Rattle.turn_rules.specs.Held.{after_received, first_some, found, greatest, received_in, received_of, config_by, configured_at, window_by}
+use Rattle.turn_rules.specs.IkeState.{outstanding_of, turn_response}
 use Rattle.turn_rules.specs.Peers.{AreDistinct, Differ, admits, associations_by, clashes, record_entered, entered_in}
-use Rattle.turn_rules.specs.Slots.{Slot, entered_slot, first_slot, is_entered, records, sent_of, since_entered, slot_after, slot_by, slots_after, slots_by}
+use Rattle.turn_rules.specs.Slots.{Slot, entered_slot, first_slot, is_entered, records, sent_of, since_entered, spent_of, slot_after, slot_by, slots_after, slots_by}
 use Rattle.turn_rules.specs.States.{RunState, told_state}
 use Rattle.turn_rules.specs.Tasks.{peer_task}
 
@@ -69,6 +72,10 @@ module _ (size : ℕ) (turn : Turn) (past : List Turn) where
     sa = sa;
     next = greatest sa.starts.esp_in (map (λ n. n + 1) (filter_map (sent_of sa.spir) mine));
     window = window_of size sa.starts.esp_out (filter_map (received_of sa.spir) mine);
+    iv = greatest sa.starts.iv (map (λ n. n + 1) (filter_map (spent_of sa.spir counter.Iv) mine));
+    ask = greatest sa.starts.answer (map (λ n. n + 1) (filter_map (spent_of sa.spir counter.Ask) mine));
+    asked = outstanding_of peer_task sa.spir mine;
+    answered = window_of_responses sa.starts.ask (filter_map (turn_response peer_task sa.spir) mine);
   }
 
   window_later : (sa : Record) (mine : List Turn) → window_of size sa.starts.esp_out (filter_map (received_of sa.spir) (turn ∷ mine)) ≡ after_received (received_in sa.spir (peer_task turn.event) turn.step.verdict) (slot_as sa mine).window
@@ -81,6 +88,10 @@ module _ (size : ℕ) (turn : Turn) (past : List Turn) where
     sa = sa;
     next = greatest-cons_option (sent_of sa.spir turn) sa.starts.esp_in (filter_map (sent_of sa.spir) mine) i;
     window = window_later sa mine i;
+    iv = greatest-cons_option (spent_of sa.spir counter.Iv turn) sa.starts.iv (filter_map (spent_of sa.spir counter.Iv) mine) i;
+    ask = greatest-cons_option (spent_of sa.spir counter.Ask turn) sa.starts.answer (filter_map (spent_of sa.spir counter.Ask) mine) i;
+    asked = outstanding_of peer_task sa.spir (turn ∷ mine);
+    answered = responses-cons_option (turn_response peer_task sa.spir turn) sa.starts.ask (filter_map (turn_response peer_task sa.spir) mine) i;
   }
 
   -- what is held of an association that came before
@@ -139,6 +150,10 @@ enters-admitted state now (event.Import asked) calls step sa does e = by_refusal
     by_refusal (Some why) refuses = absurd (said why refuses.says.said)
 enters-admitted state now (event.Send parties.Peer spir payload) calls step sa does e = absurd (cc)
 enters-admitted state now (event.Send (parties.Member member) spir payload) calls step sa does e = absurd (cc)
+enters-admitted state now (event.Ask parties.Peer spir request) calls step sa does e = absurd (cc)
+enters-admitted state now (event.Ask (parties.Member member) spir request) calls step sa does e = absurd (cc)
+enters-admitted state now (event.Again parties.Peer spir id) calls step sa does e = absurd (cc)
+enters-admitted state now (event.Again (parties.Member member) spir id) calls step sa does e = absurd (cc)
 enters-admitted state now event calls step sa does e = absurd (cc)
 
 -- the turn is one by what own turns tell

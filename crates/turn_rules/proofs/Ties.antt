@@ -1,22 +1,30 @@
 -- What an end holds after one more turn of its own is what that turn makes of what it held.
-use Rattle.std.proofs.Common.{◌≡◌, ℕ, ◌+◌, max, Option, Some, None, List, [], ◌∷◌, ◌++◌, map, refl, ap, sym, ◌∙◌, if◌then◌else◌}
+use Rattle.std.proofs.Common.{◌≡◌, ℕ, ◌+◌, ◌==◌, max, Bool, true, false, Option, Some, None, List, [], ◌∷◌, ◌++◌, map, refl, ap, sym, ◌∙◌, if◌then◌else◌}
 use Rattle.std.specs.Prelude.{is_some}
 use Rattle.std.specs.List.{filter_map, flat_map, cons_option}
 use Rattle.std.specs.Option.{option_map}
 use Rattle.events.specs.declared.event.Event.{Event}
 use Rattle.events.specs.declared.event.Event.TheVariants as event
 use Rattle.events.specs.declared.event.Party.TheVariants as parties
+use Rattle.events.specs.declared.turn.Datagram.{Datagram}
+use Rattle.events.specs.declared.turn.Step.{Step}
 use Rattle.events.specs.declared.turn.Turn.{Turn}
 use Rattle.events.specs.declared.verdict.Refusal.{Refusal}
 use Rattle.events.specs.declared.verdict.Verdict.{Verdict}
 use Rattle.events.specs.declared.verdict.Verdict.TheVariants as out
+use Rattle.ike_window.proofs.Windows.{storing_adds}
+use Rattle.ike_window.specs.Kept.{KeptMessage}
+use Rattle.ike_window.specs.Stored.{window_of_responses}
+use Rattle.ha_base.specs.declared.counter_names.End.{End}
 use Rattle.keeper_book.specs.Counters.{five_at}
 use Rattle.keeper_book.specs.declared.counters.Counter.{Counter}
 use Rattle.keeper_book.specs.declared.counters.Counter.TheVariants as counter
 use Rattle.keeper_book.specs.declared.records.Taken.{Taken}
 use Rattle.replay_set.specs.Window.{window_of}
 use Rattle.replay_set.proofs.Numbers.{noting_adds}
-use Rattle.turn_rules.specs.Held.{Held, found, first_some, five_of, grant_of, covers_of, number_of, greatest, since, next_number_of, high_of, holding, held_by, held_begun, after_number, after_received, received, received_in, received_of, advanced, held_after, used_in}
+use Rattle.turn_rules.specs.Held.{Held, found, first_some, five_of, synced_at_once, grant_of, covers_of, number_of, greatest, since, next_number_of, high_of, holding, held_by, held_begun, after_number, after_received, received, received_in, received_of, advanced, held_after, iv_in, said_in, used_in}
+use Rattle.turn_rules.specs.IkeState.{answered_after, outstanding_of, replied_in, request_in, request_sent, response_in, turn_response, response_to, taken_id}
+use Rattle.turn_rules.specs.Steps.{IsQuiet, Says}
 use Rattle.turn_rules.specs.Tasks as task
 use Rattle.turn_rules.specs.Tasks.{Task, member_task, peer_task}
 
@@ -44,18 +52,31 @@ pub window_of-cons_option : (number : Option ℕ) (size base : ℕ) (ns : List �
 window_of-cons_option None size base ns = refl
 window_of-cons_option (Some n) size base ns = sym (noting_adds size base ns n)
 
+-- one response more, or none, that was stored
+pub responses-cons_option : (response : Option KeptMessage) (floor : ℕ) (stored : List KeptMessage) → window_of_responses floor (cons_option response stored) ≡ answered_after response (window_of_responses floor stored)
+responses-cons_option None floor stored = refl
+responses-cons_option (Some response) floor stored = storing_adds floor stored response
+
 -- what an end is asked receives what the event delivers
 pub received-member : (spir : ℕ) (event : Event) (verdict : Verdict) → received spir event verdict ≡ received_in spir (member_task event) verdict
 received-member spir (event.Own member asked) verdict = refl
 received-member spir (event.Draw member asked) verdict = refl
 received-member spir (event.Send parties.Peer asked payload) verdict = refl
 received-member spir (event.Send (parties.Member member) asked payload) verdict = refl
+received-member spir (event.Ask parties.Peer asked request) verdict = refl
+received-member spir (event.Ask (parties.Member member) asked request) verdict = refl
+received-member spir (event.Again parties.Peer asked id) verdict = refl
+received-member spir (event.Again (parties.Member member) asked id) verdict = refl
 received-member spir event verdict = refl
 
 pub received-peer : (spir : ℕ) (event : Event) (verdict : Verdict) → received spir event verdict ≡ received_in spir (peer_task event) verdict
 received-peer spir (event.Import sa) verdict = refl
 received-peer spir (event.Send parties.Peer asked payload) verdict = refl
 received-peer spir (event.Send (parties.Member member) asked payload) verdict = refl
+received-peer spir (event.Ask parties.Peer asked request) verdict = refl
+received-peer spir (event.Ask (parties.Member member) asked request) verdict = refl
+received-peer spir (event.Again parties.Peer asked id) verdict = refl
+received-peer spir (event.Again (parties.Member member) asked id) verdict = refl
 received-peer spir event verdict = refl
 
 module _ (size spir : ℕ) (turn : Turn) (past : List Turn) where
@@ -70,6 +91,9 @@ module _ (size spir : ℕ) (turn : Turn) (past : List Turn) where
     nexts = five_of (λ c. greatest (five_at taken.bases c) (map (λ n. n + 1) (filter_map (number_of spir c) (turns_since grant))));
     highs = five_of (λ c. greatest (five_at taken.bases c) (flat_map (covers_of spir c) (turns_since grant)));
     window = window_of size taken.bases.esp_in (filter_map (received_of spir) (turns_since grant));
+    asked = outstanding_of member_task spir (turns_since grant);
+    answered = window_of_responses taken.bases.answer (filter_map (turn_response member_task spir) (turns_since grant));
+    synced = synced_at_once taken;
   }
 
   next_later : (taken : Taken) (c : Counter) → greatest (five_at taken.bases c) (map (λ n. n + 1) (filter_map (number_of spir c) (turn ∷ since spir past))) ≡ after_number (number_of spir c turn) (five_at (holding size spir past taken).nexts c)
@@ -95,6 +119,9 @@ module _ (size spir : ℕ) (turn : Turn) (past : List Turn) where
     nexts = five_of-same _ _ (next_later taken) i;
     highs = five_of-same _ _ (high_later taken) i;
     window = window_later taken i;
+    asked = outstanding_of member_task spir (turn ∷ since spir past);
+    answered = responses-cons_option (turn_response member_task spir turn) taken.bases.answer (filter_map (turn_response member_task spir) (since spir past)) i;
+    synced = synced_at_once taken;
   }
 
   later_found : (taken : Option Taken) → option_map (held_as None) taken ≡ option_map (advanced spir (member_task turn.event) turn.calls turn.step) (option_map (holding size spir past) taken)
@@ -109,17 +136,53 @@ module _ (size spir : ℕ) (turn : Turn) (past : List Turn) where
 pub held_by-cons : (size spir : ℕ) (turn : Turn) (past : List Turn) → held_by size (turn ∷ past) spir ≡ held_after size spir (member_task turn.event) turn.calls turn.step (held_by size past spir)
 held_by-cons size spir turn past = granted_first size spir turn past (grant_of spir turn)
 
+-- where nothing was sealed, no IV was used
+pub used-unsealed : (user : End) (spir : ℕ) (c : Counter) (asked : Task) (step : Step) → step.seals ≡ [] → said_in spir c asked step.verdict ≡ None → used_in user spir c asked step ≡ None
+used-unsealed user spir counter.Iv asked step sealed said = ap (iv_in user spir) sealed
+used-unsealed user spir counter.EspOut asked step sealed said = said
+used-unsealed user spir counter.EspIn asked step sealed said = said
+used-unsealed user spir counter.Ask asked step sealed said = said
+used-unsealed user spir counter.Answer asked step sealed said = said
+
 -- what is refused uses and receives nothing
-pub used-refused : (spir : ℕ) (c : Counter) (asked : Task) (why : Refusal) → used_in spir c asked (out.Refused why) ≡ None
-used-refused spir counter.EspOut (task.Draw other) why = refl
-used-refused spir counter.EspOut (task.Send other payload) why = refl
-used-refused spir c asked why = refl
+said-refused : (spir : ℕ) (c : Counter) (asked : Task) (why : Refusal) → said_in spir c asked (out.Refused why) ≡ None
+said-refused spir counter.EspOut (task.Draw other) why = refl
+said-refused spir counter.EspOut (task.Send other payload) why = refl
+said-refused spir counter.Ask (task.Ask other request) why = refl
+said-refused spir c asked why = refl
+
+pub used-refused : (user : End) (spir : ℕ) (c : Counter) (asked : Task) (why : Refusal) (step : Step) → Says (out.Refused why) step → used_in user spir c asked step ≡ None
+used-refused user spir c asked why step says = used-unsealed user spir c asked step says.quiet.seals (ap (said_in spir c asked) says.said ∙ said-refused spir c asked why)
 
 pub received-refused : (spir : ℕ) (asked : Task) (why : Refusal) → received_in spir asked (out.Refused why) ≡ None
 received-refused spir task.Receive why = refl
 received-refused spir asked why = refl
 
--- what is received uses no number that is counted up
-pub used-receiving : (spir : ℕ) (c : Counter) (verdict : Verdict) → used_in spir c task.Receive verdict ≡ None
-used-receiving spir counter.EspOut verdict = refl
-used-receiving spir c verdict = refl
+abbrev no_message : Option KeptMessage
+no_message = None
+
+none-either : (b : Bool) → (if b then no_message else no_message) ≡ no_message
+none-either true = refl
+none-either false = refl
+
+-- it sends no request, ends none, and answers none
+pub request-refused : (spir : ℕ) (asked : Task) (why : Refusal) (step : Step) → step.verdict ≡ out.Refused why → request_in spir asked step ≡ None
+request-refused spir (task.Ask other request) why step said = ap (λ verdict. if other == spir then request_sent verdict step.gives else None) said ∙ none-either (other == spir)
+request-refused spir asked why step said = refl
+
+pub replied-refused : (spir : ℕ) (asked : Task) (why : Refusal) → replied_in spir asked (out.Refused why) ≡ None
+replied-refused spir task.Receive why = refl
+replied-refused spir asked why = refl
+
+pub response-refused : (spir : ℕ) (asked : Task) (why : Refusal) (step : Step) → step.verdict ≡ out.Refused why → response_in spir asked step ≡ None
+response-refused spir task.Receive why step said = ap (λ verdict. response_to (taken_id spir verdict) step.gives) said
+response-refused spir asked why step said = refl
+
+-- what is received uses no number that is counted up, unless something is sealed
+said-receiving : (spir : ℕ) (c : Counter) (verdict : Verdict) → said_in spir c task.Receive verdict ≡ None
+said-receiving spir counter.EspOut verdict = refl
+said-receiving spir counter.Ask verdict = refl
+said-receiving spir c verdict = refl
+
+pub used-receiving : (user : End) (spir : ℕ) (c : Counter) (step : Step) → IsQuiet step → used_in user spir c task.Receive step ≡ None
+used-receiving user spir c step quiet = used-unsealed user spir c task.Receive step quiet.seals (said-receiving spir c step.verdict)

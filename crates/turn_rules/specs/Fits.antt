@@ -118,6 +118,8 @@ refused_besides state (event.Import sa) = refused_where
 refused_besides state (event.Join fresh) =
     refused_where (nat_le MAX_MEMBERS state.joined || nat_le state.boxes state.joined)
     (refusal.NoRoom state.joined) None
+refused_besides state (event.Ask from spir request) = Some refusal.NotBuilt
+refused_besides state (event.Again from spir id) = Some refusal.NotBuilt
 refused_besides state event = refused_delivery state (delivery_of event)
 
 -- why the run itself refuses an event, before any end sees it

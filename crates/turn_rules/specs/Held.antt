@@ -3,10 +3,16 @@ use Rattle.std.specs.Prelude.{ℕ, ◌+◌, ◌==◌, ◌&&◌, max, unwrap_or, 
 use Rattle.std.specs.List.{filter_map, flat_map}
 use Rattle.std.specs.Option.{option_map}
 use Rattle.events.specs.declared.event.Event.{Event}
+use Rattle.events.specs.declared.seals.Seal.{Seal}
 use Rattle.events.specs.declared.turn.Step.{Step}
 use Rattle.events.specs.declared.turn.Turn.{Turn}
 use Rattle.events.specs.declared.verdict.Verdict.{Verdict}
 use Rattle.events.specs.declared.verdict.Verdict.TheVariants as out
+use Rattle.ha_base.specs.declared.counter_names.End.{End}
+use Rattle.ha_base.specs.declared.counter_names.End.TheVariants as end
+use Rattle.ike_window.specs.Kept.{KeptMessage}
+use Rattle.ike_window.specs.Stored.{no_responses, window_of_responses}
+use Rattle.ike_window.specs.Windows.{ResponseWindow}
 use Rattle.keeper_book.specs.Counters.{counter_named, five_at}
 use Rattle.keeper_book.specs.Told.{seen}
 use Rattle.keeper_book.specs.declared.calls.Call.{Call}
@@ -23,12 +29,15 @@ use Rattle.keeper_book.specs.Records.{spir_of_origin}
 use Rattle.replay_set.specs.Window.{Window, window_of, with_noted}
 use Rattle.turn_rules.specs.Configurations.{Configuration, configured_in, default_configuration}
 use Rattle.turn_rules.specs.Datagrams.{delivery_of}
+use Rattle.turn_rules.specs.IkeState.{answered_after, is_of_spir, sealed_iv, outstanding_after, outstanding_of, replied_in, request_in, response_in, turn_response}
 use Rattle.turn_rules.specs.Tasks as task
 use Rattle.turn_rules.specs.Tasks.{Task, member_task, receipt}
 
 -- What a member holds of an association: the record and the epoch that it was granted, of each
 -- counter where the epoch began, the next number, and the high below which numbers may be used, and
--- which ESP numbers were received in it.
+-- which ESP numbers were received in it. Of IKE messages it holds the requests that are outstanding,
+-- what was answered, and whether requests may be answered, which a later epoch has to synchronise
+-- for first (RFC 6311, section 5.1).
 pub record Held : Type 0 where
   pub sa : Record
   pub epoch : ℕ
@@ -36,6 +45,9 @@ pub record Held : Type 0 where
   pub nexts : Five
   pub highs : Five
   pub window : Window
+  pub asked : List KeptMessage
+  pub answered : ResponseWindow
+  pub synced : Bool
 
 abbrev pub first_some : {Y : Type 0} → Option Y → Option Y → Option Y
 first_some None later = later
@@ -83,21 +95,28 @@ covered spir c (ask.Cover asked kind child epoch upto) answer.Done =
     if (asked == spir) && is_named c (counter_named kind child) then Some upto else None
 covered spir c asked answered = None
 
--- the number of the counter of the association that was used at a task
-abbrev pub used_in : ℕ → Counter → Task → Verdict → Option ℕ
-used_in spir counter.EspOut (task.Draw asked) (out.Number n) =
+-- the number of the counter of the association that was used at a task, as the verdict says
+abbrev pub said_in : ℕ → Counter → Task → Verdict → Option ℕ
+said_in spir counter.EspOut (task.Draw asked) (out.Number n) =
     if asked == spir then Some n else None
-used_in spir counter.EspOut (task.Send asked payload) (out.Sent n) =
+said_in spir counter.EspOut (task.Send asked payload) (out.Sent n) =
     if asked == spir then Some n else None
-used_in spir c asked verdict = None
+said_in spir counter.Ask (task.Ask asked request) (out.Asked id) =
+    if asked == spir then Some id else None
+said_in spir c asked verdict = None
+
+-- the IV of the association's IKE message that this end sealed
+abbrev pub iv_in : End → ℕ → List Seal → Option ℕ
+iv_in sealer spir seals = found (λ seal. sealed_iv sealer spir seal seal.name.kind) seals
+
+-- the number of this end's counter of the association that was used at a task
+abbrev pub used_in : End → ℕ → Counter → Task → Step → Option ℕ
+used_in user spir counter.Iv asked step = iv_in user spir step.seals
+used_in user spir c asked step = said_in spir c asked step.verdict
 
 -- the number that a member used at an event
-abbrev pub used : ℕ → Counter → Event → Verdict → Option ℕ
-used spir c event verdict = used_in spir c (member_task event) verdict
-
-abbrev pub is_of_spir : ℕ → Option ℕ → Bool
-is_of_spir spir None = false
-is_of_spir spir (Some other) = other == spir
+abbrev pub used : ℕ → Counter → Event → Step → Option ℕ
+used spir c event step = used_in end.Cluster spir c (member_task event) step
 
 -- the number of the association's ESP packet that was accepted
 abbrev pub accepted : ℕ → Verdict → Option ℕ
@@ -128,7 +147,7 @@ abbrev pub covers_of : ℕ → Counter → Turn → List ℕ
 covers_of spir c turn = covers_in spir c turn.calls
 
 abbrev pub number_of : ℕ → Counter → Turn → Option ℕ
-number_of spir c turn = used spir c turn.event turn.step.verdict
+number_of spir c turn = used spir c turn.event turn.step
 
 abbrev pub received_of : ℕ → Turn → Option ℕ
 received_of spir turn = received spir turn.event turn.step.verdict
@@ -153,6 +172,19 @@ abbrev pub window_since : ℕ → ℕ → Five → List Turn → Window
 window_since size spir bases past = window_of size bases.esp_in
     (filter_map (received_of spir) (since spir past))
 
+-- the requests that are outstanding of those that were sent since then
+abbrev pub asked_since : ℕ → List Turn → List KeptMessage
+asked_since spir past = outstanding_of member_task spir (since spir past)
+
+-- what is kept of the requests that were answered since then
+abbrev pub answered_since : ℕ → Five → List Turn → ResponseWindow
+answered_since spir bases past = window_of_responses bases.answer
+    (filter_map (turn_response member_task spir) (since spir past))
+
+-- an epoch has to synchronise, unless it is the first of its association
+abbrev pub synced_at_once : Taken → Bool
+synced_at_once taken = taken.epoch == 1
+
 abbrev pub holding : ℕ → ℕ → List Turn → Taken → Held
 holding size spir past taken = record {
   sa = taken.sa;
@@ -161,6 +193,9 @@ holding size spir past taken = record {
   nexts = five_of (λ c. next_number_of spir c taken.bases past);
   highs = five_of (λ c. high_of spir c taken.bases past);
   window = window_since size spir taken.bases past;
+  asked = asked_since spir past;
+  answered = answered_since spir taken.bases past;
+  synced = synced_at_once taken;
 }
 
 -- what an end with these turns of its own, and with receive windows of this size, holds of the
@@ -177,6 +212,9 @@ held_begun size taken = record {
   nexts = taken.bases;
   highs = taken.bases;
   window = window_of size taken.bases.esp_in [];
+  asked = [];
+  answered = no_responses taken.bases.answer;
+  synced = synced_at_once taken;
 }
 
 abbrev pub after_number : Option ℕ → ℕ → ℕ
@@ -190,9 +228,12 @@ after_received (Some n) window = with_noted window n
 -- what is held after a turn that grants nothing
 abbrev pub advanced : ℕ → Task → List Call → Step → Held → Held
 advanced spir asked calls step held = record held {
-  nexts = five_of (λ c. after_number (used_in spir c asked step.verdict) (five_at held.nexts c));
+  nexts = five_of (λ c. after_number (used_in end.Cluster spir c asked step) (five_at held.nexts c));
   highs = five_of (λ c. greatest (five_at held.highs c) (covers_in spir c calls));
   window = after_received (received_in spir asked step.verdict) held.window;
+  asked = outstanding_after (request_in spir asked step) (replied_in spir asked step.verdict)
+      held.asked;
+  answered = answered_after (response_in spir asked step) held.answered;
 }
 
 -- what is held of the association after one more turn

@@ -6,9 +6,13 @@ pub mod Ends
 pub mod Fits
 pub mod Genuine
 pub mod Held
+pub mod IkeState
 pub mod Local
+pub mod MemberMessages
 pub mod MemberPackets
+pub mod Messages
 pub mod Packets
+pub mod PeerMessages
 pub mod PeerStates
 pub mod Peers
 pub mod Safe

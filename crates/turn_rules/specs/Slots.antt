@@ -16,6 +16,9 @@ use Rattle.ha_base.specs.declared.counter_names.End.TheVariants as end
 use Rattle.ha_base.specs.declared.esp_outcomes.EspDrop.{EspDrop}
 use Rattle.ha_base.specs.declared.esp_outcomes.EspDrop.TheVariants as drop
 use Rattle.ha_base.specs.declared.esp_outcomes.EspOpened.{EspOpened}
+use Rattle.ike_window.specs.Kept.{KeptMessage}
+use Rattle.ike_window.specs.Stored.{no_responses, window_of_responses}
+use Rattle.ike_window.specs.Windows.{ResponseWindow}
 use Rattle.keeper_book.specs.declared.counters.Counter.{Counter}
 use Rattle.keeper_book.specs.CounterEnds.{end_of}
 use Rattle.keeper_book.specs.declared.counters.Counter.TheVariants as counter
@@ -23,17 +26,23 @@ use Rattle.keeper_book.specs.declared.records.Record.{Record}
 use Rattle.replay_set.specs.Window.{Window, window_of}
 use Rattle.turn_rules.specs.Draws.{child_of, counter_kind}
 use Rattle.turn_rules.specs.Held.{after_number, after_received, greatest, received_in, received_of, used_in}
+use Rattle.turn_rules.specs.IkeState.{answered_after, outstanding_after, outstanding_of, replied_in, request_in, response_in, turn_response}
 use Rattle.turn_rules.specs.Packets.{Drops, Inbound, OpensEsp, Outbound, SendsEsp}
 use Rattle.turn_rules.specs.Peers.{associations_by, entered_at_task, entered_in}
 use Rattle.turn_rules.specs.Steps.{Says}
 use Rattle.turn_rules.specs.Tasks.{Task, peer_task}
 
 -- What the peer holds of an association: the record, the ESP number that it sends next, and which
--- numbers it received.
+-- numbers it received; and of IKE messages the next IV, the next Message ID of an own request, the
+-- requests that are outstanding, and what was answered.
 pub record Slot : Type 0 where
   pub sa : Record
   pub next : ℕ
   pub window : Window
+  pub iv : ℕ
+  pub ask : ℕ
+  pub asked : List KeptMessage
+  pub answered : ResponseWindow
 
 -- the peer's counter of an association
 abbrev pub peer_counter : Record → Counter → CounterName
@@ -51,6 +60,10 @@ entered_slot size sa = record {
   sa = sa;
   next = sa.starts.esp_in;
   window = window_of size sa.starts.esp_out [];
+  iv = sa.starts.iv;
+  ask = sa.starts.answer;
+  asked = [];
+  answered = no_responses sa.starts.ask;
 }
 
 abbrev pub slot_outbound : Slot → Outbound
@@ -71,11 +84,15 @@ abbrev pub records : List Slot → List Record
 records slots = map (λ slot. slot.sa) slots
 
 -- the ESP number under which the peer sent in the association
-abbrev pub sent : ℕ → Event → Verdict → Option ℕ
-sent spir event verdict = used_in spir counter.EspOut (peer_task event) verdict
+abbrev pub sent : ℕ → Event → Step → Option ℕ
+sent spir event step = used_in end.Peer spir counter.EspOut (peer_task event) step
 
 abbrev pub sent_of : ℕ → Turn → Option ℕ
-sent_of spir turn = sent spir turn.event turn.step.verdict
+sent_of spir turn = sent spir turn.event turn.step
+
+-- the number of a counter that the peer used in the association
+abbrev pub spent_of : ℕ → Counter → Turn → Option ℕ
+spent_of spir c turn = used_in end.Peer spir c (peer_task turn.event) turn.step
 
 abbrev pub is_entered : ℕ → Option Record → Bool
 is_entered spir None = false
@@ -89,12 +106,17 @@ since_entered spir (turn ∷ past) = if is_entered spir (entered_in turn) then [
 
 -- What the peer's own turns say that it holds of an association: its next number is one more than
 -- each under which it sent since the association came, and no less than the start, and the numbers
--- are noted that were accepted since then.
+-- are noted that were accepted since then; so it is of IVs, and of requests.
 abbrev pub slot_by : ℕ → List Turn → Record → Slot
 slot_by size past sa = let mine = since_entered sa.spir past in record {
   sa = sa;
   next = greatest sa.starts.esp_in (map (λ n. n + 1) (filter_map (sent_of sa.spir) mine));
   window = window_of size sa.starts.esp_out (filter_map (received_of sa.spir) mine);
+  iv = greatest sa.starts.iv (map (λ n. n + 1) (filter_map (spent_of sa.spir counter.Iv) mine));
+  ask = greatest sa.starts.answer
+      (map (λ n. n + 1) (filter_map (spent_of sa.spir counter.Ask) mine));
+  asked = outstanding_of peer_task sa.spir mine;
+  answered = window_of_responses sa.starts.ask (filter_map (turn_response peer_task sa.spir) mine);
 }
 
 -- the peer's associations, in the order in which they came, with receive windows of this size
@@ -117,8 +139,13 @@ first_slot test (slot ∷ slots) = if test slot then Some slot else first_slot t
 abbrev pub slot_after : Task → Step → Slot → Slot
 slot_after asked step slot = record {
   sa = slot.sa;
-  next = after_number (used_in slot.sa.spir counter.EspOut asked step.verdict) slot.next;
+  next = after_number (used_in end.Peer slot.sa.spir counter.EspOut asked step) slot.next;
   window = after_received (received_in slot.sa.spir asked step.verdict) slot.window;
+  iv = after_number (used_in end.Peer slot.sa.spir counter.Iv asked step) slot.iv;
+  ask = after_number (used_in end.Peer slot.sa.spir counter.Ask asked step) slot.ask;
+  asked = outstanding_after (request_in slot.sa.spir asked step)
+      (replied_in slot.sa.spir asked step.verdict) slot.asked;
+  answered = answered_after (response_in slot.sa.spir asked step) slot.answered;
 }
 
 -- and what it holds of all of them

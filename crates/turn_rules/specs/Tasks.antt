@@ -12,6 +12,8 @@ pub data Task : Type 0 where
   TakeOver : (spir : ℕ) → Task
   Draw : (spir : ℕ) → Task
   Send : (spir : ℕ) → (payload : List ℕ) → Task
+  Ask : (spir : ℕ) → (request : List ℕ) → Task
+  Again : (spir id : ℕ) → Task
   Receive : Task
 
 -- whoever a delivery comes to receives it
@@ -24,10 +26,14 @@ abbrev pub member_task : Event → Task
 member_task (event.Own member spir) = TakeOver spir
 member_task (event.Draw member spir) = Draw spir
 member_task (event.Send (parties.Member member) spir payload) = Send spir payload.octets
+member_task (event.Ask (parties.Member member) spir request) = Ask spir request.octets
+member_task (event.Again (parties.Member member) spir id) = Again spir id
 member_task event = receipt (delivery_of event)
 
 -- and what the peer is asked
 abbrev pub peer_task : Event → Task
 peer_task (event.Import sa) = Enter sa
 peer_task (event.Send parties.Peer spir payload) = Send spir payload.octets
+peer_task (event.Ask parties.Peer spir request) = Ask spir request.octets
+peer_task (event.Again parties.Peer spir id) = Again spir id
 peer_task event = receipt (delivery_of event)

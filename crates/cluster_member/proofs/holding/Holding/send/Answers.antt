@@ -21,6 +21,9 @@ module _ (g : _) (c : goal.After-send g) where
     nexts = record { esp_out = reach.next; esp_in = c.self.inside.esp_in.next; iv = c.self.inside.iv.next; ask = c.self.inside.ask.next; answer = c.self.inside.answer.next };
     highs = record { esp_out = reach.high; esp_in = c.self.inside.esp_in.high; iv = c.self.inside.iv.high; ask = c.self.inside.ask.high; answer = c.self.inside.answer.high };
     window = c.self.inside.inbound.window;
+    asked = c.self.inside.ike.asked;
+    answered = c.self.inside.ike.answered;
+    synced = c.self.inside.ike.synced;
   }
 
   reach : c.self.inside.esp_out ≡ reach_of (holding_of c.self.inside.esp_out) counter.EspOut

@@ -58,7 +58,7 @@ returns-in-None g c =
         calls = [];
         follows = (
           subst (λ x. DrawsOf x [] c.not_owner.result) (sym none) (record { no_calls = refl; says = c.not_owner.ensures }),
-          refused-holds (task.Draw c.args.spir) c.not_owner.result refusal.NotOwner c.args.self.now.held c.not_owner.ensures.said,
+          refused-holds (task.Draw c.args.spir) c.not_owner.result refusal.NotOwner c.args.self.now.held c.not_owner.ensures,
         );
         asked = asks_none c.args.keeper.now;
         held = refl;

@@ -20,7 +20,7 @@ returns-in-None-clause-receives g c = record {
   calls = [];
   follows = (
     record { short = λ l. (refl, record { said = refl; same = refl }); long = λ l. absurd (omega (arith, l, c.in-None.ensures)) },
-    λ step worded. dropped-holds step drop.Short c.args.bytes.now c.args.self.now.held worded,
+    λ step worded quiet. dropped-holds step drop.Short c.args.bytes.now c.args.self.now.held worded quiet,
   );
   asked = asks_none c.args.keeper.now;
   held = refl;

@@ -50,9 +50,9 @@ returns-in-Some-clause-receives g c =
           is_receiver = receiver;
           receives = record { opened = it.follows.opened; opens = it.follows.opens; takes = notes-rule holding new it.calls c.receive.result it.follows.opened it.follows.notes };
         }),
-        λ step worded size. placed size task.Receive it.calls step holding.sa.spir holding new c.args.self.now.held (set items c.in-Some.place new) refl receiver.is_held
+        λ step worded quiet size. placed size task.Receive it.calls step holding.sa.spir holding new c.args.self.now.held (set items c.in-Some.place new) refl receiver.is_held
             (put_at holding.sa.spir c.in-Some.place items new same place) others
-            (notes-advances holding new it.calls c.receive.result c.receive.new.bytes step worded it.follows.opened it.follows.notes),
+            (notes-advances holding new it.calls c.receive.result c.receive.new.bytes step worded quiet it.follows.opened it.follows.notes),
       );
       asked = it.asked;
       held = it.held;
@@ -70,7 +70,7 @@ returns-in-None-clause-receives g c =
           nowhere (spi_of c.args.bytes.now) c.args.self.now.held (subst (λ spi. NoneReceives spi c.args.self.now.held) c.requires.spi (subst (NoneReceives c.args.spi) old none)),
           (refl, record { said = refl; same = refl }),
         ),
-        λ step worded. dropped-holds step drop.WrongSpi c.args.bytes.now c.args.self.now.held worded,
+        λ step worded quiet. dropped-holds step drop.WrongSpi c.args.bytes.now c.args.self.now.held worded quiet,
       );
       asked = asks_none c.args.keeper.now;
       held = refl;

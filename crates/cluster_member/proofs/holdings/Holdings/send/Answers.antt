@@ -58,7 +58,7 @@ returns-in-None g c =
         calls = [];
         follows = (
           subst (λ x. SendsOf x c.args.payload.now [] c.not_owner.result) (sym none) (record { no_calls = refl; says = c.not_owner.ensures }),
-          refused-holds (task.Send c.args.spir c.args.payload.now) c.not_owner.result refusal.NotOwner c.args.self.now.held c.not_owner.ensures.said,
+          refused-holds (task.Send c.args.spir c.args.payload.now) c.not_owner.result refusal.NotOwner c.args.self.now.held c.not_owner.ensures,
         );
         asked = asks_none c.args.keeper.now;
         held = refl;

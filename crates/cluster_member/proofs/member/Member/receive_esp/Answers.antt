@@ -19,11 +19,11 @@ returns-clause-receives g c =
       follows = (
         from,
         genuine_accepted c.sealed_packets_open.ensures c.args.self.now.held c.args.bytes.now it.calls c.receive.result c.receive.new.bytes from,
-        λ step worded. record {
+        λ step worded quiet. record {
           number = ap (λ (v : Holder). v.number) c.self.view_is;
           config = ap (λ (v : Holder). v.config) c.self.view_is;
           fresh = ap (λ (v : Holder). v.fresh) c.self.view_is;
-          holds = on step worded c.args.self.now.config.window;
+          holds = on step worded quiet c.args.self.now.config.window;
         },
       );
       asked = it.asked;

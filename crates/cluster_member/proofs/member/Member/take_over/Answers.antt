@@ -29,7 +29,7 @@ returns-in-Ok-clause-takes g c =
     let put : held_at now taken.sa.spir ≡ Some (held_begun size taken) = subst (λ (h : Held). held_at now h.sa.spir ≡ Some h) begins c.put.ensures.put in
     let others : KeepsOthers taken.sa.spir c.reserve.new.self.held now = subst (λ (h : Held). KeepsOthers h.sa.spir c.reserve.new.self.held now) begins c.put.ensures.others in
     let old : c.reserve.new.self.held ≡ c.args.self.now.held = c.in_ok-reserve.ensures.held ∙ ap (λ (v : Holder). v.held) c.self.view_is in
-    let holds : HoldsAfter size (task.TakeOver spir) (call ∷ []) step c.reserve.new.self.held now = took size spir c.args.self.now.number call step asked taken c.reserve.new.self.held now sees its put others in
+    let holds : HoldsAfter size (task.TakeOver spir) (call ∷ []) step c.reserve.new.self.held now = took size spir c.args.self.now.number call step asked c.quiet.ensures.seals taken c.reserve.new.self.held now sees its put others in
     record {
       calls = call ∷ [];
       follows = (

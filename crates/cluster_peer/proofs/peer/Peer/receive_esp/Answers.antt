@@ -16,8 +16,8 @@ returns-clause-genuine c =
     genuine_accepted c.sealed_packets_open.ensures c.args.self.now.held.slots c.args.bytes.now c.receive.result c.receive.new.bytes received
 
 pub returns-clause-after : goal.returns-clause-after
-returns-clause-after c = λ step worded. record {
+returns-clause-after c = λ step worded quiet. record {
   window = ap (λ (v : PeerWithRoom). v.window) c.self.view_is;
-  holds = λ now. held-after task.Receive step c.self.inside.gateway c.self.inside.slots.slots c.receive.new.self.slots (c.receive.ensures.after step worded)
+  holds = λ now. held-after task.Receive step c.self.inside.gateway c.self.inside.slots.slots c.receive.new.self.slots (c.receive.ensures.after step worded quiet)
       ∙ ap (λ (v : PeerWithRoom). peer_after v.window now task.Receive step v.held) c.self.view_is;
 }

@@ -32,7 +32,8 @@ returns-in-Some-clause-after c =
 
 pub returns-in-None-clause-after : goal.returns-in-None-clause-after
 returns-in-None-clause-after c = kept_all (slot_after (task.Send c.args.spir c.args.payload.now) c.quiet.result) c.args.self.now.slots
-    (refused-kept (task.Send c.args.spir c.args.payload.now) c.quiet.result refusal.Unknown c.quiet.ensures.verdict)
+    (refused-kept (task.Send c.args.spir c.args.payload.now) c.quiet.result refusal.Unknown
+    (record { said = c.quiet.ensures.verdict; quiet = record { served = c.quiet.ensures.served; seals = c.quiet.ensures.seals; gives = c.quiet.ensures.gives } }))
 
 pub invariant_of-self : goal.invariant_of-self
 invariant_of-self c =

@@ -1,10 +1,13 @@
 -- Each event is played as its kind says.
 use Rattle.std.proofs.Common.{[], refl, subst, sym}
 use Rattle.ha_base.specs.declared.outside.Moment.{Moment}
-use Rattle.keeper_book.proofs.Asking.{asks_none}
+use Rattle.events.specs.declared.event.Event.TheVariants as event
+use Rattle.events.specs.declared.verdict.Refusal.TheVariants as refusal
+use Rattle.keeper_book.proofs.Asking.{asks_for_none, asks_none}
 use Rattle.turn_rules.specs.Configurations.{Configuration}
 use Rattle.turn_rules.specs.Datagrams.{datagrams_of}
 use Rattle.run_ends.specs.Parties.{Configures, Plays}
+use Rattle.run_ends.proofs.Acting.{refused-plays}
 use Rattle.run_ends.proofs.Bounds.{arrives-short}
 use Rattle.run_ends.proofs.Plays.{asked-as, if_ok-as}
 use Rattle.run_ends.proofs.parties.Parties.play.Goals as goal
@@ -41,6 +44,12 @@ returns-in-Crash-clause-plays g c = record {
 
 pub returns-in-Send-clause-plays : goal.returns-in-Send-clause-plays
 returns-in-Send-clause-plays g c = if_ok-as c.send.result (λ step. asked-as (λ calls it. rw c.in-Send.is (it c.args.now c.in-Send.payload (sym c.as_slice.ensures.value)))) c.send.ensures.sends
+
+pub returns-in-Ask-clause-plays : goal.returns-in-Ask-clause-plays
+returns-in-Ask-clause-plays g c = asks_for_none g.K.Keeper c.args.keeper.now (rw c.in-Ask.is (refused-plays c.args.trace.now.past c.args.self.now c.args.now (event.Ask _ _ _) refusal.NotBuilt c.refused.result _ c.requires.in_place refl c.refused.ensures refl))
+
+pub returns-in-Again-clause-plays : goal.returns-in-Again-clause-plays
+returns-in-Again-clause-plays g c = asks_for_none g.K.Keeper c.args.keeper.now (rw c.in-Again.is (refused-plays c.args.trace.now.past c.args.self.now c.args.now (event.Again _ _ _) refusal.NotBuilt c.refused-in-Again.result _ c.requires.in_place refl c.refused-in-Again.ensures refl))
 
 pub deliver-requires-clause-to : goal.deliver-requires-clause-to
 deliver-requires-clause-to g c = rw c.in-Deliver.is (_, refl)

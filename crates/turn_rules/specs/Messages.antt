@@ -1,0 +1,191 @@
+-- What an end does with IKE messages, by what it holds of their association (RFC 7296, sections
+-- 1.4, 2.1 to 2.3 and 2.21).
+use Rattle.std.specs.Prelude.{ℕ, ◌+◌, ◌≡◌, ◌≤◌, ◌⊎◌, MatchOption, nat_lt, unwrap_or, Option, Some, None, Result, Ok, Err, List, [], ◌∷◌, length, slice_get, if◌then◌else◌}
+use Rattle.std.specs.List.{filter_map}
+use Rattle.std.specs.Option.{option_map}
+use Rattle.events.specs.declared.turn.Datagram.{Datagram}
+use Rattle.events.specs.declared.turn.Medium.TheVariants.{Ike}
+use Rattle.events.specs.declared.turn.Served.{Served}
+use Rattle.events.specs.declared.turn.Step.{Step}
+use Rattle.events.specs.declared.ike_outcomes.IkeDrop.{IkeDrop}
+use Rattle.events.specs.declared.ike_outcomes.IkeDrop.TheVariants as drop
+use Rattle.events.specs.declared.ike_outcomes.Kept.TheVariants as kept
+use Rattle.events.specs.declared.ike_outcomes.Mark.TheVariants as mark
+use Rattle.events.specs.declared.verdict.Refusal.TheVariants as refusal
+use Rattle.events.specs.declared.verdict.Verdict.{Verdict}
+use Rattle.events.specs.declared.verdict.Verdict.TheVariants as out
+use Rattle.ha_base.specs.Octets.{WithRoom}
+use Rattle.ha_base.specs.declared.counter_names.CounterName.{CounterName}
+use Rattle.ha_base.specs.declared.counter_names.End.{End}
+use Rattle.ike_values.specs.declared.fault.Bad.{Bad}
+use Rattle.ike_sas.specs.Answers.{answer_payloads, data_of, error_of, notify_type_of, request_payloads}
+use Rattle.ike_sas.specs.Arrivals.{IsArrival, IsOrdinaryRequest}
+use Rattle.ike_sas.specs.Held.{IkeHeld, request_header, response_header}
+use Rattle.ike_sas.specs.Sending.{SendsIke}
+use Rattle.ike_sas.specs.declared.answers.RequestError.{RequestError}
+use Rattle.ike_sas.specs.declared.answers.TheConstants.{FIRST_STATUS, LONGEST_REPLY}
+use Rattle.ike_sas.specs.declared.arrival.Arrival.{Arrival}
+use Rattle.ike_sas.specs.declared.arrival.Arrival.TheVariants as arrival
+use Rattle.ike_sas.specs.declared.draft.SentMessage.{SentMessage}
+use Rattle.ike_sas.specs.declared.exchanges.TheConstants.{IKE_SESSION_RESUME}
+use Rattle.ike_values.specs.Notifications.{first_notify}
+use Rattle.ike_values.specs.Values.{PayloadValue, notify}
+use Rattle.ike_values.specs.declared.header.Header.{Header}
+use Rattle.ike_values.specs.declared.notify_types.TheConstants.{REPLY_DATA}
+use Rattle.keeper_book.specs.declared.calls.Call.{Call}
+use Rattle.ike_window.specs.Asking.{FitsBeside, IsLeast}
+use Rattle.ike_window.specs.Kept.{kept_octets, message_ids_of}
+use Rattle.ike_window.specs.declared.TheConstants.{WINDOW}
+use Rattle.sk_payload.specs.declared.open.Opened.{Opened}
+use Rattle.turn_rules.specs.Steps.{IsQuiet, Says}
+
+-- ---- what is sent
+
+-- a message was sealed under the next IV of an association, and given
+pub record SendsMessage (held : IkeHeld) (iv : ℕ) (header : Header) (payloads : List PayloadValue)
+    (step : Step) : Type 0 where
+  pub sent : SentMessage
+  pub sends : SendsIke held.keys.sending iv header payloads sent
+  pub seals : step.seals ≡ sent.seal ∷ []
+  pub gives : step.gives ≡ Some sent.datagram
+
+-- octets that were kept are given once more, and nothing is sealed
+pub record GivesAgain (verdict : Verdict) (octets : List ℕ) (step : Step) : Type 0 where
+  pub datagram : Datagram
+  pub said : step.verdict ≡ verdict
+  pub served : step.served ≡ None
+  pub seals : step.seals ≡ []
+  pub gives : step.gives ≡ Some datagram
+  pub medium : datagram.medium ≡ Ike
+  pub octets_are : datagram.octets.octets ≡ octets
+
+-- ---- requests of an end's own
+
+-- a request for these data was sent, under a Message ID and an IV
+pub record SendsRequest (held : IkeHeld) (id iv : ℕ) (request : List ℕ)
+    (step : Step) : Type 0 where
+  pub said : step.verdict ≡ out.Asked id
+  pub served : step.served ≡ None
+  pub sends : SendsMessage held iv (request_header held.keys id) (request_payloads request) step
+
+-- The window of requests has room for one of this Message ID, or it is refused for the least one
+-- that is outstanding.
+abbrev pub Windowed : IkeHeld → ℕ → (Refused : ℕ → Type 0) → Type 0 → Type 0
+Windowed held id Refused fits = (FitsBeside id held.asked × fits)
+    ⊎ ((least : ℕ) × IsLeast (message_ids_of held.asked) least × (least + WINDOW ≤ id)
+    × Refused least)
+
+-- an outstanding request is sent again with the same octets
+abbrev pub Resends : ℕ → IkeHeld → Step → Type 0
+Resends id held step = MatchOption (kept_octets id held.asked)
+    (Says (out.Refused (refusal.NotOutstanding id)) step)
+    (λ octets. GivesAgain (out.Resent id) octets step)
+
+-- ---- new requests
+
+-- the response to a request, with the reply of the service where it was executed
+abbrev pub Responds : IkeHeld → ℕ → Opened → List ℕ → Step → Type 0
+Responds held iv request reply step =
+    SendsMessage held iv (response_header held.keys request.header) (answer_payloads request reply)
+    step
+
+-- it was executed, and has the service's reply as its response
+pub record ExecutesRequest (name : CounterName) (held : IkeHeld) (iv : ℕ) (request : Opened)
+    (step : Step) : Type 0 where
+  pub executed : Served
+  pub said : step.verdict ≡ out.Executed name request.header.id mark.Plain
+  pub served : step.served ≡ Some executed
+  pub asked : executed.request.octets ≡ data_of request.inner
+  pub short : length executed.reply.octets ≤ LONGEST_REPLY
+  pub responds : Responds held iv request executed.reply.octets step
+
+-- it was answered with an error, and not executed
+pub record RefusesRequest (name : CounterName) (held : IkeHeld) (iv : ℕ) (request : Opened)
+    (error : RequestError) (step : Step) : Type 0 where
+  pub said : step.verdict ≡ out.Refusing name request.header.id (notify_type_of error)
+  pub served : step.served ≡ None
+  pub responds : Responds held iv request [] step
+
+-- a new request is answered under an IV; `name` is the counter of the requests that the end answers
+abbrev pub AnswersRequest : CounterName → IkeHeld → ℕ → Opened → Step → Type 0
+AnswersRequest name held iv request step = MatchOption (error_of request)
+    (ExecutesRequest name held iv request step)
+    (λ error. RefusesRequest name held iv request error step)
+
+-- ---- responses
+
+-- what is said of a response: the data of the reply, or none
+abbrev pub reply_in : List PayloadValue → List ℕ
+reply_in payloads = unwrap_or (first_notify REPLY_DATA payloads) []
+
+-- an error is told by a notification of a type below those of status (RFC 7296, section 3.10.1)
+abbrev pub error_type : PayloadValue → Option ℕ
+error_type (notify n) = if nat_lt n.kind FIRST_STATUS then Some n.kind else None
+error_type _ = None
+
+abbrev pub first_error : List PayloadValue → Option ℕ
+first_error payloads = slice_get (filter_map error_type payloads) 0
+
+-- the response to a request came; `name` is the counter of the requests that the end asks
+pub record TakesReply (name : CounterName) (id : ℕ) (payloads : List PayloadValue)
+    (step : Step) : Type 0 where
+  pub reply : WithRoom
+  pub octets : reply.octets ≡ reply_in payloads
+  pub says : Says (out.Reply name id reply kept.Plain (first_error payloads)) step
+
+abbrev pub TakesInner : CounterName → ℕ → Result (List PayloadValue) Bad → Step → Type 0
+TakesInner name id (Ok payloads) step = TakesReply name id payloads step
+TakesInner name id (Err bad) step = ⊥
+
+-- ---- what comes
+
+-- What an end is to IKE messages: what it holds under an initiator's and a responder's SPI, of that
+-- its part on IKE messages, the counter of the requests that it asks in it, and what it does with a
+-- new request.
+pub record Listener (X : Type 0) : Type 1 where
+  pub end : End
+  pub held_under : ℕ → ℕ → Option X
+  pub ike : X → IkeHeld
+  pub asks : X → CounterName
+  pub Answers : X → Opened → List Call → Step → Type 0
+
+-- what is held of the association of a message that was opened
+abbrev pub held_for : {X : Type 0} → Listener X → Opened → Option X
+held_for listener opened = listener.held_under opened.header.spii opened.header.spir
+
+abbrev pub DropsMessage : IkeDrop → List Call → Step → Type 0
+DropsMessage why calls step = (calls ≡ []) × Says (out.DroppedIke why) step
+
+-- what is done with a request or a response that is none of a synchronisation
+abbrev pub TakesOrdinary : {X : Type 0} → Listener X → Arrival → List Call → Step → Type 0
+TakesOrdinary listener (arrival.Dropped why) calls step = DropsMessage why calls step
+TakesOrdinary listener (arrival.Repeat id datagram) calls step =
+    (calls ≡ []) × GivesAgain (out.Repeated id) datagram.octets.octets step
+TakesOrdinary listener (arrival.New request) calls step = MatchOption (held_for listener request) ⊥
+    (λ held. listener.Answers held request calls step)
+TakesOrdinary listener (arrival.Response response) calls step = (calls ≡ [])
+    × MatchOption (held_for listener response) ⊥
+    (λ held. TakesInner (listener.asks held) response.header.id response.inner step)
+TakesOrdinary listener other calls step = ⊥
+
+-- Synchronisations and resumptions are not taken yet: a request to synchronise is one as any other,
+-- no response to one was asked for, and the exchange of resumptions is not known.
+abbrev pub TakesArrival : {X : Type 0} → Listener X → Arrival → List Call → Step → Type 0
+TakesArrival listener (arrival.Resumption message) calls step =
+    DropsMessage (drop.Exchange IKE_SESSION_RESUME) calls step
+TakesArrival listener (arrival.SyncResponse response) calls step =
+    DropsMessage drop.NotAsked calls step
+TakesArrival listener (arrival.Synchronisation request) calls step =
+    MatchOption (held_for listener request) ⊥ (λ held. (ordinary : Arrival)
+    × IsOrdinaryRequest (listener.ike held) request ordinary
+    × TakesOrdinary listener ordinary calls step)
+TakesArrival listener other calls step = TakesOrdinary listener other calls step
+
+-- what an end does with the octets of an IKE message
+pub record TakesMessage {X : Type 0} (listener : Listener X) (octets : List ℕ) (calls : List Call)
+    (step : Step) : Type 0 where
+  pub comes : Arrival
+  pub is : IsArrival
+      (λ spii spir. option_map listener.ike (listener.held_under spii spir)) listener.end octets
+      comes
+  pub takes : TakesArrival listener comes calls step
