@@ -127,6 +127,4 @@ pub enum Refusal {
     /// An SPI of the IKE header is below 2^48, one of ESP is below 65,536, or ESP numbers or IVs
     /// would start at 0.
     SpiRange,
-    /// The event is one that is not handled yet.
-    NotBuilt,
 }

@@ -1,5 +1,6 @@
 pub mod Answers
 pub mod Arrivals
 pub mod Drafts
+pub mod Errors
 pub mod Held
 pub mod Sending

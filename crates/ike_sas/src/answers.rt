@@ -15,10 +15,6 @@ use sk_payload::Opened;
 /// How many octets a service's reply has at most.
 pub const LONGEST_REPLY: usize = 256;
 
-/// The notify types of errors are below this, and those of status are not (RFC 7296, section
-/// 3.10.1).
-pub const FIRST_STATUS: u16 = 16384;
-
 /// How many octets of inner payloads an answer has at most: a notification with the longest reply.
 pub const ANSWER_OCTETS: usize = 8 + LONGEST_REPLY;
 

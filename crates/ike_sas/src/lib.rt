@@ -10,6 +10,7 @@
 mod answers;
 mod arrival;
 mod draft;
+mod errors;
 mod exchanges;
 mod keys;
 mod receiving;
@@ -18,11 +19,10 @@ mod responses;
 mod sa;
 mod synchronisation;
 
-pub use answers::{
-    ANSWER_OCTETS, FIRST_STATUS, LONGEST_REPLY, RequestError, data_of, error_of, execute,
-};
+pub use answers::{ANSWER_OCTETS, LONGEST_REPLY, RequestError, data_of, error_of, execute};
 pub use arrival::Arrival;
 pub use draft::{Draft, SentMessage};
+pub use errors::{FIRST_STATUS, first_error};
 pub use events::IkeDrop;
 pub use exchanges::{CREATE_CHILD_SA, IKE_AUTH, IKE_SESSION_RESUME, INFORMATIONAL};
 pub use keys::IkeKeys;

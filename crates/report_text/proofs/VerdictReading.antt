@@ -29,7 +29,6 @@ refusal_names =
     ∷ (codes "datagrams-full", refusals.DatagramsFull)
     ∷ (codes "late", refusals.Late)
     ∷ (codes "spi-range", refusals.SpiRange)
-    ∷ (codes "not-built", refusals.NotBuilt)
     ∷ []
 
 abbrev numbered_refusals : List (List ℕ × (ℕ → Refusal))
@@ -66,7 +65,6 @@ refusal_again refusals.DatagramsFull fits = refl
 refusal_again refusals.Late fits = refl
 refusal_again (refusals.NoRoom members) fits = rw (number_again members fits) refl
 refusal_again refusals.SpiRange fits = refl
-refusal_again refusals.NotBuilt fits = refl
 
 abbrev accepted_in : List (List ℕ) → Reading PlainVerdict
 accepted_in (n ∷ h ∷ p ∷ []) = do

@@ -5,6 +5,7 @@ use Rattle.std.specs.Str.{bytes_eq}
 use Rattle.keeper_book.specs.declared.counters.Counter.{Counter}
 use Rattle.keeper_book.specs.declared.counters.Counter.TheVariants as counters
 use Rattle.keeper_book.specs.declared.counters.Five.{Five}
+use Rattle.ha_base.specs.declared.limits.TheConstants.{ALLOCATION_END}
 use Rattle.events.specs.FieldWords.{five_words}
 use Rattle.line_fields.specs.Numbers.{number_in_word}
 use Rattle.line_fields.specs.Octets.{octets_text, sized, spi_in_word, spi_text}
@@ -43,10 +44,10 @@ pub spi_again : (n : ℕ) → IsReportNumber n → spi_in_word (spi_text n) ≡ 
 spi_again n fits = spi_field.again n fits
 
 abbrev pub octets_in : List ℕ → Reading (List ℕ)
-octets_in w = sized 0 (2 ^ 63) w
+octets_in w = sized 0 ALLOCATION_END w
 
 pub octets_again : (xs : List ℕ) → AreReportOctets xs → octets_in (octets_text xs) ≡ Ok xs
-octets_again xs fits = (sized_field 0 (2 ^ 63)).again xs fits
+octets_again xs fits = (sized_field 0 ALLOCATION_END).again xs fits
 
 abbrev pub five_in : List (List ℕ) → Reading Five
 five_in (a ∷ b ∷ c ∷ d ∷ e ∷ []) = do

@@ -1,6 +1,7 @@
 -- What the fields of a report's line may be.
 use Rattle.std.specs.Prelude.{ℕ, ◌^◌, ◌<◌, List, Option, Some, None}
 use Rattle.ha_base.specs.declared.counter_names.Derivation.{Derivation}
+use Rattle.ha_base.specs.declared.limits.TheConstants.{ALLOCATION_END}
 use Rattle.ike_values.specs.declared.fault.Reason.{Reason}
 use Rattle.ike_values.specs.declared.fault.Reason.TheVariants.{UnknownCritical}
 use Rattle.keeper_book.specs.declared.counters.Five.{Five}
@@ -23,7 +24,7 @@ IsReportNumber number = number < 2 ^ 64
 
 -- octets that a machine can hold
 abbrev pub AreReportOctets : List ℕ → Type 0
-AreReportOctets octets = IsOctetField 0 (2 ^ 63) octets
+AreReportOctets octets = IsOctetField 0 ALLOCATION_END octets
 
 pub record AreReportBases (five : Five) : Type 0 where
   pub esp_out : IsReportNumber five.esp_out

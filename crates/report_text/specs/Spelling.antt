@@ -113,7 +113,6 @@ refusal_words refusals.DatagramsFull = codes "datagrams-full" ∷ []
 refusal_words refusals.Late = codes "late" ∷ []
 refusal_words (refusals.NoRoom members) = codes "no-room" ∷ decimal members ∷ []
 refusal_words refusals.SpiRange = codes "spi-range" ∷ []
-refusal_words refusals.NotBuilt = codes "not-built" ∷ []
 
 -- what a response tells besides the reply
 abbrev pub mark_words : Mark → List (List ℕ)

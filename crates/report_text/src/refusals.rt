@@ -36,7 +36,6 @@ fn put_refusal(alloc: Global, out: &mut Octets, refusal: Refusal) -> Result<(), 
         Refusal::Late => put_word(out, b"late"),
         Refusal::NoRoom(members) => { put_named_number(alloc, out, b"no-room", u64::from(members)) }
         Refusal::SpiRange => put_word(out, b"spi-range"),
-        Refusal::NotBuilt => put_word(out, b"not-built"),
     }
 }
 

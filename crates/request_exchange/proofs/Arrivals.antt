@@ -41,7 +41,7 @@ by_window held_under judged.Repeat held opened answer is = rw is.1 is.2
 by_window held_under judged.Ahead held opened answer is = rw is tt
 by_window held_under judged.Old held opened answer is = rw is tt
 
-ordinary : (held_under : ℕ → ℕ → Option IkeHeld) (held : IkeHeld) (opened : Opened) (answer : Arrival) →
+pub ordinary : (held_under : ℕ → ℕ → Option IkeHeld) (held : IkeHeld) (opened : Opened) (answer : Arrival) →
     IsOrdinaryRequest held opened answer → IsFitting held_under answer
 ordinary held_under held opened answer is =
     by_bool (nat_lt opened.header.id held.answered.floor) (dropped held_under answer (drop.Old opened.header.id))
@@ -49,9 +49,9 @@ ordinary held_under held opened answer is =
     (dropped held_under answer (drop.NotSynced opened.header.id))) is
 
 request : (held_under : ℕ → ℕ → Option IkeHeld) (held : IkeHeld) (opened : Opened) (answer : Arrival) →
-    IsRequestArrival held opened answer → IsFitting held_under answer
-request held_under held opened answer is =
-    by_bool (is_initiator held.keys.end && is_synchronisation opened) (λ asks. rw asks tt)
+    held_under opened.header.spii opened.header.spir ≡ Some held → IsRequestArrival held opened answer → IsFitting held_under answer
+request held_under held opened answer found is =
+    by_bool (is_initiator held.keys.end && is_synchronisation opened) (λ asks. rw asks (rw found refl))
     (ordinary held_under held opened answer) is
 
 sync_response : (held_under : ℕ → ℕ → Option IkeHeld) (end : End) (opened : Opened) (answer : Arrival) →
@@ -78,7 +78,7 @@ at_association : (held_under : ℕ → ℕ → Option IkeHeld) (held : IkeHeld) 
 at_association held_under held octets message answer found (inl closed) = dropped held_under answer drop.NotOpened closed.1
 at_association held_under held octets message answer found (inr whole) =
     let here : held_under whole.0.header.spii whole.0.header.spir ≡ Some held = rw whole.2 found in
-    by_bool whole.0.header.response (response held_under held whole.0 answer here) (request held_under held whole.0 answer) whole.3
+    by_bool whole.0.header.response (response held_under held whole.0 answer here) (request held_under held whole.0 answer here) whole.3
 
 message_here : (held_under : ℕ → ℕ → Option IkeHeld) (end : End) (octets : List ℕ) (message : Message) (answer : Arrival) →
     IsMessageArrival held_under end octets message answer → IsFitting held_under answer

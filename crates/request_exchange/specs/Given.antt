@@ -15,8 +15,11 @@ pub record IsAwaited (held_under : ℕ → ℕ → Option IkeHeld) (response : O
   pub good : IsOk response.inner
   pub outstanding : IsSome (kept_octets response.header.id held.asked)
 
--- a response is awaited, and one that is repeated goes as an IKE message
+-- a response is awaited, one that is repeated goes as an IKE message, and a synchronisation is one of
+-- an association that is held
 abbrev pub IsFitting : (ℕ → ℕ → Option IkeHeld) → Arrival → Type 0
 IsFitting held_under (arrival.Response response) = IsAwaited held_under response
 IsFitting held_under (arrival.Repeat id datagram) = datagram.medium ≡ Ike
+IsFitting held_under (arrival.Synchronisation request) =
+    IsSome (held_under request.header.spii request.header.spir)
 IsFitting held_under other = Unit {0}

@@ -1,39 +1,14 @@
-ghost use Rattle.std.specs.Prelude.{◌≡◌, IfOk, OnErr, IsOk, map};
+ghost use Rattle.std.specs.Prelude.{◌≡◌, IfOk, OnErr, IsOk};
 ghost use Rattle.ike_sas.specs.Held.{without_asked};
-ghost use Rattle.ike_values.specs.PayloadView.{payload_value};
-ghost use Rattle.turn_rules.specs.Messages.{TakesInner, error_type, first_error, reply_in};
+ghost use Rattle.turn_rules.specs.Messages.{TakesInner, reply_in};
 
 use events::{Kept, Step, Verdict};
 use ha_base::{CounterName, Memory, Octets};
-use ike_sas::{FIRST_STATUS, IkeSa};
+use ike_sas::{IkeSa, first_error};
+use ike_values::Payloads;
 use ike_values::notify_types::REPLY_DATA;
-use ike_values::{Payload, Payloads};
 use sk_payload::Opened;
 use std::alloc::Global;
-
-/// The type of a notification of an error (RFC 7296, section 3.10.1).
-fn error_type(payload: &Payload) -> Option<u16>
-    ensures { result ≡ error_type (payload_value payload.now) }
-{
-    match payload {
-        Payload::Notify(notify) if notify.kind < FIRST_STATUS => Some(notify.kind),
-        _ => None,
-    }
-}
-
-/// The type of the first notification of an error.
-fn first_error(payloads: &[Payload]) -> Option<u16>
-    ensures { result ≡ first_error (map payload_value payloads.now) }
-{
-    let mut rest = payloads;
-    while let [payload, others @ ..] = rest {
-        if let Some(kind) = error_type(payload) {
-            return Some(kind);
-        }
-        rest = others;
-    }
-    None
-}
 
 /// A copy of the data of the reply, and of none where there is no reply.
 fn reply_in(alloc: Global, payloads: &Payloads) -> Result<Octets, Memory>

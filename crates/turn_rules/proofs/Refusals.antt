@@ -4,8 +4,6 @@ use Rattle.std.specs.Prelude.{nat_le, length}
 use Rattle.std.proofs.lemmas.Option.{same_Some}
 use Rattle.events.specs.declared.event.Event.{Event}
 use Rattle.events.specs.declared.event.Event.TheVariants as event
-use Rattle.events.specs.declared.turn.Medium.{Medium}
-use Rattle.events.specs.declared.turn.Medium.TheVariants as medium
 use Rattle.events.specs.declared.verdict.Refusal.{Refusal}
 use Rattle.events.specs.declared.verdict.Refusal.TheVariants as refusal
 use Rattle.horizons.specs.declared.stop.Stop.{Stop}
@@ -14,7 +12,7 @@ use Rattle.ha_base.specs.declared.limits.TheConstants.{MAX_DATAGRAMS}
 use Rattle.turn_rules.specs.Datagrams.{PlainDatagram, altered, changed, cut, datagram_at}
 use Rattle.turn_rules.specs.Draws.{refusal_of_stop}
 use Rattle.turn_rules.specs.Ends.{is_of_run}
-use Rattle.turn_rules.specs.Fits.{MAX_MEMBERS, has_joined, is_importable, is_of_datagrams, named_in, refused_absent, refused_arrival, refused_besides, refused_medium, refused_where, run_refusal}
+use Rattle.turn_rules.specs.Fits.{MAX_MEMBERS, has_joined, is_importable, is_of_datagrams, named_in, refused_absent, refused_arrival, refused_besides, refused_where, run_refusal}
 use Rattle.turn_rules.specs.States.{RunState}
 
 -- a stop is no refusal of the run's
@@ -50,13 +48,9 @@ changed-run (Some given) change why e = go (change given.octets) refl
     go None m = let is : changed (Some given) change ≡ Err refusal.NoOctet = rw m in ap err_run (sym e ∙ is)
     go (Some made) m = let is : changed (Some given) change ≡ Ok (record { medium = given.medium; octets = made }) = rw m in ap err_run (sym e ∙ is)
 
-medium-run : (m : Medium) → AreOfRun (refused_medium m)
-medium-run medium.Ike why e = subst (λ r. is_of_run r ≡ true) (same_Some refusal.NotBuilt why e) refl
-medium-run medium.Esp why e = absurd (cc)
-
 arrival-run : (found : Found) → ((why : Refusal) → found ≡ Err why → is_of_run why ≡ true) → AreOfRun (refused_arrival found)
 arrival-run (Err why) own is e = subst (λ r. is_of_run r ≡ true) (same_Some why is e) (own why refl)
-arrival-run (Ok datagram) own is e = medium-run datagram.medium is e
+arrival-run (Ok datagram) own is e = none-run is e
 
 absent-run : (state : RunState) (member : Option ℕ) (otherwise : Option Refusal) → AreOfRun otherwise → AreOfRun (refused_absent state member otherwise)
 absent-run state None otherwise others = others
@@ -71,9 +65,6 @@ besides-run state (event.Join fresh) = where-run (nat_le MAX_MEMBERS state.joine
 besides-run state (event.Deliver which to) = arrival-run (changed (datagram_at which state.datagrams) Some) (changed-run (datagram_at which state.datagrams) Some)
 besides-run state (event.Alter which to place octet) = arrival-run (changed (datagram_at which state.datagrams) (altered place octet)) (changed-run (datagram_at which state.datagrams) (altered place octet))
 besides-run state (event.Cut which to keep) = arrival-run (changed (datagram_at which state.datagrams) (cut keep)) (changed-run (datagram_at which state.datagrams) (cut keep))
-besides-run state (event.Inject to medium octets) = medium-run medium
-besides-run state (event.Ask from spir request) = medium-run medium.Ike
-besides-run state (event.Again from spir id) = medium-run medium.Ike
 besides-run state event = none-run
 
 -- the run refuses with refusals of its own

@@ -179,7 +179,7 @@ response-refused spir task.Receive why step said = ap (λ verdict. response_to (
 response-refused spir asked why step said = refl
 
 -- what is received uses no number that is counted up, unless something is sealed
-said-receiving : (spir : ℕ) (c : Counter) (verdict : Verdict) → said_in spir c task.Receive verdict ≡ None
+pub said-receiving : (spir : ℕ) (c : Counter) (verdict : Verdict) → said_in spir c task.Receive verdict ≡ None
 said-receiving spir counter.EspOut verdict = refl
 said-receiving spir counter.Ask verdict = refl
 said-receiving spir c verdict = refl

@@ -33,7 +33,6 @@ is_of_run refusal.DatagramsFull = true
 is_of_run refusal.Late = true
 is_of_run (refusal.NoRoom joined) = true
 is_of_run refusal.SpiRange = true
-is_of_run refusal.NotBuilt = true
 is_of_run why = false
 
 abbrev pub is_refused_by_run : Verdict → Bool

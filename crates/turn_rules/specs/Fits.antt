@@ -4,8 +4,6 @@ use Rattle.events.specs.declared.event.Event.{Event}
 use Rattle.events.specs.declared.event.Event.TheVariants as event
 use Rattle.events.specs.declared.event.Party.{Party}
 use Rattle.events.specs.declared.event.Party.TheVariants as parties
-use Rattle.events.specs.declared.turn.Medium.{Medium}
-use Rattle.events.specs.declared.turn.Medium.TheVariants as medium
 use Rattle.events.specs.declared.turn.Step.{Step}
 use Rattle.events.specs.declared.turn.Turn.{Turn}
 use Rattle.events.specs.declared.verdict.Refusal.{Refusal}
@@ -17,10 +15,12 @@ use Rattle.ha_base.specs.declared.limits.TheConstants.{LEAST_ESP_SPI, LEAST_SPI,
 use Rattle.keeper_book.specs.declared.calls.Call.{Call}
 use Rattle.keeper_book.specs.declared.records.Record.{Record}
 use Rattle.turn_rules.specs.Datagrams.{Delivery, PlainDatagram, delivery_of}
-use Rattle.turn_rules.specs.Deliveries.{MemberTakes, PeerTakes}
+use Rattle.turn_rules.specs.Deliveries.{MemberGets, PeerGets}
 use Rattle.turn_rules.specs.Draws.{Draws, EntersRecord, TakesOver}
 use Rattle.turn_rules.specs.Held.{Held}
+use Rattle.turn_rules.specs.MemberMessages.{AsksOf, ResendsOf}
 use Rattle.turn_rules.specs.MemberPackets.{SendsData}
+use Rattle.turn_rules.specs.PeerMessages.{PeerAsks, PeerResends}
 use Rattle.turn_rules.specs.Peers.{admits}
 use Rattle.turn_rules.specs.States.{RunState, state_by}
 use Rattle.turn_rules.specs.Slots.{PeerSends, records}
@@ -64,6 +64,8 @@ has_joined member state = nat_lt 0 member && nat_le member state.joined
 -- an event that may give a datagram, or brings one that was given
 abbrev pub is_of_datagrams : Event → Bool
 is_of_datagrams (event.Send from spir payload) = true
+is_of_datagrams (event.Ask from spir request) = true
+is_of_datagrams (event.Again from spir id) = true
 is_of_datagrams event = is_some (delivery_of event)
 
 abbrev pub member_of : Party → Option ℕ
@@ -80,6 +82,8 @@ named_in (event.Own member spir) = Some member
 named_in (event.Draw member spir) = Some member
 named_in (event.Crash member) = Some member
 named_in (event.Send from spir payload) = member_of from
+named_in (event.Ask from spir request) = member_of from
+named_in (event.Again from spir id) = member_of from
 named_in event = member_reached (delivery_of event)
 
 -- this refusal where the test holds, and else another one or none
@@ -94,15 +98,10 @@ refused_absent state (Some member) otherwise =
     refused_where (not (has_joined member state)) refusal.NoMember
     (refused_where (state.ended member) refusal.Down otherwise)
 
--- no end receives an IKE message yet
-abbrev pub refused_medium : Medium → Option Refusal
-refused_medium medium.Ike = Some refusal.NotBuilt
-refused_medium medium.Esp = None
-
--- nothing arrives, or what no end receives
+-- nothing arrives
 abbrev pub refused_arrival : Result PlainDatagram Refusal → Option Refusal
 refused_arrival (Err why) = Some why
-refused_arrival (Ok datagram) = refused_medium datagram.medium
+refused_arrival (Ok datagram) = None
 
 abbrev pub refused_delivery : RunState → Option Delivery → Option Refusal
 refused_delivery state None = None
@@ -118,8 +117,6 @@ refused_besides state (event.Import sa) = refused_where
 refused_besides state (event.Join fresh) =
     refused_where (nat_le MAX_MEMBERS state.joined || nat_le state.boxes state.joined)
     (refusal.NoRoom state.joined) None
-refused_besides state (event.Ask from spir request) = Some refusal.NotBuilt
-refused_besides state (event.Again from spir id) = Some refusal.NotBuilt
 refused_besides state event = refused_delivery state (delivery_of event)
 
 -- why the run itself refuses an event, before any end sees it
@@ -150,9 +147,9 @@ abbrev pub Receives : RunState → Moment → Party → Result PlainDatagram Ref
     → Type 0
 Receives state now to (Err why) calls step = ⊥
 Receives state now parties.Peer (Ok datagram) calls step =
-    PeerTakes state.peer.slots datagram.octets calls step
+    PeerGets datagram.medium state.peer.slots datagram.octets calls step
 Receives state now (parties.Member member) (Ok datagram) calls step =
-    MemberTakes (state.members member).held datagram.octets calls step
+    MemberGets datagram.medium (state.members member).held datagram.octets calls step
 
 abbrev pub Delivers : RunState → Moment → Option Delivery → List Call → Step → Type 0
 Delivers state now None calls step = ⊥
@@ -173,6 +170,14 @@ Performs state now (event.Send parties.Peer spir payload) calls step =
     (calls ≡ []) × PeerSends spir state.peer.slots payload.octets step
 Performs state now (event.Send (parties.Member member) spir payload) calls step =
     SendsOf ((state.members member).held spir) payload.octets calls step
+Performs state now (event.Ask parties.Peer spir request) calls step =
+    (calls ≡ []) × PeerAsks spir state.peer.slots request.octets step
+Performs state now (event.Ask (parties.Member member) spir request) calls step =
+    AsksOf ((state.members member).held spir) request.octets calls step
+Performs state now (event.Again parties.Peer spir id) calls step =
+    (calls ≡ []) × PeerResends spir state.peer.slots id step
+Performs state now (event.Again (parties.Member member) spir id) calls step =
+    ResendsOf ((state.members member).held spir) id calls step
 Performs state now event calls step = Delivers state now (delivery_of event) calls step
 
 -- the calls of an event and what is done: the run refuses it, or its end performs it

@@ -1,7 +1,6 @@
 -- What an end does with IKE messages, by what it holds of their association (RFC 7296, sections
 -- 1.4, 2.1 to 2.3 and 2.21).
-use Rattle.std.specs.Prelude.{ℕ, ◌+◌, ◌≡◌, ◌≤◌, ◌⊎◌, MatchOption, nat_lt, unwrap_or, Option, Some, None, Result, Ok, Err, List, [], ◌∷◌, length, slice_get, if◌then◌else◌}
-use Rattle.std.specs.List.{filter_map}
+use Rattle.std.specs.Prelude.{ℕ, ◌+◌, ◌≡◌, ◌≤◌, ◌⊎◌, MatchOption, unwrap_or, Option, Some, None, Result, Ok, Err, List, [], ◌∷◌, length}
 use Rattle.std.specs.Option.{option_map}
 use Rattle.events.specs.declared.turn.Datagram.{Datagram}
 use Rattle.events.specs.declared.turn.Medium.TheVariants.{Ike}
@@ -20,16 +19,17 @@ use Rattle.ha_base.specs.declared.counter_names.End.{End}
 use Rattle.ike_values.specs.declared.fault.Bad.{Bad}
 use Rattle.ike_sas.specs.Answers.{answer_payloads, data_of, error_of, notify_type_of, request_payloads}
 use Rattle.ike_sas.specs.Arrivals.{IsArrival, IsOrdinaryRequest}
+use Rattle.ike_sas.specs.Errors.{first_error}
 use Rattle.ike_sas.specs.Held.{IkeHeld, request_header, response_header}
 use Rattle.ike_sas.specs.Sending.{SendsIke}
 use Rattle.ike_sas.specs.declared.answers.RequestError.{RequestError}
-use Rattle.ike_sas.specs.declared.answers.TheConstants.{FIRST_STATUS, LONGEST_REPLY}
+use Rattle.ike_sas.specs.declared.answers.TheConstants.{LONGEST_REPLY}
 use Rattle.ike_sas.specs.declared.arrival.Arrival.{Arrival}
 use Rattle.ike_sas.specs.declared.arrival.Arrival.TheVariants as arrival
 use Rattle.ike_sas.specs.declared.draft.SentMessage.{SentMessage}
 use Rattle.ike_sas.specs.declared.exchanges.TheConstants.{IKE_SESSION_RESUME}
 use Rattle.ike_values.specs.Notifications.{first_notify}
-use Rattle.ike_values.specs.Values.{PayloadValue, notify}
+use Rattle.ike_values.specs.Values.{PayloadValue}
 use Rattle.ike_values.specs.declared.header.Header.{Header}
 use Rattle.ike_values.specs.declared.notify_types.TheConstants.{REPLY_DATA}
 use Rattle.keeper_book.specs.declared.calls.Call.{Call}
@@ -117,14 +117,6 @@ AnswersRequest name held iv request step = MatchOption (error_of request)
 -- what is said of a response: the data of the reply, or none
 abbrev pub reply_in : List PayloadValue → List ℕ
 reply_in payloads = unwrap_or (first_notify REPLY_DATA payloads) []
-
--- an error is told by a notification of a type below those of status (RFC 7296, section 3.10.1)
-abbrev pub error_type : PayloadValue → Option ℕ
-error_type (notify n) = if nat_lt n.kind FIRST_STATUS then Some n.kind else None
-error_type _ = None
-
-abbrev pub first_error : List PayloadValue → Option ℕ
-first_error payloads = slice_get (filter_map error_type payloads) 0
 
 -- the response to a request came; `name` is the counter of the requests that the end asks
 pub record TakesReply (name : CounterName) (id : ℕ) (payloads : List PayloadValue)

@@ -46,9 +46,19 @@ accepted_as verdict = None
 abbrev pub accepted_in : Turn → Option Packet
 accepted_in turn = accepted_as turn.step.verdict
 
--- the request that an event took; none of the events that are handled takes one
+-- a request under this Message ID, by the answering end's counter of the requests that it answers
+abbrev pub request_taken : CounterName → ℕ → Request
+request_taken name id = record { origin = name.origin; end = name.end; id = id }
+
+-- The request that was taken, where one was: one that a service executed, or that was answered with
+-- an error. Either takes its Message ID (RFC 7296, section 2.3).
+abbrev pub taken_as : Verdict → Option Request
+taken_as (out.Executed name id mark) = Some (request_taken name id)
+taken_as (out.Refusing name id notify) = Some (request_taken name id)
+taken_as verdict = None
+
 abbrev pub taken_in : Turn → Option Request
-taken_in turn = None
+taken_in turn = taken_as turn.step.verdict
 
 -- a service executes only in a turn that takes a request
 abbrev pub TakesWhereServed : Turn → Type 0

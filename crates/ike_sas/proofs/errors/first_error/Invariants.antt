@@ -1,8 +1,8 @@
 -- What is left has the same first error.
 use Rattle.std.proofs.Common.{◌≡◌, map, length}
+use Rattle.ike_sas.proofs.errors.first_error.Given as goal
+use Rattle.ike_sas.specs.Errors.{first_error}
 use Rattle.ike_values.specs.PayloadView.{payload_value}
-use Rattle.turn_rules.specs.Messages.{first_error}
-use Rattle.request_exchange.proofs.replies.first_error.Given as goal
 
 abbrev pub invariant-loop-rest : goal.invariant-loop-rest
 invariant-loop-rest l = first_error (map payload_value l.rest) ≡ first_error (map payload_value l.fn.payloads)
