@@ -1,5 +1,8 @@
+mod Arriving
 mod GenuineLaws
 pub mod KeySizes
+mod MessageLaws
+mod MessageMoves
 mod Moves
 mod SlotLaws
 mod SlotLemmas

@@ -64,7 +64,7 @@ module _ (f : Slot → Slot) where
   kept_others sa (s ∷ ss) kept differ = ap₂ (λ slot slots. slot ∷ slots) (kept s differ.0) (kept_others sa ss kept differ.1)
 
   -- one slot becomes another, and the change leaves the others
-  put : (place : ℕ) (slots : List Slot) (slot now : Slot) → place < length slots → slot ≡ get_or slots place slot → AreDistinct (records slots) → now ≡ f slot
+  pub put : (place : ℕ) (slots : List Slot) (slot now : Slot) → place < length slots → slot ≡ get_or slots place slot → AreDistinct (records slots) → now ≡ f slot
       → ((other : Slot) → Differ slot.sa other.sa → other ≡ f other) → set slots place now ≡ map f slots
   put place [] slot now within is apart now_is kept = absurd (omega arith)
   put zero (x ∷ xs) slot now within is apart now_is kept =

@@ -1,3 +1,4 @@
 pub mod Associations
 pub mod Genuine
+pub mod Messages
 pub mod Slots

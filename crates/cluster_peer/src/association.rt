@@ -1,20 +1,31 @@
-ghost use Rattle.std.specs.Prelude.{◌≡◌, ◌+◌, ◌<◌, ◌≤◌, ◌⊎◌, length};
+ghost use Rattle.std.specs.Prelude.{◌≡◌, ◌+◌, ◌<◌, ◌≤◌, [], IfOk, IsOk, OnErr, length};
 ghost use Rattle.replay_set.specs.Window.{IsWindowSize};
 ghost use Rattle.keeper_book.specs.CounterEnds.{end_of};
 ghost use Rattle.keeper_book.specs.declared.counters.Counter.TheVariants as counter;
 ghost use Rattle.turn_rules.specs.Packets.{LiesWithin};
 ghost use Rattle.turn_rules.specs.Peers.{clashes};
-ghost use Rattle.turn_rules.specs.Slots.{SlotReceives, SlotSends, entered_slot};
+ghost use Rattle.turn_rules.specs.Messages.{Resends, TakesInner};
+ghost use Rattle.turn_rules.specs.PeerMessages.{SlotAnswers, SlotAsks, SlotSendsRequest, has_spis, slot_ike};
+ghost use Rattle.turn_rules.specs.Services.{Serves};
+ghost use Rattle.turn_rules.specs.Slots.{SlotReceives, SlotSends, entered_slot, peer_counter, slot_after};
+ghost use Rattle.turn_rules.specs.Tasks as task;
+ghost use Rattle.ike_window.specs.Asking.{FitsBeside};
+ghost use Rattle.ike_window.specs.Requests.{IsNewRequest};
+ghost use Rattle.ike_window.specs.Windows.{IsAnswered};
 ghost use Rattle.cluster_peer.specs.Slots.{slot_noted};
 ghost use Rattle.ha_base.specs.declared.limits.TheConstants.{DATAGRAM_OCTETS, PAYLOAD_OCTETS};
+ghost use Rattle.ha_base.specs.declared.services.TheConstants.{MOST_REQUESTS};
 
 use crate::names::{ike_keys, name_at};
 use esp_sas::{InboundSa, OutboundSa, Room};
 use events::{EspVerdict, Refusal, Step, Verdict};
-use ha_base::End;
+use ha_base::{End, Memory, Service};
 use ike_sas::IkeSa;
 use keeper_book::{Counter, Record};
+use request_exchange::{AnswerRoom, RequestRoom};
+use sk_payload::Opened;
 use spend_once::Lot;
+use std::alloc::Global;
 use std::marker::Model;
 
 /// An association of the peer: the ESP numbers and the IVs that it may still send, what it sends and
@@ -147,5 +158,98 @@ impl Association {
             }
             Err(why) => EspVerdict::Dropped(why),
         }
+    }
+
+    /// What is held of IKE messages.
+    pub fn ike(&self) -> &IkeSa
+        ensures { result.now ≡ slot_ike self.now }
+    {
+        &self.ike
+    }
+
+    /// The association has these SPIs, the initiator's and the responder's.
+    pub fn has_spis(&self, spii: u64, spir: u64) -> bool
+        ensures { result ≡ has_spis spii spir self.now }
+    {
+        self.sa.spii == spii && self.sa.spir == spir
+    }
+
+    /// Asks for the execution of a request (RFC 7296, sections 2.2 and 2.3). It is refused
+    /// `WindowFull` with the least Message ID that is outstanding where the window has no room, and
+    /// `Exhausted` where no Message ID or no IV is left. No memory is taken.
+    pub fn ask(&mut self, room: RequestRoom) -> Step
+        ensures asks { SlotAsks self.old room result }
+        ensures after { self.new ≡ slot_after (task.Ask self.old.sa.spir room) result self.old }
+        ensures sa { self.new.sa ≡ self.old.sa }
+    {
+        match self.ike.may_ask(self.ike.next()) {
+            Ok(()) => self.send_request(room),
+            Err(least) => Step::quiet(Verdict::Refused(Refusal::WindowFull(least))),
+        }
+    }
+
+    // Sends a request for which the window has room.
+    fn send_request(&mut self, room: RequestRoom) -> Step
+        requires fits { FitsBeside self.old.ask self.old.asked }
+        ensures sends { SlotSendsRequest self.old room result }
+        ensures after { self.new ≡ slot_after (task.Ask self.old.sa.spir room) result self.old }
+        ensures sa { self.new.sa ≡ self.old.sa }
+    {
+        let id = self.ike.next();
+        if u64::from(id) >= self.sa.end(Counter::Ask) {
+            return Step::quiet(Verdict::Refused(Refusal::Exhausted));
+        }
+        match self.ivs.draw() {
+            Some(iv) => request_exchange::ask(&mut self.ike, room, id, iv),
+            None => Step::quiet(Verdict::Refused(Refusal::Exhausted)),
+        }
+    }
+
+    /// Sends an outstanding request again, with the same octets (RFC 7296, section 2.1). An error
+    /// is want of memory.
+    pub fn again(&self, alloc: Global, id: u32) -> Result<Step, Memory>
+        ensures { IfOk result (Resends id (slot_ike self.now)) }
+    {
+        request_exchange::resend(alloc, &self.ike, id)
+    }
+
+    /// Answers a new request: the service executes it once, or it is refused with an error (RFC
+    /// 7296, sections 1.4 and 2.21). Where no IV is left for the response, it is refused
+    /// `Exhausted`, and nothing is executed or changed. No memory is taken.
+    pub fn answer(
+        &mut self,
+        room: AnswerRoom,
+        request: &Opened,
+        service: &mut Box<dyn Service>,
+    ) -> Step
+        requires new { IsNewRequest self.old.answered.low (IsAnswered self.old.answered)
+            request.now.header.id }
+        requires room { count service.old < MOST_REQUESTS }
+        ensures answers { SlotAnswers self.old request.now [] result }
+        ensures after { self.new ≡ slot_after task.Receive result self.old }
+        ensures sa { self.new.sa ≡ self.old.sa }
+        ensures serves { Serves count last gives service.old result.served service.new }
+    {
+        match self.ivs.draw() {
+            Some(iv) => {
+                let name = name_at(End::Peer, &self.sa, Counter::Answer);
+                request_exchange::answer(&mut self.ike, room, name, request, service, iv)
+            }
+            None => Step::quiet(Verdict::Refused(Refusal::Exhausted)),
+        }
+    }
+
+    /// The response to an outstanding request came, which ends by it (RFC 7296, section 2.1). An
+    /// error is want of memory, and the association is then as it was.
+    pub fn take_reply(&mut self, alloc: Global, response: &Opened) -> Result<Step, Memory>
+        requires good { IsOk response.now.inner }
+        ensures takes { IfOk result (TakesInner (peer_counter self.old.sa counter.Ask)
+            response.now.header.id response.now.inner) }
+        ensures after { IfOk result (λ step. self.new ≡ slot_after task.Receive step self.old) }
+        ensures sa { self.new.sa ≡ self.old.sa }
+        ensures err { OnErr result (self.new ≡ self.old) }
+    {
+        let name = name_at(End::Peer, &self.sa, Counter::Ask);
+        request_exchange::take_reply(alloc, &mut self.ike, name, response)
     }
 }

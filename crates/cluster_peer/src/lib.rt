@@ -2,6 +2,7 @@
 #![tactic(auto)]
 
 mod association;
+mod messages;
 mod names;
 mod peer;
 mod slots;

@@ -9,14 +9,19 @@ ghost use Rattle.turn_rules.specs.Slots.{PeerReceives, PeerSends, entered_slot, 
 ghost use Rattle.turn_rules.specs.Tasks as task;
 ghost use Rattle.cluster_peer.specs.Slots.{IsPeerAfter, IsPeerAfterPacket};
 ghost use Rattle.turn_rules.specs.Steps.{Says};
+ghost use Rattle.turn_rules.specs.Messages.{TakesMessage};
+ghost use Rattle.turn_rules.specs.PeerMessages.{PeerAsks, PeerResends, peer_listener};
+ghost use Rattle.turn_rules.specs.Services.{Serves};
 ghost use Rattle.ha_base.specs.declared.limits.TheConstants.{DATAGRAM_OCTETS, PAYLOAD_OCTETS};
+ghost use Rattle.ha_base.specs.declared.services.TheConstants.{LONGEST_REQUEST, MOST_REQUESTS};
 
 use crate::slots::Slots;
 use esp_packets::sealed_packets_open;
 use esp_sas::Room;
 use events::{EspVerdict, Refusal, Step, Verdict};
-use ha_base::{GatewayId, Memory};
+use ha_base::{GatewayId, Memory, Service};
 use keeper_book::Record;
+use request_exchange::RequestRoom;
 use std::alloc::Global;
 use std::marker::Model;
 
@@ -155,5 +160,53 @@ impl Peer {
     {
         sealed_packets_open();
         self.slots.receive(bytes)
+    }
+
+    /// Asks in an association for the execution of a request of at most 256 octets (RFC 7296,
+    /// sections 2.2 and 2.3). It is refused `Unknown` where there is no such association,
+    /// `WindowFull` where the window of requests has no room, and `Exhausted` where no Message ID
+    /// or no IV is left. An error is want of memory, and the peer is then as it was.
+    pub fn ask(&mut self, spir: u64, request: &[u8]) -> Result<Step, Memory>
+        requires { length request.now ≤ LONGEST_REQUEST }
+        ensures asks { IfOk result (λ step. PeerAsks spir self.old.held.slots request.now step) }
+        ensures after { IfOk result (λ step. IsPeerAfter
+            (task.Ask spir request.now) step self.old self.new) }
+        ensures err { OnErr result (self.new ≡ self.old) }
+    {
+        let room = RequestRoom::new(self.alloc, request)?;
+        Ok(self.slots.ask(spir, room))
+    }
+
+    /// Sends an outstanding request of an association again, with the same octets (RFC 7296,
+    /// section 2.1). It is refused `Unknown` where there is no such association, and
+    /// `NotOutstanding` where the request is not outstanding. An error is want of memory.
+    pub fn again(&self, spir: u64, id: u32) -> Result<Step, Memory>
+        ensures resends { IfOk result (λ step. PeerResends spir self.now.held.slots id step) }
+        ensures after { IfOk result (λ step. IsPeerAfter
+            (task.Again spir id) step self.now self.now) }
+    {
+        self.slots.again(self.alloc, spir, id)
+    }
+
+    /// Takes an IKE message that came (RFC 7296, sections 1.4, 2.1 to 2.3 and 2.21). A new request
+    /// is executed once by the service, or is refused with an error; it is refused `Exhausted`, and
+    /// neither executed nor answered, where no IV is left for the response. One that was answered
+    /// before has the same response once more; a response ends its request; every other message is
+    /// dropped. An error is want of memory; then nothing was executed, and the peer is as it was.
+    pub fn receive_ike(
+        &mut self,
+        service: &mut Box<dyn Service>,
+        bytes: &[u8],
+    ) -> Result<Step, Memory>
+        requires { count service.old < MOST_REQUESTS }
+        ensures takes { IfOk result
+            (TakesMessage (peer_listener self.old.held.slots) bytes.now []) }
+        ensures after { IfOk result (λ step. IsPeerAfter task.Receive step self.old self.new) }
+        ensures serves { IfOk result (λ step.
+            Serves count last gives service.old step.served service.new) }
+        ensures err { OnErr result (self.new ≡ self.old) }
+        ensures unserved { OnErr result (service.new ≡ service.old) }
+    {
+        self.slots.receive_ike(self.alloc, service, bytes)
     }
 }

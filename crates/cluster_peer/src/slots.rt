@@ -22,7 +22,7 @@ use std::marker::Model;
 /// The associations of the peer, in the order in which they came.
 #[derive(Drop)]
 pub struct Slots {
-    items: Vec<Association>,
+    pub(crate) items: Vec<Association>,
 }
 
 impl Model for Slots {
@@ -42,7 +42,7 @@ impl Model for Slots {
 }
 
 /// Where the association of a responder's SPI stands.
-fn place_of(items: &[Association], spir: u64) -> Option<usize>
+pub(crate) fn place_of(items: &[Association], spir: u64) -> Option<usize>
     ensures { MatchOption result (first_slot (has_spir spir) items.now ≡ None)
         (λ place. IsFirstSlot (has_spir spir) place items.now) }
 {

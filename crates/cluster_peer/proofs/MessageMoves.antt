@@ -1,0 +1,169 @@
+-- What a turn of IKE messages changes in an association of the peer.
+use Rattle.std.proofs.Common.{◌≡◌, ◌≢◌, ℕ, ◌+◌, ◌<◌, ◌==◌, max, ◌⊎◌, inl, inr, Bool, true, false, Option, Some, None, Result, Ok, Err, List, [], ◌∷◌, MatchOption, ⊎_elim, refl, ap, sym, ◌∙◌, subst, arith, if◌then◌else◌}
+use Rattle.std.proofs.lemmas.Bool.{cases_lt, eq-eqb, ne_eqb}
+use Rattle.events.specs.declared.ike_outcomes.IkeDrop.{IkeDrop}
+use Rattle.events.specs.declared.seals.Seal.{Seal}
+use Rattle.events.specs.declared.turn.Step.{Step}
+use Rattle.events.specs.declared.verdict.Refusal.TheVariants as refusal
+use Rattle.events.specs.declared.verdict.Verdict.{Verdict}
+use Rattle.events.specs.declared.verdict.Verdict.TheVariants as out
+use Rattle.events.specs.declared.ike_outcomes.Kept.TheVariants as kept
+use Rattle.ha_base.specs.declared.counter_names.CounterName.{CounterName}
+use Rattle.ha_base.specs.declared.counter_names.End.TheVariants as end
+use Rattle.ha_base.specs.declared.counter_names.Kind.TheVariants as kind
+use Rattle.ike_sas.specs.Answers.{error_of}
+use Rattle.ike_sas.specs.Errors.{first_error}
+use Rattle.ike_sas.specs.declared.answers.RequestError.{RequestError}
+use Rattle.ike_values.specs.Values.{PayloadValue}
+use Rattle.ike_values.specs.declared.fault.Bad.{Bad}
+use Rattle.ike_values.specs.declared.header.Header.{Header}
+use Rattle.ike_window.specs.Kept.{KeptMessage}
+use Rattle.keeper_book.specs.CounterEnds.{end_of}
+use Rattle.keeper_book.specs.declared.counters.Counter.TheVariants as counter
+use Rattle.keeper_book.specs.declared.records.Record.{Record}
+use Rattle.sk_payload.specs.declared.open.Opened.{Opened}
+use Rattle.turn_rules.specs.Held.{accepted, first_some, iv_in, said_in, used_in}
+use Rattle.turn_rules.specs.IkeState.{answered_after, is_of_spir, is_same_end, kept_under, number_under, replied_in, request_sent, response_to, sealed_iv, taken_id}
+use Rattle.turn_rules.specs.Messages.{AnswersRequest, ExecutesRequest, GivesAgain, RefusesRequest, SendsMessage, SendsRequest, TakesInner}
+use Rattle.turn_rules.specs.PeerMessages.{SlotAnswers, SlotAsks, SlotSendsRequest, slot_ike}
+use Rattle.turn_rules.specs.Slots.{Slot, peer_counter, slot_after}
+use Rattle.turn_rules.specs.Steps.{Says}
+use Rattle.turn_rules.specs.Tasks as task
+use Rattle.cluster_peer.proofs.Moves.{Made, Moves, moved-after, nothing, received-made, refused-made}
+
+alone : (x : Option ℕ) → first_some x None ≡ x
+alone None = refl
+alone (Some n) = refl
+
+-- a message was sealed in an association, and so in no other
+iv-sealed : (other iv : ℕ) (slot : Slot) (header : Header) (payloads : List PayloadValue) (step : Step) → SendsMessage (slot_ike slot) iv header payloads step
+    → used_in end.Peer other counter.Iv task.Receive step ≡ (if slot.sa.spir == other then Some iv else None)
+iv-sealed other iv slot header payloads step sends =
+    let seal : Seal = sends.sent.seal in
+    ap (iv_in end.Peer other) sends.seals
+    ∙ ap (λ (n : CounterName). first_some (sealed_iv end.Peer other seal n.kind) None) sends.sends.named
+    ∙ ap (λ (n : CounterName). first_some (if is_same_end end.Peer n.end then number_under other n seal.iv else None) None) sends.sends.named
+    ∙ ap (λ (x : Option ℕ). first_some (if is_of_spir other x then Some seal.iv else None) None) slot.sa.origin_is_own
+    ∙ alone (if slot.sa.spir == other then Some seal.iv else None)
+    ∙ ap (λ n. if slot.sa.spir == other then Some n else None) sends.sends.iv_is
+
+-- a new request was answered in an association: its response is kept there
+abbrev answered : Option ℕ → Option KeptMessage → Moves
+answered iv response = record { esp = None; received = None; iv = iv; ask = None; request = None; replied = None; response = response }
+
+module _ (other : ℕ) (slot : Slot) (request : Opened) (step : Step) where
+  abbrev its : {X : Type 0} → X → X → X
+  its x y = if slot.sa.spir == other then x else y
+
+  abbrev kept_response : Option KeptMessage
+  kept_response = response_to (if slot.sa.spir == other then Some request.header.id else None) step.gives
+
+  stored : (verdict : Verdict) → step.verdict ≡ verdict → taken_id other verdict ≡ number_under other (peer_counter slot.sa counter.Answer) request.header.id
+      → response_to (taken_id other step.verdict) step.gives ≡ kept_response
+  stored verdict said taken =
+      ap (λ v. response_to (taken_id other v) step.gives) said
+      ∙ ap (λ id. response_to id step.gives) taken
+      ∙ ap (λ (x : Option ℕ). response_to (if is_of_spir other x then Some request.header.id else None) step.gives) slot.sa.origin_is_own
+
+  pub answered-made : AnswersRequest (peer_counter slot.sa counter.Answer) (slot_ike slot) slot.iv request step
+      → Made task.Receive step other (answered (if slot.sa.spir == other then Some slot.iv else None) kept_response)
+  answered-made answers = go (error_of request) answers
+    where
+      go : (error : Option RequestError) → MatchOption error (ExecutesRequest (peer_counter slot.sa counter.Answer) (slot_ike slot) slot.iv request step)
+          (λ e. RefusesRequest (peer_counter slot.sa counter.Answer) (slot_ike slot) slot.iv request e step)
+          → Made task.Receive step other (answered (if slot.sa.spir == other then Some slot.iv else None) kept_response)
+      go None does = record {
+        esp = refl;
+        received = ap (accepted other) does.said;
+        iv = iv-sealed other slot.iv slot _ _ step does.responds;
+        ask = refl;
+        request = refl;
+        replied = ap (replied_in other task.Receive) does.said;
+        response = stored _ does.said refl;
+      }
+      go (Some error) does = record {
+        esp = refl;
+        received = ap (accepted other) does.said;
+        iv = iv-sealed other slot.iv slot _ _ step does.responds;
+        ask = refl;
+        request = refl;
+        replied = ap (replied_in other task.Receive) does.said;
+        response = stored _ does.said refl;
+      }
+
+-- in the association
+pub answered-own : (slot : Slot) (request : Opened) (step : Step) → AnswersRequest (peer_counter slot.sa counter.Answer) (slot_ike slot) slot.iv request step
+    → record slot { iv = slot.iv + 1; answered = answered_after (kept_under request.header.id step.gives) slot.answered } ≡ slot_after task.Receive step slot
+answered-own slot request step answers =
+    let same : (slot.sa.spir == slot.sa.spir) ≡ true = eq-eqb slot.sa.spir slot.sa.spir refl in
+    let more : slot.iv + 1 ≡ max (slot.iv + 1) slot.iv = omega arith in
+    (λ i. record slot { iv = more i; answered = answered_after (kept_under request.header.id step.gives) slot.answered })
+    ∙ moved-after task.Receive step slot (answered (Some slot.iv) (kept_under request.header.id step.gives))
+    (subst (λ b. Made task.Receive step slot.sa.spir (answered (if b then Some slot.iv else None) (response_to (if b then Some request.header.id else None) step.gives))) same
+    (answered-made slot.sa.spir slot request step answers))
+
+-- and in no other
+pub answers-others : (other : ℕ) (slot : Slot) (request : Opened) (step : Step) → slot.sa.spir ≢ other → SlotAnswers slot request [] step → Made task.Receive step other nothing
+answers-others other slot request step differs answers = ⊎_elim went (λ above. refused-made task.Receive step other refusal.Exhausted (answers.ended above)) (cases_lt slot.iv (end_of slot.sa counter.Iv))
+  where
+    went : slot.iv < end_of slot.sa counter.Iv → Made task.Receive step other nothing
+    went below = subst (λ b. Made task.Receive step other (answered (if b then Some slot.iv else None) (response_to (if b then Some request.header.id else None) step.gives))) (ne_eqb slot.sa.spir other differs)
+        (answered-made other slot request step (answers.within below))
+
+-- a request was sent in an association, and so in no other
+pub asks-others : (other spir : ℕ) (slot : Slot) (request : List ℕ) (step : Step) → slot.sa.spir ≡ spir → slot.sa.spir ≢ other → SlotAsks slot request step → Made (task.Ask spir request) step other nothing
+asks-others other spir slot request step own differs (inr full) = refused-made (task.Ask spir request) step other (refusal.WindowFull full.0) full.3
+asks-others other spir slot request step own differs (inl fits) =
+    ⊎_elim (λ asks. ⊎_elim (went asks) (λ none. refused-made (task.Ask spir request) step other refusal.Exhausted (fits.1.ended (inr none))) (cases_lt slot.iv (end_of slot.sa counter.Iv)))
+    (λ none. refused-made (task.Ask spir request) step other refusal.Exhausted (fits.1.ended (inl none))) (cases_lt slot.ask (end_of slot.sa counter.Ask))
+  where
+    another : (spir == other) ≡ false
+    another = ne_eqb spir other (λ same. differs (own ∙ same))
+
+    went : slot.ask < end_of slot.sa counter.Ask → slot.iv < end_of slot.sa counter.Iv → Made (task.Ask spir request) step other nothing
+    went asks ivs =
+        let sent : SendsRequest (slot_ike slot) slot.ask slot.iv request step = fits.1.within asks ivs in
+        record {
+          esp = refl;
+          received = refl;
+          iv = iv-sealed other slot.iv slot _ _ step sent.sends ∙ ap (λ b. if b then Some slot.iv else None) (ne_eqb slot.sa.spir other differs);
+          ask = ap (said_in other counter.Ask (task.Ask spir request)) sent.said ∙ ap (λ b. if b then Some slot.ask else None) another;
+          request = ap (λ v. if spir == other then request_sent v step.gives else None) sent.said ∙ ap (λ b. if b then kept_under slot.ask step.gives else None) another;
+          replied = refl;
+          response = refl;
+        }
+
+-- a response came in an association, and so in no other
+pub reply-others : (other : ℕ) (slot : Slot) (id : ℕ) (inner : Result (List PayloadValue) Bad) (step : Step) → slot.sa.spir ≢ other
+    → TakesInner (peer_counter slot.sa counter.Ask) id inner step → Made task.Receive step other nothing
+reply-others other slot id (Err bad) step differs takes = absurd takes
+reply-others other slot id (Ok payloads) step differs takes =
+    received-made other step (out.Reply (peer_counter slot.sa counter.Ask) id takes.reply kept.Plain (first_error payloads)) None takes.says.quiet takes.says.said refl
+    (ap (λ (x : Option ℕ). if is_of_spir other x then Some id else None) slot.sa.origin_is_own ∙ ap (λ b. if b then Some id else None) (ne_eqb slot.sa.spir other differs)) refl
+
+-- what is dropped changes nothing
+pub dropped-made : (why : IkeDrop) (step : Step) (spir : ℕ) → Says (out.DroppedIke why) step → Made task.Receive step spir nothing
+dropped-made why step spir says = received-made spir step (out.DroppedIke why) None says.quiet says.said refl refl refl
+
+-- nor what is given once more
+pub repeated-made : (id : ℕ) (octets : List ℕ) (step : Step) (spir : ℕ) → GivesAgain (out.Repeated id) octets step → Made task.Receive step spir nothing
+repeated-made id octets step spir gives = record {
+  esp = refl;
+  received = ap (accepted spir) gives.said;
+  iv = ap (iv_in end.Peer spir) gives.seals;
+  ask = refl;
+  request = refl;
+  replied = ap (replied_in spir task.Receive) gives.said;
+  response = ap (λ v. response_to (taken_id spir v) step.gives) gives.said;
+}
+
+pub resent-made : (asked id : ℕ) (octets : List ℕ) (step : Step) (spir : ℕ) → GivesAgain (out.Resent id) octets step → Made (task.Again asked id) step spir nothing
+resent-made asked id octets step spir gives = record {
+  esp = refl;
+  received = refl;
+  iv = ap (iv_in end.Peer spir) gives.seals;
+  ask = refl;
+  request = refl;
+  replied = refl;
+  response = refl;
+}
