@@ -1,5 +1,5 @@
 -- The keys of a record have one of two lengths: those of packets are passed on for the functions that cite them.
-use Rattle.std.proofs.Common.{◌≡◌, ℕ, ◌⊎◌, length}
+use Rattle.std.proofs.Common.{◌≡◌, ◌⊎◌, length}
 use Rattle.ha_base.specs.declared.key_material.ChildKeys.{ChildKeys}
 use Rattle.ha_base.specs.declared.key_material.KeySize.{KeySize}
 use Rattle.ha_base.specs.declared.key_material.SaKeys.{SaKeys}

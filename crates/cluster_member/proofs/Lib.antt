@@ -1,9 +1,16 @@
 pub mod Advancing
+pub mod Answers
+pub mod Arriving
+pub mod Asked
+pub mod Covering
 pub mod GenuineLaws
 pub mod HeldMessages
 pub mod KeySizes
 pub mod PlaceLemmas
 pub mod Placed
+pub mod Readying
 pub mod ReceiverLemmas
+pub mod Requests
 pub mod Sending
 pub mod Taking
+pub mod UsingIv

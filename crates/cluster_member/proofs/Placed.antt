@@ -22,7 +22,7 @@ use Rattle.cluster_member.specs.Places.{KeepsOthers}
 
 module _ (size : ℕ) (asked : Task) (calls : List Call) (step : Step) where
   -- a turn that grants nothing of an association, and makes nothing of it
-  stays-held : (spir : ℕ) → grant_in spir calls ≡ None → ((held : Held) → advanced spir asked calls step held ≡ held) → (x : Option Held) → held_after size spir asked calls step x ≡ x
+  pub stays-held : (spir : ℕ) → grant_in spir calls ≡ None → ((held : Held) → advanced spir asked calls step held ≡ held) → (x : Option Held) → held_after size spir asked calls step x ≡ x
   stays-held spir none stays None = ap (λ g. first_some (option_map (held_begun size) g) None) none
   stays-held spir none stays (Some held) = ap (λ g. first_some (option_map (held_begun size) g) (Some (advanced spir asked calls step held))) none ∙ ap Some (stays held)
 

@@ -1,5 +1,5 @@
 -- The horizons of what a member holds.
-use Rattle.std.specs.Prelude.{ℕ, ◌≡◌, ◌==◌}
+use Rattle.std.specs.Prelude.{ℕ, ◌≡◌, ◌≤◌, ◌==◌}
 use Rattle.events.specs.declared.verdict.EspVerdict.{EspVerdict}
 use Rattle.events.specs.declared.verdict.EspVerdict.TheVariants as esp
 use Rattle.ha_base.specs.declared.esp_outcomes.EspOpened.{EspOpened}
@@ -48,11 +48,13 @@ pub record AreMessages (sa : Record) (epoch : ℕ) (ask : Reach) (ike : IkeHeld)
   pub next : ike.next ≡ ask.next
   pub synced : ike.synced ≡ (epoch == 1)
 
+-- the epoch answers Message IDs from its base on
 pub record IsHolding (sa : Record) (epoch : ℕ) (esp_out esp_in iv ask answer : Reach)
     (outbound : Outbound) (inbound : Inbound) (ike : IkeHeld) : Type 0 where
   pub horizons : AreHorizons sa epoch esp_out esp_in iv ask answer
   pub packets : AreOfRecord sa esp_in outbound inbound
   pub messages : AreMessages sa epoch ask ike
+  pub answered_from : answer.base ≤ ike.answered.low
 
 -- where a packet is accepted, it is this one
 abbrev pub TookPacket : EspOpened → EspVerdict → Type 0

@@ -30,16 +30,16 @@ use std::marker::Model;
 /// what it sends and receives with.
 #[derive(Drop)]
 pub struct Holding {
-    sa: Record,
-    epoch: u64,
+    pub(crate) sa: Record,
+    pub(crate) epoch: u64,
     esp_out: Horizon,
     esp_in: Horizon,
-    iv: Horizon,
-    ask: Horizon,
-    answer: Horizon,
+    pub(crate) iv: Horizon,
+    pub(crate) ask: Horizon,
+    pub(crate) answer: Horizon,
     outbound: OutboundSa,
     inbound: InboundSa,
-    ike: IkeSa,
+    pub(crate) ike: IkeSa,
 }
 
 impl Model for Holding {
@@ -64,7 +64,7 @@ impl Model for Holding {
 }
 
 // the cluster's counter of an association
-fn name_of(sa: &Record, kind: Kind, child: u32) -> CounterName
+pub(crate) fn name_of(sa: &Record, kind: Kind, child: u32) -> CounterName
     ensures { result ≡ record {
       origin = sa.now.origin;
       kind = kind;

@@ -25,7 +25,7 @@ use std::marker::Model;
 /// What a member holds, one holding for each association.
 #[derive(Drop)]
 pub struct Holdings {
-    items: Vec<Holding>,
+    pub(crate) items: Vec<Holding>,
 }
 
 impl Model for Holdings {
@@ -43,7 +43,7 @@ impl Model for Holdings {
 }
 
 /// Where the holding of a responder's SPI stands.
-fn place_of(items: &[Holding], spir: u64) -> Option<usize>
+pub(crate) fn place_of(items: &[Holding], spir: u64) -> Option<usize>
     ensures { MatchOption result (held_at items.now spir ≡ None)
         (λ place. IsHoldingPlace spir place items.now) }
 {
@@ -85,7 +85,8 @@ fn receiver_of(items: &[Holding], spi: u32) -> Option<usize>
     found
 }
 
-fn not_owner() -> Step
+/// The association is not held.
+pub(crate) fn not_owner() -> Step
     ensures { Says (Verdict.Refused refusal.NotOwner) result }
 {
     Step::quiet(Verdict::Refused(Refusal::NotOwner))

@@ -1,10 +1,14 @@
 //! A member of a cluster: what it holds of each association, and what it does with it.
 #![tactic(auto)]
 
+mod answering;
+mod asking;
 mod config;
 mod holding;
 mod holdings;
 mod member;
+mod messages;
+mod ready;
 mod refusals;
 
 pub use config::Config;

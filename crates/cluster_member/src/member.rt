@@ -26,11 +26,11 @@ use std::marker::Model;
 /// A member of the cluster, by what it holds.
 #[derive(Drop)]
 pub struct Member {
-    alloc: Global,
+    pub(crate) alloc: Global,
     number: u32,
     config: Config,
     fresh: [u8; 24],
-    holdings: Holdings,
+    pub(crate) holdings: Holdings,
 }
 
 impl Model for Member {

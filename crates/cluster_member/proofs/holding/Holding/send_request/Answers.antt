@@ -1,0 +1,20 @@
+-- A request is refused before a call.
+use Rattle.std.proofs.Common.{rules, ◌≡◌, ◌==◌, true, false, ap, sym, ◌∙◌}
+use Rattle.keeper_book.proofs.Asking.{asks_for_none}
+use Rattle.turn_rules.specs.Held.{Held}
+use Rattle.cluster_member.proofs.Requests.{asks-full, asks-unsynced}
+use Rattle.cluster_member.proofs.holding.Holding.send_request.Goals as goal
+
+pub returns-then-self-ne1-clause-asks : goal.returns-then-self-ne1-clause-asks
+returns-then-self-ne1-clause-asks g c =
+    let later : (c.self.inside.epoch == 1) ≡ false = search rules in
+    asks_for_none g.K.Keeper c.args.keeper.now
+    (asks-unsynced c.args.self.now _ c.args.room c.quiet.result (search rules) (ap (λ (v : Held). v.synced) (sym c.self.view_is) ∙ c.self.invariant.messages.synced ∙ later) (search rules))
+
+pub returns-in-Err-clause-asks : goal.returns-in-Err-clause-asks
+returns-in-Err-clause-asks g c =
+    let first : (c.self.inside.epoch == 1) ≡ true = search rules in
+    let full = c.in-Err.ensures.full in
+    asks_for_none g.K.Keeper c.args.keeper.now
+    (asks-full c.args.self.now _ c.args.room c.quiet-in-Err.result (search rules) c.in-Err.least (ap (λ (v : Held). v.synced) (sym c.self.view_is) ∙ c.self.invariant.messages.synced ∙ first)
+    (search rules) (search rules) (search rules))
