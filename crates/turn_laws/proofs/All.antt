@@ -14,7 +14,7 @@ use Rattle.turn_laws.proofs.Lists.{all-append}
 use Rattle.turn_rules.proofs.SlotTies.{all-weaker}
 use Rattle.turn_laws.proofs.Moves.{IsUseOrEnd, are-uses}
 use Rattle.turn_laws.proofs.Numbers.{counters-hold}
-use Rattle.turn_laws.proofs.Records.{deed-of}
+use Rattle.turn_laws.proofs.Records.{answering-run, deed-of}
 use Rattle.turn_laws.proofs.Runs.{LeavesBook, enters_all-append, lawful-calls, lawful-quiet, may_do-append, onto-append}
 use Rattle.turn_laws.proofs.Safety.{owned-lawful}
 use Rattle.turn_laws.proofs.Tells.{Tells, tells}
@@ -36,8 +36,8 @@ use Rattle.turn_rules.specs.Safe.{IsEachOnce}
 none-started : (past : List Turn) → NoneStarted (acts_of past)
 none-started [] name = tt
 none-started (turn ∷ past) name = moves-all (λ move. starts_name name move ≡ false) (actor_of turn) (moves_of turn) (acts_of past)
-    (of_calls turn.calls (uses_of turn.event turn.step.verdict ++ map (λ seal. Seals (key_iv seal)) turn.step.seals)
-    (all-append (λ move. starts_name name move ≡ false) (uses_of turn.event turn.step.verdict) (map (λ seal. Seals (key_iv seal)) turn.step.seals) (all-weaker (uses_of turn.event turn.step.verdict) of_use (are-uses turn.event turn.step.verdict)) (of_seals turn.step.seals)))
+    (of_calls turn.calls (uses_of turn.event turn.step.verdict turn.step.seals ++ map (λ seal. Seals (key_iv seal)) turn.step.seals)
+    (all-append (λ move. starts_name name move ≡ false) (uses_of turn.event turn.step.verdict turn.step.seals) (map (λ seal. Seals (key_iv seal)) turn.step.seals) (all-weaker (uses_of turn.event turn.step.verdict turn.step.seals) of_use (are-uses turn.event turn.step.verdict turn.step.seals)) (of_seals turn.step.seals)))
     (none-started past name)
   where
     of_use : (move : Move) → IsUseOrEnd move → starts_name name move ≡ false
@@ -59,7 +59,7 @@ none-started (turn ∷ past) name = moves-all (λ move. starts_name name move �
 
 -- the moves of a turn that is explained may be made
 pub turn-well : (boxes : ℕ) (past : List Turn) (turn : Turn) → IsByRule boxes past turn → Explained boxes past → MayDoAll (acts_of past) (acts_in turn)
-turn-well boxes past turn explained local = deed-well past (acts_of past) (told-held boxes past local) (peer-may boxes past local) (none-started past) (λ member pool. refl) turn.event turn.calls turn.step (deed-of boxes past turn explained local)
+turn-well boxes past turn explained local = deed-well past (acts_of past) (answering-run boxes past local) (told-held boxes past local) (peer-may boxes past local) (none-started past) (λ member pool. refl) turn.event turn.calls turn.step (deed-of boxes past turn explained local)
 
 use-leaves : (move : Move) → IsUseOrEnd move → LeavesBook move
 use-leaves (Uses place n) is = λ book. refl
@@ -79,12 +79,12 @@ pub lawful-run : (boxes : ℕ) (past : List Turn) (book : Book) → Explained bo
 lawful-run boxes [] book local stands = stands
 lawful-run boxes (turn ∷ past) book local stands =
     let parts : (mid : Book) × EntersAll empty (calls_of past) mid × EntersAll mid turn.calls book = enters_all-append (calls_of past) turn.calls empty book stands in
-    let rest : List Move = uses_of turn.event turn.step.verdict ++ map (λ seal. Seals (key_iv seal)) turn.step.seals in
+    let rest : List Move = uses_of turn.event turn.step.verdict turn.step.seals ++ map (λ seal. Seals (key_iv seal)) turn.step.seals in
     let may : MayDoMoves (acts_of past) (actor_of turn) (map Calls turn.calls) × MayDoMoves (moves_onto (actor_of turn) (map Calls turn.calls) (acts_of past)) (actor_of turn) rest =
     may_do-append (actor_of turn) (map Calls turn.calls) rest (acts_of past) (turn-well boxes past turn local.0 local.1) in
     subst (λ acts. Lawful acts book) (sym (onto-append (actor_of turn) (map Calls turn.calls) rest (acts_of past)))
     (lawful-quiet (actor_of turn) rest (moves_onto (actor_of turn) (map Calls turn.calls) (acts_of past)) book
-    (all-append LeavesBook (uses_of turn.event turn.step.verdict) (map (λ seal. Seals (key_iv seal)) turn.step.seals) (all-weaker (uses_of turn.event turn.step.verdict) use-leaves (are-uses turn.event turn.step.verdict)) (seals-leave turn.step.seals))
+    (all-append LeavesBook (uses_of turn.event turn.step.verdict turn.step.seals) (map (λ seal. Seals (key_iv seal)) turn.step.seals) (all-weaker (uses_of turn.event turn.step.verdict turn.step.seals) use-leaves (are-uses turn.event turn.step.verdict turn.step.seals)) (seals-leave turn.step.seals))
     (lawful-calls (actor_of turn) turn.calls (acts_of past) parts.0 book (lawful-run boxes past parts.0 local.1 parts.1) parts.2 may.0)
     may.1)
 

@@ -19,7 +19,7 @@ use Rattle.keeper_book.specs.declared.calls.KeeperAnswer.TheVariants as answer
 use Rattle.keeper_book.specs.declared.calls.KeeperAsk.TheVariants as ask
 use Rattle.keeper_book.specs.declared.records.Record.{Record}
 use Rattle.keeper_book.specs.declared.records.Taken.{Taken}
-use Rattle.turn_laws.proofs.Deeds.{says-rests, Asked, Deed, IsIdle, Rested}
+use Rattle.turn_laws.proofs.Deeds.{quiet-rests, says-rests, Asked, Deed, IsIdle, Rested}
 use Rattle.turn_laws.specs.Acts.{IsImport, entered_as, settled_as}
 use Rattle.turn_rules.specs.Draws.{Admits, EntersRecord, Grants, TakesOver, refusal_of_import, refusal_of_takeover}
 use Rattle.turn_rules.specs.Fits.{Quietly, Refuses, Yields, is_importable}
@@ -115,7 +115,7 @@ module _ (past : List Turn) (step : Step) where
         own_record = λ spir taken is. absurd (not_granted spir taken (rw e.0 at is));
         unsettled = λ spir. ap (λ asked. settled_as spir asked (seen call)) e.0;
         entry = ap (λ asked. entered_as asked (seen call)) e.0 ∙ admits-entry sa (seen call) step.verdict e.1;
-        rests = record { idle = admits-idle (seen call) step.verdict e.1; quiet = quietly.quiet };
+        rests = quiet-rests step (admits-idle (seen call) step.verdict e.1) quietly.quiet;
       })
         where
           not_granted : (spir : ℕ) (taken : Taken) → granted spir (ask.Enter sa) (seen call) ≡ Some taken → ⊥
@@ -134,5 +134,5 @@ module _ (past : List Turn) (step : Step) where
         entry = ap (λ asked. entered_as asked (seen call)) t.0;
         unsettled = λ other. ap (λ asked. settled_as other asked (seen call)) t.0;
         own_record = λ other taken is. grants-record spir member (seen call) step.verdict t.1 other taken (rw t.0 at is);
-        rests = record { idle = grants-idle spir (seen call) step.verdict t.1; quiet = quietly.quiet };
+        rests = quiet-rests step (grants-idle spir (seen call) step.verdict t.1) quietly.quiet;
       })

@@ -30,4 +30,4 @@ module _ (P : Call → Type 0) where
   calls-hold [] all = tt
   calls-hold (turn ∷ past) all =
       let parts : AllByRecursion IfCall (moves_of turn) × HoldOfCalls (acts_of past) = onto-hold (actor_of turn) (moves_of turn) (acts_of past) all in
-      (calls-first turn.calls (uses_of turn.event turn.step.verdict ++ map (λ seal. Seals (key_iv seal)) turn.step.seals) parts.0, calls-hold past parts.1)
+      (calls-first turn.calls (uses_of turn.event turn.step.verdict turn.step.seals ++ map (λ seal. Seals (key_iv seal)) turn.step.seals) parts.0, calls-hold past parts.1)

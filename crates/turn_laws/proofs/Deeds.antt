@@ -4,7 +4,13 @@ use Rattle.keeper_book.specs.declared.calls.KeeperAnswer.TheVariants as answer
 use Rattle.keeper_book.specs.declared.calls.KeeperAsk.TheVariants as ask
 use Rattle.keeper_book.specs.declared.pools.Pool.{Pool}
 use Rattle.std.specs.List.{AllByRecursion}
-use Rattle.std.proofs.Common.{[], ◌++◌, ◌<◌, ◌∷◌, ◌≡◌, Bool, List, None, Option, Some, map, option_to_list, subst, sym, ℕ, ◌⊎◌, ◌≤◌}
+use Rattle.std.specs.Prelude.{IsSome, is_some}
+use Rattle.ike_window.specs.Requests.{IsNewRequest}
+use Rattle.ike_window.specs.Windows.{IsAnswered}
+use Rattle.ha_base.specs.declared.counter_names.End.TheVariants as end
+use Rattle.turn_rules.specs.Tasks.{peer_task}
+use Rattle.events.specs.declared.turn.Served.{Served}
+use Rattle.std.proofs.Common.{[], ◌++◌, ◌<◌, ◌∷◌, ◌≡◌, Bool, true, List, None, Option, Some, map, option_to_list, subst, sym, ℕ, ◌⊎◌, ◌≤◌}
 use Rattle.events.specs.declared.event.Event.{Event}
 use Rattle.events.specs.declared.turn.Step.{Step}
 use Rattle.events.specs.declared.turn.Turn.{Turn}
@@ -24,14 +30,15 @@ use Rattle.replay_set.specs.declared.judgement.Judgement.TheVariants.{Fresh}
 use Rattle.turn_laws.proofs.Uses.{AreElsewhere, AreUses, Spent, number_at, spent_at, spent_of, IsAmong}
 use Rattle.turn_laws.specs.Acts.{Act, IsUnstarted, MayAsk, Move, Seals, entered_as, settled_as, holding_at}
 use Rattle.turn_laws.specs.Holdings.{Actor, Holding, End}
+use Rattle.turn_laws.specs.Listed.{request_at}
 use Rattle.turn_laws.specs.Places.{Ours, Place, Theirs, place_of, Pooled}
-use Rattle.turn_laws.specs.Turns.{key_iv, number_taken, uses_of, acts_of}
+use Rattle.turn_laws.specs.Turns.{answered, key_iv, number_taken, uses_of, acts_of}
 use Rattle.turn_rules.specs.Draws.{reach_of}
 use Rattle.turn_rules.specs.Ends.{Member, Peer, own, performer_at}
-use Rattle.turn_rules.specs.Held.{Held, granted, held_by, received, used, window_by}
+use Rattle.turn_rules.specs.Held.{Held, granted, held_by, received, used, used_in, window_by}
 use Rattle.turn_rules.specs.Peers.{record_entered}
-use Rattle.turn_rules.specs.Safe.{Packet, accepted_as}
-use Rattle.turn_rules.specs.Slots.{Slot, first_slot, peer_counter, sent, slots_by}
+use Rattle.turn_rules.specs.Safe.{Packet, Request, accepted_as, taken_as}
+use Rattle.turn_rules.specs.Slots.{Slot, first_slot, peer_counter, slots_by}
 use Rattle.turn_rules.specs.States.{ended_by}
 use Rattle.turn_rules.specs.Steps.{IsQuiet, Says}
 
@@ -41,18 +48,20 @@ IsIdle (out.Number n) = ⊥
 IsIdle (out.Sent n) = ⊥
 IsIdle (out.Asked id) = ⊥
 IsIdle (out.Accepted name n next_header payload) = ⊥
+IsIdle (out.Executed name id mark) = ⊥
+IsIdle (out.Refusing name id notify) = ⊥
 IsIdle out.Down = ⊥
 IsIdle verdict = Unit {0}
 
 -- the moves of a turn beside its calls
 abbrev pub rest_of : Event → Step → List Move
-rest_of event step = uses_of event step.verdict ++ map (λ seal. Seals (key_iv seal)) step.seals
+rest_of event step = uses_of event step.verdict step.seals ++ map (λ seal. Seals (key_iv seal)) step.seals
 
 -- the number of the peer's counter of the association that an event used
 abbrev pub number_theirs : ℕ → Counter → Event → Step → Option ℕ
-number_theirs spir counter.EspOut event step = sent spir event step
 number_theirs spir counter.EspIn event step = received spir event step.verdict
-number_theirs spir c event step = None
+number_theirs spir counter.Answer event step = answered spir event step.verdict
+number_theirs spir c event step = used_in end.Peer spir c (peer_task event) step
 
 abbrev pub number_theirs_of : ℕ → Counter → Turn → Option ℕ
 number_theirs_of spir c turn = number_theirs spir c turn.event turn.step
@@ -68,25 +77,45 @@ HasItsRecord call = (spir : ℕ) (taken : Taken) → granted spir call.asked (se
 -- nothing is sealed or executed, and nothing is used
 pub record Rests (step : Step) : Type 0 where
   pub idle : IsIdle step.verdict
-  pub quiet : IsQuiet step
+  pub served : step.served ≡ None
+  pub seals : step.seals ≡ []
+
+pub quiet-rests : (step : Step) → IsIdle step.verdict → IsQuiet step → Rests step
+quiet-rests step idle quiet = record { idle = idle; served = quiet.served; seals = quiet.seals }
 
 pub says-rests : (step : Step) (verdict : Verdict) → IsIdle verdict → Says verdict step → Rests step
-says-rests step verdict idle says = record { idle = subst (λ v. IsIdle v) (sym says.said) idle; quiet = says.quiet }
+says-rests step verdict idle says = quiet-rests step (subst (λ v. IsIdle v) (sym says.said) idle) says.quiet
 
--- the numbers that a member may use of what it holds: the next one that it sends, and those that it did not receive
+-- a service executes only where a request is taken, and a datagram is given where one is
+pub record IsAnswering (step : Step) : Type 0 where
+  pub takes : IsSome step.served → IsSome (taken_as step.verdict)
+  pub gives : IsSome (taken_as step.verdict) → IsSome step.gives
+
+-- so it is where nothing is executed and none is taken
+pub none-answering : (step : Step) → step.served ≡ None → taken_as step.verdict ≡ None → IsAnswering step
+none-answering step served taken = record {
+  takes = λ some. let no : is_some {T = Served} None ≡ true = subst (λ o. is_some o ≡ true) served some in absurd (cc);
+  gives = λ some. let no : is_some {T = Request} None ≡ true = subst (λ o. is_some o ≡ true) taken some in absurd (cc);
+}
+
+-- the numbers that a member may use of what it holds: the next one that it sends, those that it did not receive, and those of new requests
 abbrev pub IsOpen : Held → Counter → ℕ → Type 0
 IsOpen held counter.EspIn n = judged held.window n ≡ Fresh
+IsOpen held counter.Answer n = IsNewRequest held.answered.low (IsAnswered held.answered) n
 IsOpen held c n = n ≡ five_at held.nexts c
 
 -- and those that the peer may use
 abbrev pub IsOpenTo : Slot → Counter → ℕ → Type 0
 IsOpenTo slot counter.EspOut n = (n ≡ slot.next) × (n < end_of slot.sa counter.EspOut)
 IsOpenTo slot counter.EspIn n = (n < end_of slot.sa counter.EspIn) × (judged slot.window n ≡ Fresh)
-IsOpenTo slot c n = ⊥
+IsOpenTo slot counter.Answer n = (n < end_of slot.sa counter.Answer) × IsNewRequest slot.answered.low (IsAnswered slot.answered) n
+IsOpenTo slot counter.Iv n = (n ≡ slot.iv) × (n < end_of slot.sa counter.Iv)
+IsOpenTo slot counter.Ask n = (n ≡ slot.ask) × (n < end_of slot.sa counter.Ask)
 
--- a number of a place is used, and nothing executed; a packet that was accepted has this number
+-- a number of a place is used, and no request is taken; a packet that was accepted has this number
 pub record Spends (place : Place) (n : ℕ) (event : Event) (step : Step) : Type 0 where
   pub served : step.served ≡ None
+  pub untaken : taken_as step.verdict ≡ None
   pub uses_it : AreUses (spent_of place n ∷ []) (rest_of event step)
   pub of_packet : (packet : Packet) → accepted_as step.verdict ≡ Some packet → (place_of packet.name ≡ place) × (packet.number ≡ n)
 
@@ -99,10 +128,11 @@ pub record UsesOne (spir : ℕ) (c : Counter) (n : ℕ) (event : Event) (step : 
 pub record UsesIt (needed : List Spent) (event : Event) (step : Step) : Type 0 where
   pub ss : List Spent
   pub were_needed : AllByRecursion (λ s. IsAmong s needed) ss
-  pub served : step.served ≡ None
+  pub answering : IsAnswering step
   pub uses_them : AreUses ss (rest_of event step)
   pub apart : AreElsewhere ss
   pub told : (other : ℕ) (d : Counter) → spent_at (Ours other d) ss ≡ option_to_list (number_taken other d event step)
+  pub answers : (spir : ℕ) → answered spir event step.verdict ≡ request_at (Ours spir counter.Answer) (taken_as step.verdict)
   pub not_theirs : (name : CounterName) → spent_at (Theirs name) ss ≡ []
   pub named : (packet : Packet) → accepted_as step.verdict ≡ Some packet → (other n : ℕ) → received other event step.verdict ≡ Some n → place_of packet.name ≡ Ours other counter.EspIn
 
@@ -193,10 +223,11 @@ pub record PeerUses (past : List Turn) (event : Event) (calls : List Call) (step
   pub needs : List (PeerNeed past)
   pub by_it : performer_at event step.verdict ≡ Some Peer
   pub no_calls : calls ≡ []
-  pub served : step.served ≡ None
+  pub answering : IsAnswering step
   pub uses_them : AreUses (map spent_theirs needs) (rest_of event step)
   pub apart : AreElsewhere (map spent_theirs needs)
   pub not_ours : (spir : ℕ) (d : Counter) → used spir d event step ≡ None
+  pub not_answered : (spir : ℕ) → request_at (Ours spir counter.Answer) (taken_as step.verdict) ≡ None
   pub told : (other : ℕ) (d : Counter) → spent_at (Ours other d) (map spent_by_spir needs) ≡ option_to_list (number_theirs other d event step)
   pub named : (packet : Packet) → accepted_as step.verdict ≡ Some packet → (other n : ℕ) → received other event step.verdict ≡ Some n → IsOfOne packet other needs
   pub no_entry : record_entered event step.verdict ≡ None

@@ -13,7 +13,7 @@ use Rattle.keeper_book.specs.declared.counters.Counter.TheVariants as counter
 use Rattle.turn_laws.specs.Acts.{Uses}
 use Rattle.turn_laws.proofs.Covers.{ready-as, ready-calls}
 use Rattle.turn_laws.proofs.Single.{one-used}
-use Rattle.turn_laws.proofs.Deeds.{Deed, IsIdle, Rests, Spends, UsesOne, rest_of}
+use Rattle.turn_laws.proofs.Deeds.{Deed, IsIdle, Rests, Spends, UsesOne, quiet-rests, rest_of}
 use Rattle.turn_laws.proofs.Members.{member-performs}
 use Rattle.turn_laws.proofs.Names.{number-failed, number-passed}
 use Rattle.turn_laws.proofs.Uses.{Counts, number_at, used-alone}
@@ -24,7 +24,7 @@ use Rattle.turn_rules.specs.Draws.{Concludes, Draws, reach_of, refusal_of_stop}
 use Rattle.turn_rules.specs.Ends.{Member, is_refused_by_run, own}
 use Rattle.turn_rules.specs.Fits.{Quietly}
 use Rattle.turn_rules.specs.Held.{Held, held_by, iv_in, said_in, window_by}
-use Rattle.turn_rules.specs.Safe.{Packet, accepted_as}
+use Rattle.turn_rules.specs.Safe.{Packet, accepted_as, taken_as}
 use Rattle.turn_rules.specs.Steps.{IsQuiet}
 use Rattle.turn_rules.specs.Tasks as task
 
@@ -58,6 +58,7 @@ module _ (past : List Turn) (step : Step) (member spir : ℕ) (held : Held) (own
   draw-spends : step.verdict ≡ out.Number next → Spends (Ours spir counter.EspOut) next (event.Draw member spir) step
   draw-spends said = record {
     served = quietly.quiet.served;
+    untaken = ap taken_as said;
     uses_it = used-alone (Ours spir counter.EspOut) next (Uses (Ours spir counter.EspOut) next) (rest_of (event.Draw member spir) step) (Counts refl) (let none : _ = quietly.quiet.seals in rw (said, none));
     of_packet = λ packet is. absurd (no_packet packet (ap accepted_as (sym said) ∙ is));
   }
@@ -81,7 +82,7 @@ module _ (past : List Turn) (step : Step) (member spir : ℕ) (held : Held) (own
     is_held = subst (λ n. held_by (window_by past) (own (Member member) past) n ≡ Some held) (sym own_spir) is_held;
     is_open = refl;
     ready = ready-as (reach_of held counter.EspOut) next Stopped (λ why rest. (rest ≡ []) × Rests step) Drew (λ high rest. (rest ≡ []) × UsesOne held.sa.spir counter.EspOut next (event.Draw member spir) step)
-        (λ why rest c. (c.no_more, record { idle = subst (λ v. IsIdle v) (sym c.said) tt; quiet = quietly.quiet }))
+        (λ why rest c. (c.no_more, quiet-rests step (subst (λ v. IsIdle v) (sym c.said) tt) quietly.quiet))
         (λ high rest c. (c.no_more, subst (λ n. UsesOne n counter.EspOut next (event.Draw member spir) step) (sym own_spir) (draw-uses c.said)))
         calls quietly.follows;
   })

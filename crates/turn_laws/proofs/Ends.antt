@@ -266,9 +266,9 @@ within-run boxes [] local p = record { highs = λ w h is. absurd (none p w h is)
     no_use p = tt
 within-run boxes (turn ∷ past) local p = moves-within p (actor_of turn) (moves_of turn) (acts_of past)
     (turn-well boxes past turn local.0 local.1)
-    (calls-answered turn.calls (uses_of turn.event turn.step.verdict ++ map (λ seal. Seals (key_iv seal)) turn.step.seals) local.0.answers
-    (all-append IsAnswered (uses_of turn.event turn.step.verdict) (map (λ seal. Seals (key_iv seal)) turn.step.seals)
-    (all-weaker (uses_of turn.event turn.step.verdict) use-answered (are-uses turn.event turn.step.verdict)) (seals-answered turn.step.seals)))
+    (calls-answered turn.calls (uses_of turn.event turn.step.verdict turn.step.seals ++ map (λ seal. Seals (key_iv seal)) turn.step.seals) local.0.answers
+    (all-append IsAnswered (uses_of turn.event turn.step.verdict turn.step.seals) (map (λ seal. Seals (key_iv seal)) turn.step.seals)
+    (all-weaker (uses_of turn.event turn.step.verdict turn.step.seals) use-answered (are-uses turn.event turn.step.verdict turn.step.seals)) (seals-answered turn.step.seals)))
     (within-run boxes past local.1 p)
 
 -- no number reaches its counter's end, as the record gives it under which the number was used

@@ -1,5 +1,5 @@
 -- Each turn that is explained is a deed.
-use Rattle.std.proofs.Common.{◌≡◌, ℕ, not, Bool, true, false, Option, Some, None, MatchOption, List, Result, Ok, Err, refl}
+use Rattle.std.proofs.Common.{◌≡◌, ℕ, not, Bool, true, false, Option, Some, None, MatchOption, List, Result, Ok, Err, refl, subst, sym}
 use Rattle.events.specs.declared.event.Event.{Event}
 use Rattle.events.specs.declared.event.Event.TheVariants as event
 use Rattle.events.specs.declared.event.Party.{Party}
@@ -10,17 +10,21 @@ use Rattle.events.specs.declared.verdict.Refusal.{Refusal}
 use Rattle.events.specs.declared.verdict.Refusal.TheVariants as refusal
 use Rattle.events.specs.declared.verdict.Verdict.TheVariants as out
 use Rattle.ha_base.specs.Octets.{WithRoom}
-use Rattle.ha_base.specs.declared.counter_names.End.TheVariants as end
 use Rattle.ha_base.specs.declared.outside.Moment.{Moment}
 use Rattle.keeper_book.specs.declared.calls.Call.{Call}
 use Rattle.keeper_book.specs.declared.records.Record.{Record}
 use Rattle.turn_laws.proofs.Asking.{enters-deed, refused-deed, takes_over-deed, yields-deed}
-use Rattle.turn_laws.proofs.Deeds.{Deed, Ended}
+use Rattle.turn_laws.proofs.Deeds.{Deed, Ended, Rested, says-rests}
+use Rattle.turn_laws.proofs.MemberRequests.{asks-deed, member_message-deed, resends-deed}
+use Rattle.turn_laws.proofs.PeerRequests.{peer_asks-deed, peer_message-deed, peer_resends-deed}
+use Rattle.turn_rules.specs.Deliveries.{MemberGets, PeerGets}
+use Rattle.turn_rules.specs.MemberMessages.{AsksOf}
+use Rattle.events.specs.declared.turn.Medium.{Medium}
+use Rattle.events.specs.declared.turn.Medium.TheVariants as medium
 use Rattle.turn_laws.proofs.Drawing.{draws-deed}
 use Rattle.turn_laws.proofs.Members.{own-held}
 use Rattle.turn_laws.proofs.Receiving.{Brings, member_takes-deed, peer_takes-deed}
 use Rattle.turn_laws.proofs.Sending.{peer_sends-deed, sends-deed}
-use Rattle.turn_rules.proofs.Ties.{used-receiving}
 use Rattle.turn_rules.specs.Datagrams.{PlainDatagram, arrives}
 use Rattle.turn_rules.specs.Draws.{EntersRecord}
 use Rattle.turn_rules.specs.Ends.{Member, own}
@@ -56,9 +60,24 @@ module _ (boxes : ℕ) (past : List Turn) (own_spir : (member spir : ℕ) (held 
 
   received : (event : Event) (to : Party) → Brings event to → (found : Result PlainDatagram Refusal) → Receives state now to found calls step → Deed past event calls step
   received event to brings (Err why) r = absurd r
-  received event parties.Peer brings (Ok datagram) takes = peer_takes-deed past event brings datagram.octets calls step takes
-  received event (parties.Member member) brings (Ok datagram) takes =
-      member_takes-deed boxes past own_spir event calls step takes.quiet takes.answer takes.after takes.worded member brings datagram.octets takes.receives
+  received event parties.Peer brings (Ok datagram) gets = peer_gets datagram.medium gets
+    where
+      peer_gets : (m : Medium) → PeerGets m state.peer.slots datagram.octets calls step → Deed past event calls step
+      peer_gets medium.Ike takes = peer_message-deed past event calls step brings datagram.octets takes
+      peer_gets medium.Esp takes = peer_takes-deed past event brings datagram.octets calls step takes
+  received event (parties.Member member) brings (Ok datagram) gets = member_gets datagram.medium gets
+    where
+      member_gets : (m : Medium) → MemberGets m (state.members member).held datagram.octets calls step → Deed past event calls step
+      member_gets medium.Ike takes = member_message-deed boxes past own_spir event calls step member brings datagram.octets takes
+      member_gets medium.Esp takes =
+          member_takes-deed boxes past own_spir event calls step takes.quiet takes.answer takes.after takes.worded member brings datagram.octets takes.receives
+
+  asked : (member spir : ℕ) (request : WithRoom) (x : Option Held) → (state.members member).held spir ≡ x → AsksOf x request.octets calls step → Deed past (event.Ask (parties.Member member) spir request) calls step
+  asked member spir request None e r = Rested r.0 (says-rests step (out.Refused refusal.NotOwner) tt r.1) refl
+  asked member spir request (Some held) e asks =
+      let is_held : held_by (window_by past) (own (Member member) past) spir ≡ Some held = own-held boxes past member spir held e in
+      let same : held.sa.spir ≡ spir = own_spir member spir held is_held in
+      asks-deed past step member spir request held same (subst (λ k. held_by (window_by past) (own (Member member) past) k ≡ Some held) (sym same) is_held) calls asks
 
   -- the run does not refuse an import of these SPIs
   importable : (sa : Record) → run_refusal state (event.Import sa) ≡ None → is_importable sa ≡ true
@@ -77,12 +96,14 @@ module _ (boxes : ℕ) (past : List Turn) (own_spir : (member spir : ℕ) (held 
   performed (event.Crash member) none y = Ended member (let said : _ = y.says.said in rw said refl) y.no_calls y.says.said refl y.says.quiet
   performed (event.Send parties.Peer spir payload) none sends = peer_sends-deed past step spir payload calls sends.0 sends.1
   performed (event.Send (parties.Member member) spir payload) none sends = sent member spir payload ((state.members member).held spir) refl sends
-  performed (event.Ask from spir request) none r = absurd r
-  performed (event.Again from spir id) none r = absurd r
-  performed (event.Deliver which to) none r = received (event.Deliver which to) to (record { performs = λ verdict. refl; receives = λ spir verdict. refl; uses_none = used-receiving end.Cluster; sends_none = λ spir step. refl; no_entry = λ verdict. refl }) (arrives state.datagrams (event.Deliver which to)) r
-  performed (event.Alter which to place octet) none r = received (event.Alter which to place octet) to (record { performs = λ verdict. refl; receives = λ spir verdict. refl; uses_none = used-receiving end.Cluster; sends_none = λ spir step. refl; no_entry = λ verdict. refl }) (arrives state.datagrams (event.Alter which to place octet)) r
-  performed (event.Cut which to keep) none r = received (event.Cut which to keep) to (record { performs = λ verdict. refl; receives = λ spir verdict. refl; uses_none = used-receiving end.Cluster; sends_none = λ spir step. refl; no_entry = λ verdict. refl }) (arrives state.datagrams (event.Cut which to keep)) r
-  performed (event.Inject to medium octets) none r = received (event.Inject to medium octets) to (record { performs = λ verdict. refl; receives = λ spir verdict. refl; uses_none = used-receiving end.Cluster; sends_none = λ spir step. refl; no_entry = λ verdict. refl }) (arrives state.datagrams (event.Inject to medium octets)) r
+  performed (event.Ask parties.Peer spir request) none asks = peer_asks-deed past step spir request calls asks.0 asks.1
+  performed (event.Ask (parties.Member member) spir request) none asks = asked member spir request ((state.members member).held spir) refl asks
+  performed (event.Again parties.Peer spir id) none r = peer_resends-deed past step spir id calls r.0 r.1
+  performed (event.Again (parties.Member member) spir id) none r = resends-deed past step member spir id ((state.members member).held spir) calls r
+  performed (event.Deliver which to) none r = received (event.Deliver which to) to (record { performs = λ verdict. refl; receives = λ spir verdict. refl; answers = λ spir verdict. refl; member_receives = refl; peer_receives = refl; no_entry = λ verdict. refl }) (arrives state.datagrams (event.Deliver which to)) r
+  performed (event.Alter which to place octet) none r = received (event.Alter which to place octet) to (record { performs = λ verdict. refl; receives = λ spir verdict. refl; answers = λ spir verdict. refl; member_receives = refl; peer_receives = refl; no_entry = λ verdict. refl }) (arrives state.datagrams (event.Alter which to place octet)) r
+  performed (event.Cut which to keep) none r = received (event.Cut which to keep) to (record { performs = λ verdict. refl; receives = λ spir verdict. refl; answers = λ spir verdict. refl; member_receives = refl; peer_receives = refl; no_entry = λ verdict. refl }) (arrives state.datagrams (event.Cut which to keep)) r
+  performed (event.Inject to medium octets) none r = received (event.Inject to medium octets) to (record { performs = λ verdict. refl; receives = λ spir verdict. refl; answers = λ spir verdict. refl; member_receives = refl; peer_receives = refl; no_entry = λ verdict. refl }) (arrives state.datagrams (event.Inject to medium octets)) r
 
   -- a turn that is explained is a deed
   pub fits-deed : (event : Event) → Does state now event calls step → Deed past event calls step

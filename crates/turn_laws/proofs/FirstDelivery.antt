@@ -4,7 +4,6 @@ use Rattle.std.proofs.lemmas.Bool.{eqb-true}
 use Rattle.std.proofs.lemmas.List.Elements.{All-contains, All-from_recursion}
 use Rattle.std.proofs.lemmas.Option.{same_Some}
 use Rattle.std.specs.List.{AllByRecursion, Contains, cons_option, filter, filter_map}
-use Rattle.std.specs.Prelude.{is_some}
 use Rattle.std.specs.Option.{option_map}
 use Rattle.esp_packets.specs.Laws.{SealedPacketsOpen, WindowCovers}
 use Rattle.esp_packets.specs.Packet.{spi_of}
@@ -29,6 +28,7 @@ use Rattle.turn_laws.proofs.Told.{is_end-true}
 use Rattle.turn_laws.specs.FirstDelivery.{IsUnaccepted, IsOtherPacket, MemberAcceptsFirst, PeerAcceptsFirst}
 use Rattle.turn_laws.specs.Holdings.{IsNotIn}
 use Rattle.turn_laws.specs.Places.{Ours, Place, Theirs, place_of}
+use Rattle.turn_laws.proofs.Answered.{since-all, since_entered-all}
 use Rattle.turn_laws.proofs.Lists.{all-both, all-filter}
 use Rattle.turn_rules.proofs.SlotTies.{DoesTold, first-passes}
 use Rattle.turn_rules.proofs.StateLaws.{does-told}
@@ -38,8 +38,7 @@ use Rattle.turn_rules.specs.IkeState.{is_of_spir}
 use Rattle.turn_rules.specs.Held.{Held, accepted, found, grant_of, held_by, holding, received, received_in, received_of, since, window_by}
 use Rattle.turn_rules.specs.Local.{Explained}
 use Rattle.turn_rules.specs.Safe.{Packet, accepted_as, accepted_in}
-use Rattle.turn_rules.specs.Slots.{Slot, first_slot, is_entered, peer_counter, receives_at, since_entered, slots_by}
-use Rattle.turn_rules.specs.Peers.{entered_in}
+use Rattle.turn_rules.specs.Slots.{Slot, first_slot, peer_counter, receives_at, since_entered, slots_by}
 use Rattle.turn_rules.specs.Tasks.{receipt}
 
 -- what is no element is contained nowhere
@@ -121,22 +120,6 @@ numbers-other spir n (turn ∷ turns) all = by_number (received_of spir turn) re
     by_number : (x : Option ℕ) → received_of spir turn ≡ x → IsNotIn n (filter_map (received_of spir) turns) → IsNotIn n (cons_option x (filter_map (received_of spir) turns))
     by_number None e rest = rest
     by_number (Some k) e rest = ((λ same. all.0 (e ∙ ap Some same)), rest)
-
-since-all : (P : Turn → Type 0) (spir : ℕ) (turns : List Turn) → AllByRecursion P turns → AllByRecursion P (since spir turns)
-since-all P spir [] all = tt
-since-all P spir (turn ∷ turns) all = by_test (is_some (grant_of spir turn)) (since-all P spir turns all.1)
-  where
-    by_test : (b : Bool) → AllByRecursion P (since spir turns) → AllByRecursion P (if b then [] else turn ∷ since spir turns)
-    by_test true rest = tt
-    by_test false rest = (all.0, rest)
-
-since_entered-all : (P : Turn → Type 0) (spir : ℕ) (turns : List Turn) → AllByRecursion P turns → AllByRecursion P (since_entered spir turns)
-since_entered-all P spir [] all = tt
-since_entered-all P spir (turn ∷ turns) all = by_test (is_entered spir (entered_in turn)) (since_entered-all P spir turns all.1)
-  where
-    by_test : (b : Bool) → AllByRecursion P (since_entered spir turns) → AllByRecursion P (if b then [] else turn ∷ since_entered spir turns)
-    by_test true rest = tt
-    by_test false rest = (all.0, rest)
 
 module _ (boxes : ℕ) (past : List Turn) (explained : Explained boxes past) where
   held-fresh : (member spir n : ℕ) (held : Held) → held_by (window_by past) (own (Member member) past) spir ≡ Some held → WindowCovers held.window n → IsUnaccepted (Ours spir counter.EspIn) n past → judged held.window n ≡ Fresh

@@ -4,6 +4,7 @@ use Rattle.turn_rules.specs.Ends.{Performer}
 use Rattle.keeper_book.specs.Counters.{five_at}
 use Rattle.keeper_book.specs.declared.counters.Counter.{Counter}
 use Rattle.turn_laws.specs.Resumed.{IsResumedRecord}
+use Rattle.ha_base.specs.declared.limits.TheConstants.{LEAST_SPI}
 use Rattle.keeper_book.specs.declared.TheConstants.{SETTLED_IV_HIGH}
 use Rattle.std.proofs.Common.{◌≡◌, ◌≢◌, ◌⊎◌, inl, inr, ℕ, zero, suc, ◌<◌, Option, Some, None, List, [], ◌∷◌, length, ⊎_elim, refl, sym, subst, arith, ◌≤◌, ◌∙◌, ap, true, map, ◌-◌}
 use Rattle.std.proofs.lemmas.Bool.Decides.{eqb_tells}
@@ -38,6 +39,10 @@ half-may acts key spir place iv half = subst (λ p. HoldsFor (holding_at p acts 
   may = record { from_base = omega (arith, iv); below_high = omega (arith, iv); unused = tt };
 })
 
+half-nothing : (c : Counter) → column_half c None ≡ nothing
+half-nothing counter.Iv = refl
+half-nothing c = refl
+
 module _ (acts : List Act) (book : Book) (owned : Owned acts book) where
   pub half-alone : (spir : ℕ) → IsHalfOpen acts spir → (v : Actor) (h : Holding) → holding_at (Ours spir counter.Iv) acts v ≡ Some h → h.epoch ≡ 1 → v ≡ Half spir
   half-alone spir half v h holds first = (owned.numbers (Ours spir counter.Iv)).alone v (Half spir) h half_begun holds half first
@@ -61,6 +66,35 @@ module _ (acts : List Act) (book : Book) (owned : Owned acts book) where
           (λ same. inr (zero, omega arith, same.1))
           (λ other. ⊎_elim (λ none. inl (other.1, none)) (λ has. inr (suc has.0, (let low : has.0 < length ns = has.1 in omega arith), has.2)) (either ns))
           (eqb_tells n spir)
+
+  -- what has numbers under an SPI that no import has was half open under a number that was drawn
+  pub used-drawn : (spir : ℕ) → spir < LEAST_SPI → (c : Counter) → numbers_at (Ours spir c) acts ≢ [] → Contains (numbers_at (Pooled pools.Nonce) acts) spir
+  used-drawn spir low c some = go (uses_at (Ours spir c) acts) (owned.numbers (Ours spir c)).within some
+    where
+      begun : (x : Option Opened) → opened_at spir acts ≡ x → 0 < length (begun_at (Ours spir c) acts).bases → Contains (numbers_at (Pooled pools.Nonce) acts) spir
+      begun (Some o) e more = opened-drawn spir o e
+      begun None e more = absurd (none more)
+        where
+          is_nothing : begun_at (Ours spir c) acts ≡ nothing
+          is_nothing = owned.begun spir c ∙ ap (column_half c) e ∙ half-nothing c
+
+          none : 0 < length (begun_at (Ours spir c) acts).bases → ⊥
+          none more = let zero_long : 0 < length nothing.bases = subst (λ (x : Column). 0 < length x.bases) is_nothing more in omega arith
+
+      recorded : (e : Entry) → entry_of spir book.entries ≡ Some e → Contains (numbers_at (Pooled pools.Nonce) acts) spir
+      recorded e found = ⊎_elim
+          (λ import_of. absurd (let high : LEAST_SPI ≤ e.sa.spir = import_of.spir in let same : e.sa.spir ≡ spir = entry-spir spir book.entries e found in omega arith))
+          (λ settled. opened-drawn spir settled.opened (ap (λ n. opened_at n acts) (sym (entry-spir spir book.entries e found)) ∙ settled.is_its))
+          (owned.recorded spir e found)
+
+      by_entry : (x : Option Entry) → entry_of spir book.entries ≡ x → 0 < length (column_ours c (begun_at (Ours spir c) acts) x).bases → Contains (numbers_at (Pooled pools.Nonce) acts) spir
+      by_entry None e more = begun (opened_at spir acts) refl more
+      by_entry (Some entry) e more = recorded entry e
+
+      go : (us : List Use) → AllByRecursion (IsUseOf (column_at (Ours spir c) acts book)) us → map (λ u. u.number) us ≢ [] → Contains (numbers_at (Pooled pools.Nonce) acts) spir
+      go [] within some = absurd (some refl)
+      go (u ∷ us) within some = by_entry (entry_of spir book.entries) refl
+          (let first : 1 ≤ u.epoch = within.0.some in let last : u.epoch ≤ length (column_at (Ours spir c) acts book).bases = within.0.begun in omega arith)
 
   module _ (spir : ℕ) (o : Opened) (is : opened_at spir acts ≡ Some o) where
     abbrev its_column : Column

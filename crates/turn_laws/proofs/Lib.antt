@@ -11,6 +11,8 @@ mod Holdings
 mod Firsts
 mod Begun
 mod Keeping
+mod MoveCases
+mod BookMoves
 mod Safety
 mod Settled
 mod Halves
@@ -21,11 +23,16 @@ mod Moved
 mod Single
 mod Covers
 mod Deeds
+mod Answered
 mod Members
 mod Asking
 mod Drawing
 mod Sending
 mod Receiving
+mod Arrivals
+mod Pairs
+mod MemberRequests
+mod PeerRequests
 mod Explained
 mod Records
 mod Outcomes
@@ -48,3 +55,6 @@ mod Listed
 mod Called
 mod Replaced
 mod Receivers
+pub mod Serving
+pub mod ServeRuns
+pub mod ServeTurns

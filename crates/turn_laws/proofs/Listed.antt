@@ -19,11 +19,11 @@ use Rattle.keeper_book.specs.declared.records.Taken.{Taken}
 use Rattle.turn_laws.proofs.Acting.{moves_onto}
 use Rattle.turn_laws.specs.Acts.{Act, begun_by, effect_begun, effect_of_call, effect_ours, entered_as, Calls, Ends, Leaps, Move, Opens, Seals, Starts, Uses, act_by, begun_at, begun_open, begun_started, effect_of_open, effect_of_use, holding_at, numbers_at, uses_at, effect_of_ours, settled_as, lot_of}
 use Rattle.turn_laws.specs.Holdings.{Actor, Draws, Half, Holding, Jumps, Nothing, Use, uses_after}
-use Rattle.turn_laws.specs.Listed.{drawn_at, drew, ivs_at, listed_at, number_where, packet_at}
+use Rattle.turn_laws.specs.Listed.{asked_at, drawn_at, drew, ivs_at, listed_at, number_where, packet_at, request_at}
 use Rattle.turn_laws.specs.Places.{Ours, Place, Pooled, Theirs, is_place, place_of}
-use Rattle.turn_laws.specs.Turns.{actor_of, acts_of, drawn_by, end_moves, key_iv, moves_of, uses_of}
+use Rattle.turn_laws.specs.Turns.{actor_of, acts_of, asked_by, asks_beside, drawn_by, end_moves, key_iv, moves_of, uses_of}
 use Rattle.turn_rules.specs.Held.{covered, granted}
-use Rattle.turn_rules.specs.Safe.{accepted_as, accepted_in}
+use Rattle.turn_rules.specs.Safe.{accepted_as, accepted_in, taken_as, taken_in}
 use Rattle.turn_rules.specs.States.{ended_by}
 use Rattle.keeper_book.specs.declared.pools.Pool.TheVariants as pools
 
@@ -138,21 +138,39 @@ module _ (p : Place) where
   moved-end None = refl
   moved-end (Some member) = refl
 
-  moved-uses : (event : Event) (verdict : Verdict) → moved (uses_of event verdict) ≡ option_to_list (drawn_at p event verdict) ++ option_to_list (packet_at p (accepted_as verdict))
-  moved-uses event (out.Number n) = moved-drawn event n
-  moved-uses event (out.Accepted name n next_header payload) = one-moved (number_where p (place_of name) n)
-  moved-uses event verdict = moved-end (ended_by event verdict)
+  moved-asked : (seals : List Seal) (id : ℕ) → moved (asked_by seals id) ≡ option_to_list (asked_at p (out.Asked id) seals)
+  moved-asked [] id = refl
+  moved-asked (seal ∷ seals) id = one-moved (number_where p (place_of (asks_beside seal.name)) id)
+
+  -- the numbers that a verdict has, without those of seals
+  abbrev said_at : Event → Verdict → List Seal → List ℕ
+  said_at event verdict seals = option_to_list (drawn_at p event verdict) ++ (option_to_list (packet_at p (accepted_as verdict)) ++ (option_to_list (request_at p (taken_as verdict)) ++ option_to_list (asked_at p verdict seals)))
+
+  one-said : (x : Option ℕ) → cons_option x [] ≡ option_to_list x ++ []
+  one-said x = one-moved x ∙ sym (append-nil (option_to_list x))
+
+  moved-uses : (event : Event) (verdict : Verdict) (seals : List Seal) → moved (uses_of event verdict seals) ≡ said_at event verdict seals
+  moved-uses event (out.Number n) seals = moved-drawn event n
+  moved-uses event (out.Accepted name n next_header payload) seals = one-said (number_where p (place_of name) n)
+  moved-uses event (out.Asked id) seals = moved-asked seals id
+  moved-uses event (out.Executed name id mark) seals = one-said (request_at p (taken_as (out.Executed name id mark)))
+  moved-uses event (out.Refusing name id notify) seals = one-said (request_at p (taken_as (out.Refusing name id notify)))
+  moved-uses event verdict seals = moved-end (ended_by event verdict)
 
   pub turn-listed : (turn : Turn) → reverse (moved (moves_of turn)) ≡ listed_at p turn
   turn-listed turn =
       let used : List ℕ = option_to_list (drawn_at p turn.event turn.step.verdict) in
-      let taken : List ℕ = option_to_list (packet_at p (accepted_in turn)) in
+      let packet : List ℕ = option_to_list (packet_at p (accepted_in turn)) in
+      let taken : List ℕ = option_to_list (request_at p (taken_in turn)) in
+      let asked : List ℕ = option_to_list (asked_at p turn.step.verdict turn.step.seals) in
       let seals : List Move = map (λ seal. Seals (key_iv seal)) turn.step.seals in
-      ap reverse (moved-calls turn.calls (uses_of turn.event turn.step.verdict ++ seals)
-      ∙ (moved-append (uses_of turn.event turn.step.verdict) seals
-      ∙ (ap (λ ns. ns ++ moved seals) (moved-uses turn.event turn.step.verdict)
-      ∙ (append_assoc used taken (moved seals)
-      ∙ ap (λ ns. used ++ (taken ++ ns)) (moved-seals turn.step.seals)))))
+      ap reverse (moved-calls turn.calls (uses_of turn.event turn.step.verdict turn.step.seals ++ seals)
+      ∙ (moved-append (uses_of turn.event turn.step.verdict turn.step.seals) seals
+      ∙ (ap (λ ns. ns ++ moved seals) (moved-uses turn.event turn.step.verdict turn.step.seals)
+      ∙ (append_assoc used (packet ++ (taken ++ asked)) (moved seals)
+      ∙ ap (λ ns. used ++ ns) (append_assoc packet (taken ++ asked) (moved seals)
+      ∙ ap (λ ns. packet ++ ns) (append_assoc taken asked (moved seals)
+      ∙ ap (λ ns. taken ++ (asked ++ ns)) (moved-seals turn.step.seals)))))))
 
   -- the numbers of a place after one more turn
   pub turn-numbers : (turn : Turn) (past : List Turn) → numbers_at p (acts_of (turn ∷ past)) ≡ listed_at p turn ++ numbers_at p (acts_of past)

@@ -90,7 +90,7 @@ seals-using [] = tt
 seals-using (seal ∷ seals) = (tt, seals-using seals)
 
 pub rest-using : (event : Event) (step : Step) → AllByRecursion IsUsing (rest_of event step)
-rest-using event step = all-append IsUsing (uses_of event step.verdict) (map (λ seal. Seals (key_iv seal)) step.seals) (all-weaker (uses_of event step.verdict) use-using (are-uses event step.verdict)) (seals-using step.seals)
+rest-using event step = all-append IsUsing (uses_of event step.verdict step.seals) (map (λ seal. Seals (key_iv seal)) step.seals) (all-weaker (uses_of event step.verdict step.seals) use-using (are-uses event step.verdict step.seals)) (seals-using step.seals)
 
 -- the numbers of a turn are those of its moves beside its calls
 pub rest-listed : (p : Place) (turn : Turn) → reverse (moved p (rest_of turn.event turn.step)) ≡ listed_at p turn

@@ -1,12 +1,13 @@
 -- The moves of an event beside its calls and seals are uses of numbers, or the end of a member.
-use Rattle.std.proofs.Common.{ℕ, Option, Some, None}
+use Rattle.std.proofs.Common.{ℕ, Option, Some, None, List, [], ◌∷◌}
 use Rattle.std.specs.List.{AllByRecursion}
 use Rattle.events.specs.declared.event.Event.{Event}
 use Rattle.events.specs.declared.event.Event.TheVariants as event
+use Rattle.events.specs.declared.seals.Seal.{Seal}
 use Rattle.events.specs.declared.verdict.Verdict.{Verdict}
 use Rattle.events.specs.declared.verdict.Verdict.TheVariants as out
 use Rattle.turn_laws.specs.Acts.{Calls, Ends, Leaps, Move, Opens, Seals, Starts, Uses}
-use Rattle.turn_laws.specs.Turns.{drawn_by, end_moves, uses_of}
+use Rattle.turn_laws.specs.Turns.{asked_by, drawn_by, end_moves, uses_of}
 use Rattle.turn_rules.specs.States.{ended_by}
 
 abbrev pub IsUseOrEnd : Move → Type 0
@@ -26,7 +27,14 @@ end-is : (x : Option ℕ) → AllByRecursion IsUseOrEnd (end_moves x)
 end-is None = tt
 end-is (Some member) = (tt, tt)
 
-pub are-uses : (event : Event) (verdict : Verdict) → AllByRecursion IsUseOrEnd (uses_of event verdict)
-are-uses event (out.Number n) = drawn-uses event n
-are-uses event (out.Accepted name n next_header payload) = (tt, tt)
-are-uses event verdict = end-is (ended_by event verdict)
+asked-uses : (seals : List Seal) (id : ℕ) → AllByRecursion IsUseOrEnd (asked_by seals id)
+asked-uses [] id = tt
+asked-uses (seal ∷ seals) id = (tt, tt)
+
+pub are-uses : (event : Event) (verdict : Verdict) (seals : List Seal) → AllByRecursion IsUseOrEnd (uses_of event verdict seals)
+are-uses event (out.Number n) seals = drawn-uses event n
+are-uses event (out.Accepted name n next_header payload) seals = (tt, tt)
+are-uses event (out.Asked id) seals = asked-uses seals id
+are-uses event (out.Executed name id mark) seals = (tt, tt)
+are-uses event (out.Refusing name id notify) seals = (tt, tt)
+are-uses event verdict seals = end-is (ended_by event verdict)

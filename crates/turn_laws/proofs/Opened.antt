@@ -1,5 +1,5 @@
 -- The peer may use the numbers that are open to it: the next one that it sends, and those that its window takes.
-use Rattle.std.proofs.Common.{◌≡◌, ◌≢◌, ℕ, ◌<◌, ◌≤◌, ◌==◌, ◌&&◌, Bool, true, false, Option, Some, None, List, [], ◌∷◌, ◌++◌, map, option_to_list, append-nil, refl, ap, sym, ◌∙◌, subst, if◌then◌else◌, ⊎_elim}
+use Rattle.std.proofs.Common.{◌≡◌, ◌≢◌, ℕ, ◌+◌, ◌<◌, ◌≤◌, ◌==◌, ◌&&◌, Bool, true, false, Option, Some, None, List, [], ◌∷◌, ◌++◌, map, option_to_list, append-nil, refl, ap, sym, ◌∙◌, subst, if◌then◌else◌, ⊎_elim}
 use Rattle.std.specs.Prelude.{is_some, reverse}
 use Rattle.std.proofs.lemmas.Bool.{eq-eqb, eqb-false, eqb-true, ne_eqb}
 use Rattle.std.proofs.lemmas.Option.{same_Some}
@@ -14,13 +14,18 @@ use Rattle.keeper_book.specs.declared.counters.Counter.TheVariants as counter
 use Rattle.keeper_book.specs.declared.records.Record.{Record}
 use Rattle.replay_set.specs.Window.{judged}
 use Rattle.replay_set.specs.declared.judgement.Judgement.TheVariants as judgement
+use Rattle.ike_window.specs.Requests.{IsNewRequest}
+use Rattle.ike_window.specs.Windows.{IsAnswered, ResponseWindow}
+use Rattle.turn_laws.proofs.Answered.{answered-peer, ids-answered, new-unused, since_entered-all}
+use Rattle.turn_rules.specs.IkeState.{turn_response}
+use Rattle.turn_rules.specs.Tasks.{peer_task}
 use Rattle.turn_laws.proofs.Moved.{rest-listed}
-use Rattle.turn_laws.proofs.Deeds.{Asked, Deed, Ended, PeerUses, Rested, Rests, Used, Used_theirs, number_theirs_of, rest_of, PeerNeed, spent_theirs, IsOfOne, spent_by_spir}
+use Rattle.turn_laws.proofs.Deeds.{Asked, Deed, Ended, IsAnswering, IsOpenTo, PeerUses, Rested, Rests, Used, Used_theirs, number_theirs_of, rest_of, PeerNeed, spent_theirs, IsOfOne, spent_by_spir}
 use Rattle.turn_laws.proofs.Listed.{moved}
-use Rattle.turn_laws.proofs.Lists.{all-append, all-both}
+use Rattle.turn_laws.proofs.Lists.{all-append, all-both, all-filter}
 use Rattle.turn_laws.proofs.Names.{begun-same}
 use Rattle.turn_laws.proofs.Outcomes.{idle-received, idle-theirs, rests-rest}
-use Rattle.turn_laws.proofs.Records.{deed-of}
+use Rattle.turn_laws.proofs.Records.{answering-run, deed-of}
 use Rattle.turn_laws.proofs.Begun.{begun-spir}
 use Rattle.turn_laws.proofs.Same.{is_name-true, is_origin-same}
 use Rattle.turn_laws.proofs.Theirs.{no-packet, not-both, told_theirs-held}
@@ -39,7 +44,7 @@ use Rattle.turn_rules.proofs.SlotTies.{all-weaker, first-has, records-slots_by}
 use Rattle.turn_rules.proofs.StateLaws.{associations-apart}
 use Rattle.turn_rules.specs.Draws.{child_of, counter_kind}
 use Rattle.turn_rules.specs.Ends.{Peer, is_by, own, performer}
-use Rattle.turn_rules.specs.Held.{first_some, found, is_counter, received_of, window_by}
+use Rattle.turn_rules.specs.Held.{first_some, found, greatest, is_counter, received_of, window_by}
 use Rattle.turn_rules.specs.Local.{Explained}
 use Rattle.turn_rules.specs.Peers.{AreDistinct, Differ, associations_by, entered_in}
 use Rattle.turn_rules.specs.Safe.{Packet, accepted_in}
@@ -302,10 +307,32 @@ module _ (boxes : ℕ) (past : List Turn) (local : Explained boxes past) (test :
     };
   }
 
-  -- the peer may use the number that it sends next
-  peer-may-send : slot.next < end_of slot.sa counter.EspOut → HoldsFor (holding_at (Theirs (peer_counter slot.sa counter.EspOut)) (acts_of past) (End Peer)) slot.next
-  peer-may-send below = may-use-it counter.EspOut slot.next below
-      (next-unused slot.sa.starts.esp_in slot.next (numbers counter.EspOut) (ap (λ (s : Slot). s.next) (slot-told (window_by past) (own Peer past) test slot is)))
+  abbrev MayUseOf : Counter → ℕ → Type 0
+  MayUseOf c n = HoldsFor (holding_at (Theirs (peer_counter slot.sa c)) (acts_of past) (End Peer)) n
+
+  told_slot : slot ≡ slot_by (window_by past) (own Peer past) slot.sa
+  told_slot = slot-told (window_by past) (own Peer past) test slot is
+
+  -- the peer may use the next number of a counter by which it sends
+  may-use-next : (c : Counter) (next n : ℕ) → next ≡ greatest (start_of slot.sa c) (map (λ k. k + 1) (numbers c)) → (n ≡ next) × (n < end_of slot.sa c) → MayUseOf c n
+  may-use-next c next n is_next is_open = may-use-it c n is_open.1 (next-unused (start_of slot.sa c) n (numbers c) (is_open.0 ∙ is_next))
+
+  pub peer-may-send : (n : ℕ) → IsOpenTo slot counter.EspOut n → MayUseOf counter.EspOut n
+  peer-may-send n is_open = may-use-next counter.EspOut slot.next n (ap (λ (s : Slot). s.next) told_slot) is_open
+
+  pub peer-may-seal : (n : ℕ) → IsOpenTo slot counter.Iv n → MayUseOf counter.Iv n
+  peer-may-seal n is_open = may-use-next counter.Iv slot.iv n (ap (λ (s : Slot). s.iv) told_slot) is_open
+
+  pub peer-may-ask : (n : ℕ) → IsOpenTo slot counter.Ask n → MayUseOf counter.Ask n
+  peer-may-ask n is_open = may-use-next counter.Ask slot.ask n (ap (λ (s : Slot). s.ask) told_slot) is_open
+
+  -- and the Message ID of each new request
+  pub peer-may-answer : (n : ℕ) → IsOpenTo slot counter.Answer n → MayUseOf counter.Answer n
+  peer-may-answer n is_open = may-use-it counter.Answer n is_open.0
+      (new-unused slot.sa.starts.ask n (filter_map (turn_response peer_task slot.sa.spir) (since_entered slot.sa.spir (own Peer past))) (numbers counter.Answer)
+      (ids-answered peer_task answered-peer slot.sa.spir (since_entered slot.sa.spir (own Peer past))
+      (since_entered-all (λ turn. IsAnswering turn.step) slot.sa.spir (own Peer past) (all-filter (λ (turn : Turn). IsAnswering turn.step) (is_by Peer) past (answering-run boxes past local))))
+      (subst (λ (w : ResponseWindow). IsNewRequest w.low (IsAnswered w) n) (ap (λ (s : Slot). s.answered) told_slot) is_open.1))
 
   -- and each number that its window takes
   peer-may-take : (n : ℕ) → n < end_of slot.sa counter.EspIn → judged slot.window n ≡ judgement.Fresh → HoldsFor (holding_at (Theirs (peer_counter slot.sa counter.EspIn)) (acts_of past) (End Peer)) n
@@ -315,10 +342,8 @@ module _ (boxes : ℕ) (past : List Turn) (local : Explained boxes past) (test :
 
 -- the peer may use the numbers that are open to it
 pub peer-may : (boxes : ℕ) (past : List Turn) → Explained boxes past → PeerMayUse past (acts_of past)
-peer-may boxes past local test slot is_first counter.EspOut n is_open =
-    subst (λ k. HoldsFor (holding_at (Theirs (peer_counter slot.sa counter.EspOut)) (acts_of past) (End Peer)) k) (sym is_open.0)
-    (peer-may-send boxes past local test slot is_first (subst (λ k. k < end_of slot.sa counter.EspOut) is_open.0 is_open.1))
+peer-may boxes past local test slot is_first counter.EspOut n is_open = peer-may-send boxes past local test slot is_first n is_open
 peer-may boxes past local test slot is_first counter.EspIn n is_open = peer-may-take boxes past local test slot is_first n is_open.0 is_open.1
-peer-may boxes past local test slot is_first counter.Iv n is_open = absurd is_open
-peer-may boxes past local test slot is_first counter.Ask n is_open = absurd is_open
-peer-may boxes past local test slot is_first counter.Answer n is_open = absurd is_open
+peer-may boxes past local test slot is_first counter.Iv n is_open = peer-may-seal boxes past local test slot is_first n is_open
+peer-may boxes past local test slot is_first counter.Ask n is_open = peer-may-ask boxes past local test slot is_first n is_open
+peer-may boxes past local test slot is_first counter.Answer n is_open = peer-may-answer boxes past local test slot is_first n is_open

@@ -5,7 +5,6 @@ use Rattle.turn_laws.proofs.Uses.{Spent}
 use Rattle.std.proofs.Common.{◌≡◌, ℕ, ◌⊎◌, inl, inr, Option, None, Some, List, [], ◌∷◌, ⊎_elim, refl, ap, map, ◌∙◌}
 use Rattle.events.specs.declared.event.Event.{Event}
 use Rattle.events.specs.declared.event.Event.TheVariants as event
-use Rattle.events.specs.declared.event.Party.TheVariants as parties
 use Rattle.events.specs.declared.turn.Step.{Step}
 use Rattle.events.specs.declared.turn.Turn.{Turn}
 use Rattle.events.specs.declared.verdict.Verdict.{Verdict}
@@ -15,13 +14,15 @@ use Rattle.keeper_book.specs.declared.calls.Call.{Call}
 use Rattle.keeper_book.specs.declared.counters.Counter.{Counter}
 use Rattle.keeper_book.specs.declared.counters.Counter.TheVariants as counter
 use Rattle.turn_laws.proofs.Covers.{are_ready-calls}
-use Rattle.turn_laws.proofs.Deeds.{number_theirs, Asked, Deed, Ended, IsIdle, MemberUses, PeerUses, Rested, Rests, Used, Used_theirs, UsesIt, rest_of, spent_by, lots_of, LotNeed, IsLotReady, with_lot, Left, Leased, InVain}
+use Rattle.turn_laws.proofs.Deeds.{IsAnswering, none-answering, number_theirs, Asked, Deed, Ended, IsIdle, MemberUses, PeerUses, Rested, Rests, Used, Used_theirs, UsesIt, rest_of, spent_by, lots_of, LotNeed, IsLotReady, with_lot, Left, Leased, InVain}
 use Rattle.turn_laws.specs.Acts.{Ends}
-use Rattle.turn_laws.specs.Turns.{end_moves, number_taken, uses_of}
+use Rattle.turn_laws.specs.Turns.{answered, answered_in, end_moves, number_taken, uses_of}
 use Rattle.turn_rules.specs.Datagrams.{Delivery, delivery_of}
 use Rattle.turn_rules.proofs.Ties.{used-unsealed}
-use Rattle.turn_rules.specs.Held.{accepted, received, said_in, used, received_in}
-use Rattle.turn_rules.specs.Slots.{sent}
+use Rattle.turn_rules.specs.Held.{accepted, received, said_in, used, used_in, received_in}
+use Rattle.turn_rules.specs.IkeState.{taken_id}
+use Rattle.turn_rules.specs.Safe.{taken_as}
+use Rattle.events.specs.declared.seals.Seal.{Seal}
 use Rattle.turn_rules.specs.Tasks as task
 use Rattle.turn_rules.specs.Tasks.{Task, member_task, peer_task, receipt}
 use Rattle.turn_rules.specs.States.{ended_by}
@@ -32,6 +33,12 @@ pub data Outcome (past : List Turn) (event : Event) (calls : List Call) (step : 
   Over : (member : ℕ) → step.verdict ≡ out.Down → ended_by event out.Down ≡ Some member → IsQuiet step → Outcome past event calls step
   Ours_used : (u : MemberUses past event calls step) (needed : List Spent) → UsesIt needed event step → Outcome past event calls step
   Theirs_used : PeerUses past event calls step → Outcome past event calls step
+
+-- a verdict that uses nothing takes no request
+pub idle-untaken : (verdict : Verdict) → IsIdle verdict → taken_as verdict ≡ None
+idle-untaken (out.Executed name id mark) idle = absurd idle
+idle-untaken (out.Refusing name id notify) idle = absurd idle
+idle-untaken verdict idle = refl
 
 module _ (past : List Turn) (event : Event) (calls : List Call) (step : Step) where
   abbrev UsesSome : Type 0
@@ -57,23 +64,26 @@ module _ (past : List Turn) (event : Event) (calls : List Call) (step : Step) wh
   outcome-of (Used u) = ⊎_elim Idle (λ some. Ours_used u some.0 some.1) (used-outcome u)
   outcome-of (Used_theirs u) = Theirs_used u
 
-  -- nothing is executed
-  pub outcome-served : Outcome past event calls step → step.served ≡ None
-  outcome-served (Idle rests) = rests.quiet.served
-  outcome-served (Over member said ends quiet) = quiet.served
-  outcome-served (Ours_used u needed it) = it.served
-  outcome-served (Theirs_used u) = u.served
+  -- what is executed is a request that is taken, which is answered
+  pub outcome-answering : Outcome past event calls step → IsAnswering step
+  outcome-answering (Idle rests) = none-answering step rests.served (idle-untaken step.verdict rests.idle)
+  outcome-answering (Over member said ends quiet) = none-answering step quiet.served (ap taken_as said)
+  outcome-answering (Ours_used u needed it) = it.answering
+  outcome-answering (Theirs_used u) = u.answering
 
 -- a verdict that uses nothing, and ends no member
 idle-ended : (event : Event) (verdict : Verdict) → IsIdle verdict → ended_by event verdict ≡ None
 idle-ended (event.Crash member) out.Down idle = absurd idle
 idle-ended event verdict idle = refl
 
-idle-uses : (event : Event) (verdict : Verdict) → IsIdle verdict → uses_of event verdict ≡ []
-idle-uses event (out.Number n) idle = absurd idle
-idle-uses event (out.Accepted name n next_header payload) idle = absurd idle
-idle-uses event out.Down idle = absurd idle
-idle-uses event verdict idle = ap end_moves (idle-ended event verdict idle)
+idle-uses : (event : Event) (verdict : Verdict) (seals : List Seal) → IsIdle verdict → uses_of event verdict seals ≡ []
+idle-uses event (out.Number n) seals idle = absurd idle
+idle-uses event (out.Accepted name n next_header payload) seals idle = absurd idle
+idle-uses event (out.Asked id) seals idle = absurd idle
+idle-uses event (out.Executed name id mark) seals idle = absurd idle
+idle-uses event (out.Refusing name id notify) seals idle = absurd idle
+idle-uses event out.Down seals idle = absurd idle
+idle-uses event verdict seals idle = ap end_moves (idle-ended event verdict idle)
 
 idle-accepted : (spir : ℕ) (verdict : Verdict) → IsIdle verdict → accepted spir verdict ≡ None
 idle-accepted spir (out.Accepted name n next_header payload) idle = absurd idle
@@ -86,6 +96,18 @@ idle-received spir event verdict idle = go (delivery_of event)
     go None = refl
     go (Some delivery) = idle-accepted spir verdict idle
 
+idle-id : (spir : ℕ) (verdict : Verdict) → IsIdle verdict → taken_id spir verdict ≡ None
+idle-id spir (out.Executed name id mark) idle = absurd idle
+idle-id spir (out.Refusing name id notify) idle = absurd idle
+idle-id spir verdict idle = refl
+
+idle-answered : (spir : ℕ) (event : Event) (verdict : Verdict) → IsIdle verdict → answered spir event verdict ≡ None
+idle-answered spir event verdict idle = go (delivery_of event)
+  where
+    go : (x : Option Delivery) → answered_in spir (receipt x) verdict ≡ None
+    go None = refl
+    go (Some delivery) = idle-id spir verdict idle
+
 idle-said : (spir : ℕ) (c : Counter) (asked : Task) (verdict : Verdict) → IsIdle verdict → said_in spir c asked verdict ≡ None
 idle-said spir counter.EspOut (task.Draw other) (out.Number n) idle = absurd idle
 idle-said spir counter.EspOut (task.Draw other) verdict idle = refl
@@ -95,22 +117,19 @@ idle-said spir counter.Ask (task.Ask other request) (out.Asked id) idle = absurd
 idle-said spir counter.Ask (task.Ask other request) verdict idle = refl
 idle-said spir c asked verdict idle = refl
 
-pub idle-sent : (spir : ℕ) (event : Event) (step : Step) → Rests step → sent spir event step ≡ None
-idle-sent spir event step rests = idle-said spir counter.EspOut (peer_task event) step.verdict rests.idle
-
 pub idle-used : (spir : ℕ) (c : Counter) (event : Event) (step : Step) → Rests step → used spir c event step ≡ None
-idle-used spir c event step rests = used-unsealed end.Cluster spir c (member_task event) step rests.quiet.seals (idle-said spir c (member_task event) step.verdict rests.idle)
+idle-used spir c event step rests = used-unsealed end.Cluster spir c (member_task event) step rests.seals (idle-said spir c (member_task event) step.verdict rests.idle)
 
 pub idle-taken : (spir : ℕ) (c : Counter) (event : Event) (step : Step) → Rests step → number_taken spir c event step ≡ None
 idle-taken spir counter.EspIn event step rests = idle-received spir event step.verdict rests.idle
 idle-taken spir counter.EspOut event step rests = idle-used spir counter.EspOut event step rests
 idle-taken spir counter.Iv event step rests = idle-used spir counter.Iv event step rests
 idle-taken spir counter.Ask event step rests = idle-used spir counter.Ask event step rests
-idle-taken spir counter.Answer event step rests = idle-used spir counter.Answer event step rests
+idle-taken spir counter.Answer event step rests = idle-answered spir event step.verdict rests.idle
 
 -- a turn that uses nothing makes no moves beside its calls
 pub rests-rest : (event : Event) (step : Step) → Rests step → rest_of event step ≡ []
-rests-rest event step rests = let idle : _ = idle-uses event step.verdict rests.idle in let none : _ = rests.quiet.seals in rw (idle, none)
+rests-rest event step rests = let none : _ = rests.seals in let idle : _ = idle-uses event step.verdict [] rests.idle in rw (none, idle)
 
 pub over-rest : (event : Event) (step : Step) (member : ℕ) → step.verdict ≡ out.Down → ended_by event out.Down ≡ Some member → IsQuiet step → rest_of event step ≡ Ends ∷ []
 over-rest event step member said ends quiet = let none : _ = quiet.seals in rw (said, ends, none)
@@ -132,15 +151,27 @@ over-received spir event = go (delivery_of event)
     go None = refl
     go (Some delivery) = refl
 
+pub over-answered : (spir : ℕ) (event : Event) → answered spir event out.Down ≡ None
+over-answered spir event = go (delivery_of event)
+  where
+    go : (x : Option Delivery) → answered_in spir (receipt x) out.Down ≡ None
+    go None = refl
+    go (Some delivery) = refl
+
 pub over-taken : (spir : ℕ) (c : Counter) (event : Event) (step : Step) → step.verdict ≡ out.Down → IsQuiet step → number_taken spir c event step ≡ None
 over-taken spir counter.EspIn event step said quiet = ap (received spir event) said ∙ over-received spir event
 over-taken spir counter.EspOut event step said quiet = over-used spir counter.EspOut event step said quiet
 over-taken spir counter.Iv event step said quiet = over-used spir counter.Iv event step said quiet
 over-taken spir counter.Ask event step said quiet = over-used spir counter.Ask event step said quiet
-over-taken spir counter.Answer event step said quiet = over-used spir counter.Answer event step said quiet
+over-taken spir counter.Answer event step said quiet = ap (answered spir event) said ∙ over-answered spir event
 
 -- and nothing of the peer
+idle-spent : (spir : ℕ) (c : Counter) (event : Event) (step : Step) → Rests step → used_in end.Peer spir c (peer_task event) step ≡ None
+idle-spent spir c event step rests = used-unsealed end.Peer spir c (peer_task event) step rests.seals (idle-said spir c (peer_task event) step.verdict rests.idle)
+
 pub idle-theirs : (spir : ℕ) (c : Counter) (event : Event) (step : Step) → Rests step → number_theirs spir c event step ≡ None
-idle-theirs spir counter.EspOut event step rests = idle-sent spir event step rests
+idle-theirs spir counter.EspOut event step rests = idle-spent spir counter.EspOut event step rests
 idle-theirs spir counter.EspIn event step rests = idle-received spir event step.verdict rests.idle
-idle-theirs spir c event step rests = refl
+idle-theirs spir counter.Answer event step rests = idle-answered spir event step.verdict rests.idle
+idle-theirs spir counter.Iv event step rests = idle-spent spir counter.Iv event step rests
+idle-theirs spir counter.Ask event step rests = idle-spent spir counter.Ask event step rests

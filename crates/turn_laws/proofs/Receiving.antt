@@ -26,39 +26,52 @@ use Rattle.keeper_book.specs.declared.records.Record.{Record}
 use Rattle.turn_laws.specs.Acts.{Uses}
 use Rattle.turn_laws.proofs.Covers.{ready-as, ready-calls}
 use Rattle.turn_laws.proofs.Single.{one-used, one-peer-used}
-use Rattle.turn_laws.proofs.Deeds.{number_theirs, Deed, IsIdle, Rested, Rests, Spends, UsesOne, rest_of}
+use Rattle.turn_laws.proofs.Deeds.{number_theirs, Deed, IsIdle, Rested, Rests, Spends, UsesOne, quiet-rests, rest_of}
 use Rattle.turn_laws.proofs.Members.{member-performs, own-held}
 use Rattle.turn_laws.proofs.Names.{number-failed, number-passed, place-ours}
 use Rattle.turn_laws.proofs.Uses.{Counts, number_at, used-alone}
 use Rattle.turn_laws.specs.Places.{Ours, Place, Theirs, place_of}
-use Rattle.turn_laws.specs.Turns.{number_taken}
+use Rattle.turn_laws.specs.Turns.{answered, number_taken}
 use Rattle.turn_rules.proofs.Refusals.{stop-own}
 use Rattle.turn_rules.specs.Deliveries.{PeerTakes}
 use Rattle.turn_rules.specs.Draws.{counter_name, reach_of, refusal_of_stop}
 use Rattle.turn_rules.specs.Ends.{Member, Peer, end_of_party, is_refused_by_run, own, performer_of}
-use Rattle.turn_rules.specs.IkeState.{is_of_spir}
-use Rattle.turn_rules.specs.Held.{Held, accepted, held_by, received, used, window_by}
+use Rattle.turn_rules.specs.IkeState.{is_of_spir, taken_id}
+use Rattle.turn_rules.specs.Held.{Held, accepted, held_by, received, used, used_in, window_by}
 use Rattle.turn_rules.specs.MemberPackets.{DropsQuietly, IsReceived, MemberReceives, TakesPacket, inbound_of}
 use Rattle.turn_rules.specs.Packets.{Drops, IsVerdictOf, OpensEsp}
 use Rattle.turn_rules.specs.Peers.{record_entered}
-use Rattle.turn_rules.specs.Safe.{Packet, accepted_as}
+use Rattle.turn_rules.specs.Safe.{Packet, accepted_as, taken_as}
 use Rattle.turn_rules.specs.States.{told_state}
-use Rattle.turn_rules.specs.Slots.{Slot, SlotReceives, SlotTakes, first_slot, peer_counter, receives_at, sent, slot_inbound, slots_by}
+use Rattle.turn_rules.specs.Slots.{Slot, SlotReceives, SlotTakes, first_slot, peer_counter, receives_at, slot_inbound, slots_by}
 use Rattle.turn_rules.specs.Steps.{IsQuiet}
+use Rattle.turn_rules.specs.Tasks as task
+use Rattle.turn_rules.specs.Tasks.{member_task, peer_task}
+use Rattle.turn_rules.proofs.Ties.{used-receiving}
+use Rattle.ha_base.specs.declared.counter_names.End.TheVariants as end
 
 -- an event that brings a packet to an end
 pub record Brings (event : Event) (to : Party) : Type 0 where
   pub performs : (verdict : Verdict) → performer_of event verdict ≡ Some (end_of_party to)
   pub receives : (spir : ℕ) (verdict : Verdict) → received spir event verdict ≡ accepted spir verdict
-  pub uses_none : (spir : ℕ) (c : Counter) (step : Step) → IsQuiet step → used spir c event step ≡ None
-  pub sends_none : (spir : ℕ) (step : Step) → sent spir event step ≡ None
+  pub answers : (spir : ℕ) (verdict : Verdict) → answered spir event verdict ≡ taken_id spir verdict
+  pub member_receives : member_task event ≡ task.Receive
+  pub peer_receives : peer_task event ≡ task.Receive
   pub no_entry : (verdict : Verdict) → record_entered event verdict ≡ None
+
+-- no number is used where nothing is sealed and said
+module _ (event : Event) (to : Party) (brings : Brings event to) where
+  pub uses_none : (spir : ℕ) (c : Counter) (step : Step) → IsQuiet step → used spir c event step ≡ None
+  uses_none spir c step quiet = ap (λ asked. used_in end.Cluster spir c asked step) brings.member_receives ∙ used-receiving end.Cluster spir c step quiet
+
+  spends_none : (spir : ℕ) (c : Counter) (step : Step) → IsQuiet step → used_in end.Peer spir c (peer_task event) step ≡ None
+  spends_none spir c step quiet = ap (λ asked. used_in end.Peer spir c asked step) brings.peer_receives ∙ used-receiving end.Peer spir c step quiet
 
 -- an answer that is no packet accepted
 dropped-rests : (step : Step) (why : EspDrop) (answer : EspVerdict) (after : List ℕ) → IsQuiet step → answer ≡ esp.Dropped why → IsVerdictOf answer after step.verdict → Rests step
 dropped-rests step why answer after quiet is worded =
     let said : step.verdict ≡ out.DroppedEsp why = subst (λ a. IsVerdictOf a after step.verdict) is worded in
-    record { idle = subst (λ v. IsIdle v) (sym said) tt; quiet = quiet }
+    quiet-rests step (subst (λ v. IsIdle v) (sym said) tt) quiet
 
 -- a packet that was accepted
 record Accepts (name : CounterName) (n : ℕ) (verdict : Verdict) : Type 0 where
@@ -74,6 +87,7 @@ accepts name packet answer after verdict is worded =
 accepts-spends : (event : Event) (name : CounterName) (place : Place) (n : ℕ) (step : Step) → place_of name ≡ place → IsQuiet step → Accepts name n step.verdict → Spends place n event step
 accepts-spends event name place n step named quiet a = record {
   served = quiet.served;
+  untaken = ap taken_as a.said;
   uses_it = used-alone place n (Uses place n) (rest_of event step) (Counts refl) (let said : _ = a.said in let none : _ = quiet.seals in rw (said, none, named));
   of_packet = λ packet is. of_packet packet (same_Some (record { name = name; number = n }) packet (ap accepted_as (sym a.said) ∙ is));
 }
@@ -91,17 +105,17 @@ accepted-number sa name n verdict same a other =
 module _ (event : Event) (to : Party) (brings : Brings event to) (sa : Record) (n : ℕ) (step : Step) (quiet : IsQuiet step) where
   -- by a member, and by the peer
   accepted-told : Accepts (counter_name sa counter.EspIn) n step.verdict → (other : ℕ) (d : Counter) → number_taken other d event step ≡ number_at (Ours other d) (Ours sa.spir counter.EspIn) n
-  accepted-told a other counter.EspOut = brings.uses_none other counter.EspOut step quiet ∙ number-failed (sa.spir == other) n
-  accepted-told a other counter.Iv = brings.uses_none other counter.Iv step quiet ∙ number-failed (sa.spir == other) n
-  accepted-told a other counter.Ask = brings.uses_none other counter.Ask step quiet ∙ number-failed (sa.spir == other) n
-  accepted-told a other counter.Answer = brings.uses_none other counter.Answer step quiet ∙ number-failed (sa.spir == other) n
+  accepted-told a other counter.EspOut = uses_none event to brings other counter.EspOut step quiet ∙ number-failed (sa.spir == other) n
+  accepted-told a other counter.Iv = uses_none event to brings other counter.Iv step quiet ∙ number-failed (sa.spir == other) n
+  accepted-told a other counter.Ask = uses_none event to brings other counter.Ask step quiet ∙ number-failed (sa.spir == other) n
+  accepted-told a other counter.Answer = brings.answers other step.verdict ∙ ap (taken_id other) a.said ∙ number-failed (sa.spir == other) n
   accepted-told a other counter.EspIn = brings.receives other step.verdict ∙ accepted-number sa (counter_name sa counter.EspIn) n step.verdict refl a other
 
   accepted_theirs-told : Accepts (peer_counter sa counter.EspIn) n step.verdict → (other : ℕ) (d : Counter) → number_theirs other d event step ≡ number_at (Ours other d) (Ours sa.spir counter.EspIn) n
-  accepted_theirs-told a other counter.EspOut = brings.sends_none other step ∙ number-failed (sa.spir == other) n
-  accepted_theirs-told a other counter.Iv = number-failed (sa.spir == other) n
-  accepted_theirs-told a other counter.Ask = number-failed (sa.spir == other) n
-  accepted_theirs-told a other counter.Answer = number-failed (sa.spir == other) n
+  accepted_theirs-told a other counter.EspOut = spends_none event to brings other counter.EspOut step quiet ∙ number-failed (sa.spir == other) n
+  accepted_theirs-told a other counter.Iv = spends_none event to brings other counter.Iv step quiet ∙ number-failed (sa.spir == other) n
+  accepted_theirs-told a other counter.Ask = spends_none event to brings other counter.Ask step quiet ∙ number-failed (sa.spir == other) n
+  accepted_theirs-told a other counter.Answer = brings.answers other step.verdict ∙ ap (taken_id other) a.said ∙ number-failed (sa.spir == other) n
   accepted_theirs-told a other counter.EspIn = brings.receives other step.verdict ∙ accepted-number sa (peer_counter sa counter.EspIn) n step.verdict refl a other
 
 -- a member receives a packet, by what it holds
@@ -143,7 +157,7 @@ module _ (boxes : ℕ) (past : List Turn) (own_spir : (member spir : ℕ) (held 
       is_held = is_held;
       is_open = opens.1.fresh;
       ready = ready-as (reach_of held counter.EspIn) packet.number Stopped (λ why rest. (rest ≡ []) × Rests step) Took (λ high rest. (rest ≡ []) × UsesOne held.sa.spir counter.EspIn packet.number event step)
-          (λ why rest s. (s.0, record { idle = subst (λ v. IsIdle v) (sym (refused why s.1)) tt; quiet = quiet }))
+          (λ why rest s. (s.0, quiet-rests step (subst (λ v. IsIdle v) (sym (refused why s.1)) tt) quiet))
           (λ high rest s. (s.0, take-uses s.1))
           calls takes;
     })
@@ -183,7 +197,7 @@ module _ (past : List Turn) (event : Event) (brings : Brings event parties.Peer)
         is_first = is_first;
         is_open = (opens.1.means.below_end, opens.1.fresh);
         no_calls = takes.no_calls;
-        not_ours = λ spir c. brings.uses_none spir c step takes.quiet;
+        not_ours = λ spir c. uses_none event parties.Peer brings spir c step takes.quiet;
         told = accepted_theirs-told event parties.Peer brings slot.sa packet.number step takes.quiet took;
         no_entry = brings.no_entry step.verdict;
         spends = accepts-spends event (peer_counter slot.sa counter.EspIn) (Theirs (peer_counter slot.sa counter.EspIn)) packet.number step refl takes.quiet took;

@@ -9,6 +9,8 @@ use Rattle.events.specs.declared.turn.Turn.{Turn}
 use Rattle.keeper_book.specs.Told.{seen}
 use Rattle.keeper_book.specs.declared.calls.Call.{Call}
 use Rattle.keeper_book.specs.declared.records.Taken.{Taken}
+use Rattle.turn_laws.proofs.Answered.{AreAnswering}
+use Rattle.turn_laws.proofs.Outcomes.{outcome-answering, outcome-of}
 use Rattle.turn_laws.proofs.Covers.{used-calls}
 use Rattle.turn_laws.proofs.Deeds.{Asked, Deed, Ended, HasItsRecord, MemberUses, Rested, Used, Used_theirs}
 use Rattle.turn_laws.proofs.Explained.{fits-deed}
@@ -71,3 +73,11 @@ local-records boxes (turn ∷ past) local =
 -- a turn that is explained is a deed
 pub deed-of : (boxes : ℕ) (past : List Turn) (turn : Turn) → IsByRule boxes past turn → Explained boxes past → Deed past turn.event turn.calls turn.step
 deed-of boxes past turn explained local = deed-with boxes past turn (local-records boxes past local) explained local
+
+-- in each turn what is executed is a request that is taken, which is answered
+pub answering-run : (boxes : ℕ) (past : List Turn) → Explained boxes past → AreAnswering past
+answering-run boxes [] local = tt
+answering-run boxes (turn ∷ past) local = (
+  outcome-answering past turn.event turn.calls turn.step (outcome-of past turn.event turn.calls turn.step (deed-of boxes past turn local.0 local.1)),
+  answering-run boxes past local.1,
+)

@@ -1,19 +1,15 @@
 -- Every move keeps what is owned.
-use Rattle.std.specs.List.{list_any}
 use Rattle.keeper_book.specs.declared.faults.KeeperFault.TheVariants as fault
 use Rattle.keeper_book.specs.declared.records.Taken.{Taken}
 use Rattle.keeper_book.specs.declared.calls.KeeperAnswer.TheVariants as answer
 use Rattle.std.proofs.lemmas.List.{length-map}
-use Rattle.std.proofs.lemmas.List.Folds.{list_any-append}
 use Rattle.turn_rules.specs.Held.{first_some, is_counter, granted, covered, is_named}
 use Rattle.keeper_book.specs.declared.records.Record.{Record}
 use Rattle.keeper_book.specs.declared.calls.KeeperAnswer.{KeeperAnswer}
-use Rattle.std.proofs.Common.{◌≡◌, ℕ, ◌+◌, ◌≤◌, ◌==◌, Bool, true, false, Option, Some, None, MatchOption, List, [], ◌∷◌, ◌++◌, length, map, ⊎_elim, refl, ap, sym, ◌∙◌, subst, arith, if◌then◌else◌, inl, inr, ◌||◌, ◌&&◌, ◌≢◌, ◌⊎◌}
-use Rattle.std.proofs.lemmas.Bool.{eqb-true, eq-eqb}
-use Rattle.std.proofs.lemmas.Option.{same_Some}
+use Rattle.std.proofs.Common.{◌≡◌, ℕ, ◌+◌, ◌≤◌, ◌==◌, Bool, true, false, Option, Some, None, List, [], ◌∷◌, length, map, refl, ap, sym, ◌∙◌, subst, arith, if◌then◌else◌, ◌&&◌, ◌≢◌}
+use Rattle.std.proofs.lemmas.Bool.{eqb-true}
 use Rattle.std.specs.Prelude.{is_some}
-use Rattle.std.specs.Option.{option_map}
-use Rattle.keeper_book.specs.Book.{book_entered, Book, empty, Enters, Entry, entry_of, fresh, pool_next, raised_at, refusal, taken_over, is_spent, settled, Answers, closed}
+use Rattle.keeper_book.specs.Book.{Book, empty, Enters, Entry, entry_of, pool_next, refusal, Answers}
 use Rattle.ha_base.specs.declared.counter_names.CounterName.{CounterName}
 use Rattle.keeper_book.specs.Counters.{counter_named, five_at}
 use Rattle.keeper_book.specs.Records.{spir_of_origin}
@@ -23,287 +19,24 @@ use Rattle.keeper_book.specs.declared.calls.KeeperAsk.{KeeperAsk}
 use Rattle.keeper_book.specs.declared.calls.KeeperAsk.TheVariants as ask
 use Rattle.keeper_book.specs.declared.counters.Counter.{Counter}
 use Rattle.keeper_book.specs.declared.counters.Counter.TheVariants as counter
-use Rattle.turn_laws.proofs.BookRecords.{entry-record, record_in, IsOfAdded, record_of, of-kept}
-use Rattle.turn_laws.proofs.Books.{ShowsCovered, answers-entry, shows-covered, shows-taken}
+use Rattle.turn_laws.proofs.Books.{shows-taken}
 use Rattle.turn_laws.proofs.Columns.{rising-none, goes_on-refl, goes_on-trans, rising-one}
-use Rattle.turn_laws.proofs.Entries.{entry_after, entry-entered}
 use Rattle.turn_laws.proofs.Holdings.{owned-after, keeps-goes, differ, is_actor-same}
-use Rattle.turn_laws.proofs.Pools.{lease-within, shows-leased}
-use Rattle.turn_laws.specs.Acts.{Act, Calls, Ends, IsImport, IsUnstarted, Leaps, MayAsk, MayCover, MayDo, Move, Opens, Seals, Starts, Uses, act_by, begun_after, begun_at, begun_by, begun_called, begun_named, begun_open, column_at, effect_begun, effect_of, effect_of_use, entered_as, holding_at, uses_at, with_begun, Opened, opened_by, settled_as, opened_at, effect_ours, effect_of_ours, half_begun, HoldsFor}
+use Rattle.turn_laws.specs.Acts.{Act, Calls, Ends, IsUnstarted, Leaps, MayAsk, MayDo, Move, Opens, Seals, Starts, Uses, act_by, begun_after, begun_at, begun_by, begun_called, begun_named, begun_open, column_at, effect_begun, effect_of, effect_of_use, entered_as, holding_at, uses_at, with_begun, Opened, opened_by, settled_as, opened_at, effect_ours, effect_of_ours, half_begun, HoldsFor}
 use Rattle.turn_laws.specs.Columns.{nothing, ColumnGoesOn, Column}
-use Rattle.turn_laws.specs.Holdings.{Actor, Holding, IsNotIn, IsOwned, Jumps, Nothing, uses_after, Effect, Draws, holding_after, Half, column_begun, Begins, Passes, is_actor, Rises, raised_to, drawn, jumped_to}
-use Rattle.turn_laws.specs.Owned.{Lawful, Owned, WritesBook, column_half, IsSettled, IsFirstUnheld}
+use Rattle.turn_laws.specs.Holdings.{Actor, Holding, IsNotIn, IsOwned, Jumps, Nothing, uses_after, Effect, Draws, holding_after, Half, column_begun, Passes, is_actor}
+use Rattle.turn_laws.specs.Owned.{Lawful, Owned, WritesBook, column_half, IsFirstUnheld}
 use Rattle.turn_laws.specs.Places.{Ours, Place, Pooled, Theirs, column, is_place, place_of, column_ours}
 use Rattle.turn_laws.proofs.Begun.{entered-has, fewer-used, none-before}
-use Rattle.turn_laws.proofs.Keeping.{keeps-move, column_half-none, unopened, unbegun-drawn, no_entry}
+use Rattle.turn_laws.proofs.Keeping.{keeps-move, column_half-none, unbegun-drawn, no_entry}
 use Rattle.keeper_book.specs.Pools.{pool_end}
 use Rattle.keeper_book.specs.declared.pools.Pool.{Pool}
 use Rattle.keeper_book.specs.declared.pools.Pool.TheVariants as pools
-
--- a call, or another move
-abbrev IsNoCall : Move → Type 0
-IsNoCall (Calls call) = ⊥
-IsNoCall move = Unit {0}
-
-move-cases : {P : Type 0} (move : Move) → ((call : Call) → move ≡ Calls call → P) → (IsNoCall move → P) → P
-move-cases (Calls call) f g = f call refl
-move-cases (Uses q n) f g = g tt
-move-cases (Seals key) f g = g tt
-move-cases (Leaps q n) f g = g tt
-move-cases (Opens ticket made) f g = g tt
-move-cases (Starts sa) f g = g tt
-move-cases Ends f g = g tt
-
--- a move that is no call leaves the book
-same-book : (old new : Book) (move : Move) → IsNoCall move → WritesBook old move new → new ≡ old
-same-book old new (Calls call) none writes = absurd none
-same-book old new (Uses q n) none writes = writes
-same-book old new (Seals key) none writes = writes
-same-book old new (Leaps q n) none writes = writes
-same-book old new (Opens ticket made) none writes = writes
-same-book old new (Starts sa) none writes = writes
-same-book old new Ends none writes = writes
-
-same-entries : (old new : Book) (move : Move) → IsNoCall move → WritesBook old move new → new.entries ≡ old.entries
-same-entries old new move none writes = ap (λ (b : Book). b.entries) (same-book old new move none writes)
-
--- a ticket that was spent stays so
-spent-more : (ticket : ℕ) (spent more : List ℕ) → is_spent ticket spent ≡ true → is_spent ticket (spent ++ more) ≡ true
-spent-more ticket spent more is = list_any-append (λ t. t == ticket) spent more ∙ ap (λ b. b || list_any (λ t. t == ticket) more) is
-
-spent-added : (ticket : ℕ) (spent : List ℕ) → is_spent ticket (spent ++ ticket ∷ []) ≡ true
-spent-added ticket spent = list_any-append (λ t. t == ticket) spent (ticket ∷ []) ∙ (let here : (ticket == ticket) ≡ true = eq-eqb ticket ticket refl in rw here (or-true (list_any (λ t. t == ticket) spent)))
-  where
-    or-true : (b : Bool) → (b || true) ≡ true
-    or-true true = refl
-    or-true false = refl
-
-spent-kept : (old new : Book) (asked : KeeperAsk) (answered : KeeperAnswer) → Answers old asked answered new → (ticket : ℕ) → is_spent ticket old.spent ≡ true → is_spent ticket new.spent ≡ true
-spent-kept old new asked answered answers ticket is = ⊎_elim
-    (λ same. ap (λ (b : Book). is_spent ticket b.spent) same ∙ is)
-    (λ has. ap (λ (b : Book). is_spent ticket b.spent) has.is ∙ entered asked)
-    (answers-entry old new asked answered answers)
-  where
-    entered : (asked : KeeperAsk) → is_spent ticket (book_entered old asked).spent ≡ true
-    entered (ask.Enter sa) = is
-    entered (ask.TakeOver asked member) = is
-    entered (ask.Cover asked kind child epoch upto) = is
-    entered (ask.Lease pool count) = is
-    entered (ask.Settle spends asked sa member) = spent-more ticket old.spent (spends ∷ []) is
-    entered (ask.Look looked) = is
-
-and-false : (b : Bool) → (b && false) ≡ false
-and-false true = refl
-and-false false = refl
-
-other_counter : (c : Counter) → c ≢ counter.Iv → is_counter counter.Iv c ≡ false
-other_counter counter.EspOut other = refl
-other_counter counter.EspIn other = refl
-other_counter counter.Iv other = absurd (other refl)
-other_counter counter.Ask other = refl
-other_counter counter.Answer other = refl
-
--- an effect that begins no first epoch, and passes nothing on
-abbrev IsLaterEffect : Effect → Type 0
-IsLaterEffect (Begins w h) = h.epoch ≢ 1
-IsLaterEffect (Passes w v) = ⊥
-IsLaterEffect effect = Unit {0}
-
-changed-before : (f : Holding → Holding) → ((x : Holding) → (f x).epoch ≡ x.epoch) → (b : Bool) (x : Option Holding) (h : Holding) → (if b then option_map f x else x) ≡ Some h → h.epoch ≡ 1 → (g : Holding) × (x ≡ Some g) × (g.epoch ≡ 1)
-changed-before f keeps true None h is one = absurd (cc)
-changed-before f keeps true (Some g) h is one = (g, refl, sym (keeps g) ∙ (ap (λ (x : Holding). x.epoch) (same_Some (f g) h is) ∙ one))
-changed-before f keeps false x h is one = (h, is, one)
-
--- who holds a first epoch after it held one before
-first-before : (effect : Effect) (held : Actor → Option Holding) → IsLaterEffect effect → (v : Actor) (h : Holding) → holding_after effect held v ≡ Some h → h.epoch ≡ 1 → (g : Holding) × (held v ≡ Some g) × (g.epoch ≡ 1)
-first-before Nothing held later v h is one = (h, is, one)
-first-before (Passes w u) held later v h is one = absurd later
-first-before (Begins w g) held later v h is one = by_test (is_actor w v) is
-  where
-    by_test : (b : Bool) → (if b then Some g else held v) ≡ Some h → (g : Holding) × (held v ≡ Some g) × (g.epoch ≡ 1)
-    by_test true is = absurd (later (ap (λ (x : Holding). x.epoch) (same_Some g h is) ∙ one))
-    by_test false is = (h, is, one)
-first-before (Rises w n) held later v h is one = changed-before (raised_to n) (λ x. refl) (is_actor w v) (held v) h is one
-first-before (Draws w n) held later v h is one = changed-before (drawn n) (λ x. refl) (is_actor w v) (held v) h is one
-first-before (Jumps w n) held later v h is one = changed-before (jumped_to n) (λ x. refl) (is_actor w v) (held v) h is one
-
-none_some : (g : Holding) → None ≡ Some g → ⊥
-none_some g e = cc
-
--- whom a settle is by, that was seen
-settles-by : (acts : List Act) (w : Actor) (spir : ℕ) (asked : KeeperAsk) (answered : KeeperAnswer) (sa : Record) → MayAsk acts w asked → settled_as spir asked answered ≡ Some sa → (sa.spir ≡ spir) × (w ≢ Half sa.spir)
-settles-by acts w spir (ask.Settle ticket asked given member) answer.Done sa may is = by_test (given.spir == spir) refl is
-  where
-    by_test : (b : Bool) → (given.spir == spir) ≡ b → (if b then Some given else None) ≡ Some sa → (sa.spir ≡ spir) × (w ≢ Half sa.spir)
-    by_test true t is = let same : given ≡ sa = same_Some given sa is in subst (λ (x : Record). (x.spir ≡ spir) × (w ≢ Half x.spir)) same (eqb-true given.spir spir t, may.by_other)
-    by_test false t is = absurd (cc)
-settles-by acts w spir asked answered sa may is = absurd (cc)
+use Rattle.turn_laws.proofs.MoveCases.{same-entries, and-false, other_counter, IsLaterEffect, first-before, none_some, settles-by}
+use Rattle.turn_laws.proofs.BookMoves.{kept-entry, pools-move, recorded-move, starts-move}
 
 module _ (acts : List Act) (old new : Book) (w : Actor) where
   module _ (owned : Owned acts old) where
-    no_empty : {X : Type 0} (xs : List X) (x : X) → xs ++ x ∷ [] ≡ [] → ⊥
-    no_empty [] x e = absurd (cc)
-    no_empty (y ∷ ys) x e = absurd (cc)
-
-    -- before the first epoch a call changes no high
-    starts-entry : (spir : ℕ) (asked : KeeperAsk) → MayAsk acts w asked → refusal old asked ≡ None → (x : Option Entry) → entry_of spir old.entries ≡ x → (e : Entry) → entry_after spir asked x ≡ Some e → e.bases ≡ [] → e.highs ≡ e.sa.starts
-    starts-entry spir (ask.Enter sa) may granted (Some f) is e found none = owned.starts spir e (is ∙ found) none
-    starts-entry spir (ask.Enter sa) may granted None is e found none = by_test (sa.spir == spir) found
-      where
-        by_test : (b : Bool) → (if b then Some (fresh sa) else None) ≡ Some e → e.highs ≡ e.sa.starts
-        by_test true found = subst (λ (x : Entry). x.highs ≡ x.sa.starts) (same_Some (fresh sa) e found) refl
-        by_test false found = absurd (cc)
-    starts-entry spir (ask.TakeOver asked member) may granted x is e found none = by_test (asked == spir) x is found
-      where
-        by_test : (b : Bool) (x : Option Entry) → entry_of spir old.entries ≡ x → (if b then option_map (taken_over member) x else x) ≡ Some e → e.highs ≡ e.sa.starts
-        by_test false x is found = owned.starts spir e (is ∙ found) none
-        by_test true None is found = absurd (cc)
-        by_test true (Some f) is found = absurd (no_empty f.bases f.highs (ap (λ (y : Entry). y.bases) (same_Some (taken_over member f) e found) ∙ none))
-    starts-entry spir (ask.Cover asked kind child epoch upto) may granted x is e found none = by_test (asked == spir) refl found
-      where
-        -- a cover is granted in an epoch that began
-        no_epoch : asked ≡ spir → (f : Entry) → entry_of spir old.entries ≡ Some f → f.bases ≡ [] → ⊥
-        no_epoch same f found none = go (shows-covered (entry_of asked old.entries) (counter_named kind child) epoch granted) (counter_named kind child) may
-          where
-            go : ShowsCovered (entry_of asked old.entries) (counter_named kind child) epoch → (named : Option Counter) → MatchOption named ⊥ (λ c. MayCover (holding_at (Ours asked c) acts w) epoch upto) → ⊥
-            go shows None may = may
-            go shows (Some c) may =
-                let some : 1 ≤ may.holding.epoch = ((owned.numbers (Ours asked c)).holdings w may.holding may.holds).some in
-                let at : may.holding.epoch ≡ epoch = may.in_epoch in
-                let entry : shows.entry ≡ f = same_Some shows.entry f (sym shows.found ∙ (ap (λ n. entry_of n old.entries) same ∙ found)) in
-                let last : epoch ≡ length f.bases = shows.is_last ∙ ap (λ (y : Entry). length y.bases) entry in
-                let zero : length f.bases ≡ 0 = ap length none in
-                absurd (omega arith)
-
-        bases_kept : (d : Option Counter) (f : Entry) → (raised_at d upto f).bases ≡ f.bases
-        bases_kept None f = refl
-        bases_kept (Some d) f = refl
-
-        raised_case : (same : asked ≡ spir) (x : Option Entry) → entry_of spir old.entries ≡ x → option_map (raised_at (counter_named kind child) upto) x ≡ Some e → e.highs ≡ e.sa.starts
-        raised_case same None is found = absurd (cc)
-        raised_case same (Some f) is found = absurd (no_epoch same f is (sym (bases_kept (counter_named kind child) f) ∙ (ap (λ (y : Entry). y.bases) (same_Some (raised_at (counter_named kind child) upto f) e found) ∙ none)))
-
-        by_test : (b : Bool) → (asked == spir) ≡ b → (if asked == spir then option_map (raised_at (counter_named kind child) upto) x else x) ≡ Some e → e.highs ≡ e.sa.starts
-        by_test true t found = raised_case (eqb-true asked spir t) x is (rw t at found)
-        by_test false t found = owned.starts spir e (is ∙ (rw t at found)) none
-    starts-entry spir (ask.Lease pool count) may granted x is e found none = owned.starts spir e (is ∙ found) none
-    starts-entry spir (ask.Settle ticket asked sa member) may granted x is e found none = by_test (asked == spir) (sa.spir == spir) x is found
-      where
-        settles : settled sa member ≡ e → e.highs ≡ e.sa.starts
-        settles same = absurd (go (ap (λ (y : Entry). y.bases) same ∙ none))
-          where
-            go : sa.starts ∷ [] ≡ [] → ⊥
-            go e = cc
-
-        by_test : (b d : Bool) (x : Option Entry) → entry_of spir old.entries ≡ x → first_some (if b then option_map closed x else x) (if d then Some (settled sa member) else None) ≡ Some e → e.highs ≡ e.sa.starts
-        by_test true d (Some f) is found =
-            let kept : closed f ≡ e = same_Some (closed f) e found in
-            subst (λ (y : Entry). y.highs ≡ y.sa.starts) kept (owned.starts spir f is (ap (λ (y : Entry). y.bases) kept ∙ none))
-        by_test false d (Some f) is found = owned.starts spir e (is ∙ found) none
-        by_test true true None is found = settles (same_Some (settled sa member) e found)
-        by_test false true None is found = settles (same_Some (settled sa member) e found)
-        by_test true false None is found = absurd (cc)
-        by_test false false None is found = absurd (cc)
-    starts-entry spir (ask.Look ticket) may granted x is e found none = owned.starts spir e (is ∙ found) none
-
-    starts-call : (call : Call) → MayAsk acts w call.asked → Enters old call new → (spir : ℕ) (e : Entry) → entry_of spir new.entries ≡ Some e → e.bases ≡ [] → e.highs ≡ e.sa.starts
-    starts-call call may enters spir e found none = ⊎_elim
-        (λ same. owned.starts spir e (sym (ap (λ (b : Book). entry_of spir b.entries) same) ∙ found) none)
-        (λ has. starts-entry spir call.asked may has.granted (entry_of spir old.entries) refl e
-        (sym (entry-entered spir old call.asked) ∙ (sym (ap (λ (b : Book). entry_of spir b.entries) has.is) ∙ found)) none)
-        (answers-entry old new call.asked call.answer enters)
-
-    -- a move that is no call leaves the associations of the book
-    kept-entry : (move : Move) → IsNoCall move → WritesBook old move new → (spir : ℕ) (x : Option Entry) → entry_of spir new.entries ≡ x → entry_of spir old.entries ≡ x
-    kept-entry move none writes spir x found = sym (ap (entry_of spir) (same-entries old new move none writes)) ∙ found
-
-    starts-move : (move : Move) → MayDo acts w move → WritesBook old move new → (spir : ℕ) (e : Entry) → entry_of spir new.entries ≡ Some e → e.bases ≡ [] → e.highs ≡ e.sa.starts
-    starts-move move may writes spir e found none = move-cases move
-        (λ call is. starts-call call (subst (λ m. MayDo acts w m) is may) (subst (λ m. WritesBook old m new) is writes) spir e found none)
-        (λ no. owned.starts spir e (kept-entry move no writes spir (Some e) found) none)
-
-    -- what got half open did so under its own SPI alone
-    opened-kept : (move : Move) → MayDo acts w move → (spir : ℕ) (o : Opened) → opened_at spir acts ≡ Some o → first_some (opened_by spir move) (opened_at spir acts) ≡ Some o
-    opened-kept (Opens ticket made) may spir o is = by_test (made.spir == spir) refl
-      where
-        by_test : (b : Bool) → (made.spir == spir) ≡ b → first_some (if b then Some (record { ticket = ticket; made = made }) else None) (opened_at spir acts) ≡ Some o
-        by_test true t =
-            let none : opened_at spir acts ≡ None = subst (λ n. opened_at n acts ≡ None) (eqb-true made.spir spir t) (unopened acts old new w owned made.spir may) in
-            absurd (cc)
-        by_test false t = is
-    opened-kept (Calls call) may spir o is = is
-    opened-kept (Uses q n) may spir o is = is
-    opened-kept (Seals key) may spir o is = is
-    opened-kept (Leaps q n) may spir o is = is
-    opened-kept (Starts sa) may spir o is = is
-    opened-kept Ends may spir o is = is
-
-    -- what is recorded stays so
-    abbrev IsRecordedBy : Move → Book → Record → Type 0
-    IsRecordedBy move book sa = IsImport sa ⊎ IsSettled (act_by w move ∷ acts) book sa
-
-    recorded-kept : (move : Move) → MayDo acts w move → ((ticket : ℕ) → is_spent ticket old.spent ≡ true → is_spent ticket new.spent ≡ true) → (sa : Record) → IsImport sa ⊎ IsSettled acts old sa → IsRecordedBy move new sa
-    recorded-kept move may spends sa was = ⊎_elim inl (λ settled. inr (record {
-      opened = settled.opened;
-      is_its = opened-kept move may sa.spir settled.opened settled.is_its;
-      its_record = settled.its_record;
-      spent = spends settled.opened.ticket settled.spent;
-    })) was
-
-    recorded-call : (call : Call) → MayAsk acts w call.asked → Enters old call new → (spir : ℕ) (e : Entry) → entry_of spir new.entries ≡ Some e → IsRecordedBy (Calls call) new e.sa
-    recorded-call call may enters spir e found = of-kept old (IsRecordedBy (Calls call) new) new call.asked call.answer enters (λ is. added call.asked may is) spir e.sa had (ap record_in found)
-      where
-        spends : (ticket : ℕ) → is_spent ticket old.spent ≡ true → is_spent ticket new.spent ≡ true
-        spends = spent-kept old new call.asked call.answer enters
-
-        added : (asked : KeeperAsk) → MayAsk acts w asked → new ≡ book_entered old asked → IsOfAdded old (IsRecordedBy (Calls call) new) asked
-        added (ask.Enter sa) may is = inl may.0
-        added (ask.TakeOver asked member) may is = tt
-        added (ask.Cover asked kind child epoch upto) may is = tt
-        added (ask.Lease pool count) may is = tt
-        added (ask.Settle ticket asked sa member) may is = inr (record {
-          opened = may.opened;
-          is_its = may.is_its;
-          its_record = may.its_record;
-          spent = ap (λ t. is_spent t new.spent) may.its_ticket ∙ (ap (λ (b : Book). is_spent ticket b.spent) is ∙ spent-added ticket old.spent);
-        })
-        added (ask.Look ticket) may is = tt
-
-        had : record_of old spir ≡ Some e.sa → IsRecordedBy (Calls call) new e.sa
-        had is = let entry = entry-record (entry_of spir old.entries) e.sa is in
-            recorded-kept (Calls call) may spends e.sa (subst (λ x. IsImport x ⊎ IsSettled acts old x) entry.2 (owned.recorded spir entry.0 entry.1))
-
-    recorded-move : (move : Move) → MayDo acts w move → WritesBook old move new → (spir : ℕ) (e : Entry) → entry_of spir new.entries ≡ Some e → IsRecordedBy move new e.sa
-    recorded-move move may writes spir e found = move-cases move
-        (λ call is. subst (λ m. IsRecordedBy m new e.sa) (sym is) (recorded-call call (subst (λ m. MayDo acts w m) is may) (subst (λ m. WritesBook old m new) is writes) spir e found))
-        (λ no. recorded-kept move may (λ ticket is. ap (λ (b : Book). is_spent ticket b.spent) (same-book old new move no writes) ∙ is) e.sa (owned.recorded spir e (kept-entry move no writes spir (Some e) found)))
-
-    -- no pool gets beyond its end
-    pools-same : (q : Pool) → pool_next q new ≡ pool_next q old → pool_next q new ≤ pool_end q
-    pools-same q same = let a : pool_next q old ≤ pool_end q = owned.within q in omega (arith, same)
-
-    -- nor by a call that is granted
-    pools-entered : (asked : KeeperAsk) → refusal old asked ≡ None → (q : Pool) → pool_next q (book_entered old asked) ≤ pool_end q
-    pools-entered (ask.Enter sa) granted q = owned.within q
-    pools-entered (ask.TakeOver asked member) granted q = owned.within q
-    pools-entered (ask.Cover asked kind child epoch upto) granted q = owned.within q
-    pools-entered (ask.Settle ticket asked sa member) granted q = owned.within q
-    pools-entered (ask.Look ticket) granted q = owned.within q
-    pools-entered (ask.Lease pool count) granted q = lease-within old (book_entered old (ask.Lease pool count)) pool (pool_next pool old) count (shows-leased pool count old.next granted) refl q (owned.within q)
-
-    pools-move : (move : Move) → MayDo acts w move → WritesBook old move new → (q : Pool) → pool_next q new ≤ pool_end q
-    pools-move (Calls call) may writes q = ⊎_elim
-        (λ same. pools-same q (ap (pool_next q) same))
-        (λ has. subst (λ (b : Book). pool_next q b ≤ pool_end q) (sym has.is) (pools-entered call.asked has.granted q))
-        (answers-entry old new call.asked call.answer writes)
-    pools-move (Uses place n) may writes q = pools-same q (ap (pool_next q) writes)
-    pools-move (Seals key) may writes q = pools-same q (ap (pool_next q) writes)
-    pools-move (Leaps place n) may writes q = pools-same q (ap (pool_next q) writes)
-    pools-move (Opens ticket made) may writes q = pools-same q (ap (pool_next q) writes)
-    pools-move (Starts sa) may writes q = pools-same q (ap (pool_next q) writes)
-    pools-move Ends may writes q = pools-same q (ap (pool_next q) writes)
-
-    -- what got half open was drawn
     abbrev nonces_after : Move → List ℕ
     nonces_after move = map (λ u. u.number) (uses_after (effect_of (Pooled pools.Nonce) (begun_at (Pooled pools.Nonce) acts) w move) (holding_at (Pooled pools.Nonce) acts) (uses_at (Pooled pools.Nonce) acts))
 
@@ -508,21 +241,21 @@ module _ (acts : List Act) (old new : Book) (w : Actor) where
     entered-move (Starts sa) writes name spir of unstarted none = by_case (begun_named name sa) refl
       where
         by_case : (x : Option Holding) → begun_named name sa ≡ x → with_begun x (begun_at (Theirs name) acts) ≡ nothing
-        by_case None e = owned.entered name spir of unstarted.1 (kept-entry (Starts sa) tt writes spir None none)
+        by_case None e = owned.entered name spir of unstarted.1 (kept-entry acts old new w owned (Starts sa) tt writes spir None none)
         by_case (Some h) e = let not : true ≡ false = sym (ap is_some e) ∙ unstarted.0 in absurd (cc)
-    entered-move (Uses q n) writes name spir of unstarted none = owned.entered name spir of unstarted.1 (kept-entry (Uses q n) tt writes spir None none)
-    entered-move (Seals key) writes name spir of unstarted none = owned.entered name spir of unstarted.1 (kept-entry (Seals key) tt writes spir None none)
-    entered-move (Leaps q n) writes name spir of unstarted none = owned.entered name spir of unstarted.1 (kept-entry (Leaps q n) tt writes spir None none)
-    entered-move (Opens ticket made) writes name spir of unstarted none = owned.entered name spir of unstarted.1 (kept-entry (Opens ticket made) tt writes spir None none)
-    entered-move Ends writes name spir of unstarted none = owned.entered name spir of unstarted.1 (kept-entry Ends tt writes spir None none)
+    entered-move (Uses q n) writes name spir of unstarted none = owned.entered name spir of unstarted.1 (kept-entry acts old new w owned (Uses q n) tt writes spir None none)
+    entered-move (Seals key) writes name spir of unstarted none = owned.entered name spir of unstarted.1 (kept-entry acts old new w owned (Seals key) tt writes spir None none)
+    entered-move (Leaps q n) writes name spir of unstarted none = owned.entered name spir of unstarted.1 (kept-entry acts old new w owned (Leaps q n) tt writes spir None none)
+    entered-move (Opens ticket made) writes name spir of unstarted none = owned.entered name spir of unstarted.1 (kept-entry acts old new w owned (Opens ticket made) tt writes spir None none)
+    entered-move Ends writes name spir of unstarted none = owned.entered name spir of unstarted.1 (kept-entry acts old new w owned Ends tt writes spir None none)
 
     -- one move more
     pub owned-move : (move : Move) → MayDo acts w move → WritesBook old move new → Owned (record { by = w; move = move } ∷ acts) new
     owned-move move may writes = record {
       numbers = λ p. owned-after (holding_at p acts) (uses_at p acts) (column_at p acts old) (column p (begun_after move p (begun_at p acts)) new) (effect_of p (begun_at p acts) w move) (owned.numbers p) (keeps-move acts old new w owned p move may writes);
-      starts = starts-move move may writes;
-      recorded = recorded-move move may writes;
-      within = pools-move move may writes;
+      starts = starts-move acts old new w owned move may writes;
+      recorded = recorded-move acts old new w owned move may writes;
+      within = pools-move acts old new w owned move may writes;
       opened = opened-move move;
       begun = begun-move move may;
       goes_on = goes-move move may writes;

@@ -127,8 +127,8 @@ key_ivs-once [] before once = once
 key_ivs-once (turn ∷ past) before once =
     let w : Actor = actor_of turn in
     let seals : List Move = map (λ seal. Seals (key_iv seal)) turn.step.seals in
-    let one = sealed-calls w turn.calls (uses_of turn.event turn.step.verdict ++ seals) (acts_of past) in
-    let two = sealed-uses w (uses_of turn.event turn.step.verdict) (are-uses turn.event turn.step.verdict) seals one.0 in
+    let one = sealed-calls w turn.calls (uses_of turn.event turn.step.verdict turn.step.seals ++ seals) (acts_of past) in
+    let two = sealed-uses w (uses_of turn.event turn.step.verdict turn.step.seals) (are-uses turn.event turn.step.verdict turn.step.seals) seals one.0 in
     let moved : IsEachOnce (before ++ sealed_in (moves_onto w seals two.0)) = subst (λ acts. IsEachOnce (before ++ sealed_in acts)) (one.1 ∙ two.1) once in
     let apart : IsEachOnce ((before ++ map key_iv turn.step.seals) ++ sealed_in (acts_of past)) =
     subst (λ ks. IsEachOnce ((before ++ map key_iv turn.step.seals) ++ ks)) (two.2 ∙ one.2) (sealed-seals w turn.step.seals before two.0 moved) in

@@ -8,7 +8,6 @@ use Rattle.events.specs.declared.seals.Seal.{Seal}
 use Rattle.events.specs.declared.turn.Step.{Step}
 use Rattle.events.specs.declared.turn.Turn.{Turn}
 use Rattle.events.specs.declared.verdict.Refusal.TheVariants as refusal
-use Rattle.events.specs.declared.verdict.Verdict.{Verdict}
 use Rattle.events.specs.declared.verdict.Verdict.TheVariants as out
 use Rattle.ha_base.specs.Octets.{WithRoom}
 use Rattle.ha_base.specs.declared.counter_names.CounterName.{CounterName}
@@ -38,7 +37,7 @@ use Rattle.turn_rules.specs.Held.{Held, first_some, held_by, iv_in, said_in, use
 use Rattle.turn_rules.specs.IkeState.{sealed_iv}
 use Rattle.turn_rules.specs.MemberPackets.{SendsData, outbound_of}
 use Rattle.turn_rules.specs.Packets.{Outbound, SendsEsp}
-use Rattle.turn_rules.specs.Safe.{Packet, accepted_as}
+use Rattle.turn_rules.specs.Safe.{Packet, accepted_as, taken_as}
 use Rattle.turn_rules.specs.Slots.{peer_counter, PeerSends, Slot, SlotSends, first_slot, has_spir, slot_outbound, slots_by}
 use Rattle.turn_rules.specs.States.{ended_by}
 use Rattle.turn_rules.specs.Steps.{Says}
@@ -53,6 +52,7 @@ sent-ends event n = refl
 sends-spends : (event : Event) (outbound : Outbound) (place : Place) (n : ℕ) (payload : List ℕ) (step : Step) → place_of outbound.key.name ≡ place → SendsEsp outbound n payload step → Spends place n event step
 sends-spends event outbound place n payload step named sends = record {
   served = sends.served;
+  untaken = ap taken_as sends.said;
   uses_it = used-alone place n (Seals (key_iv sends.seal)) (rest_of event step) (Seals_it (key_iv sends.seal) (ap place_of sends.named ∙ named) sends.iv refl) (let said : _ = sends.said in let seals : _ = sends.seals in let none : _ = sent-ends event n in rw (said, seals, none));
   of_packet = λ packet is. absurd (no_packet packet (ap accepted_as (sym sends.said) ∙ is));
 }
@@ -81,12 +81,12 @@ sent-told member spir n other counter.Ask payload step said esp = number-failed 
 sent-told member spir n other counter.Answer payload step said esp = number-failed (spir == other) n
 
 -- a number that the peer sent under
-sent_theirs-told : (spir n other : ℕ) (d : Counter) (payload : WithRoom) (step : Step) → step.verdict ≡ out.Sent n → number_theirs other d (event.Send parties.Peer spir payload) step ≡ number_at (Ours other d) (Ours spir counter.EspOut) n
-sent_theirs-told spir n other counter.EspOut payload step said = ap (said_in other counter.EspOut (task.Send spir payload.octets)) said ∙ number-passed (spir == other) n
-sent_theirs-told spir n other counter.EspIn payload step said = number-failed (spir == other) n
-sent_theirs-told spir n other counter.Iv payload step said = number-failed (spir == other) n
-sent_theirs-told spir n other counter.Ask payload step said = number-failed (spir == other) n
-sent_theirs-told spir n other counter.Answer payload step said = number-failed (spir == other) n
+sent_theirs-told : (spir n other : ℕ) (d : Counter) (payload : WithRoom) (step : Step) → step.verdict ≡ out.Sent n → SealsEsp step → number_theirs other d (event.Send parties.Peer spir payload) step ≡ number_at (Ours other d) (Ours spir counter.EspOut) n
+sent_theirs-told spir n other counter.EspOut payload step said esp = ap (said_in other counter.EspOut (task.Send spir payload.octets)) said ∙ number-passed (spir == other) n
+sent_theirs-told spir n other counter.EspIn payload step said esp = number-failed (spir == other) n
+sent_theirs-told spir n other counter.Iv payload step said esp = esp-no_iv end.Peer other step esp ∙ number-failed (spir == other) n
+sent_theirs-told spir n other counter.Ask payload step said esp = number-failed (spir == other) n
+sent_theirs-told spir n other counter.Answer payload step said esp = number-failed (spir == other) n
 
 -- what the peer sends uses no number of a member
 sent-not_ours : (spir other : ℕ) (d : Counter) (payload : WithRoom) (step : Step) → SealsEsp step → used other d (event.Send parties.Peer spir payload) step ≡ None
@@ -159,7 +159,7 @@ module _ (past : List Turn) (step : Step) (spir : ℕ) (payload : WithRoom) (cal
         spends = sends-spends (event.Send parties.Peer spir payload) (slot_outbound slot) (Theirs (peer_counter slot.sa counter.EspOut)) slot.next payload.octets step refl s;
         not_ours = λ other d. sent-not_ours spir other d payload step (seals-esp (slot_outbound slot) slot.next payload.octets step refl s);
         told = λ other d.
-            sent_theirs-told spir slot.next other d payload step s.said
+            sent_theirs-told spir slot.next other d payload step s.said (seals-esp (slot_outbound slot) slot.next payload.octets step refl s)
             ∙ (ap (λ n. number_at (Ours other d) (Ours n counter.EspOut) slot.next) (sym (eqb-true slot.sa.spir spir (first-passes (has_spir spir) (slots_by (window_by past) (own Peer past)) slot is_first))));
         no_entry = refl;
       })

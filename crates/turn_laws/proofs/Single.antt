@@ -11,13 +11,34 @@ use Rattle.keeper_book.specs.declared.calls.Call.{Call}
 use Rattle.keeper_book.specs.declared.counters.Counter.{Counter}
 use Rattle.keeper_book.specs.declared.counters.Counter.TheVariants as counter
 use Rattle.turn_laws.proofs.Covers.{ready-as}
-use Rattle.turn_laws.proofs.Deeds.{Deed, IsOpen, Last, Rests, Used, UsesIt, UsesOne, Used_theirs, IsOpenTo, Spends, number_theirs}
+use Rattle.turn_laws.proofs.Deeds.{none-answering, Deed, IsOpen, Last, Rests, Used, UsesIt, UsesOne, Used_theirs, IsOpenTo, Spends, number_theirs}
 use Rattle.turn_laws.proofs.Begun.{is_place-true, ours-spir}
 use Rattle.turn_laws.proofs.Uses.{number_at, spent_of}
+use Rattle.events.specs.declared.verdict.Verdict.{Verdict}
+use Rattle.events.specs.declared.verdict.Verdict.TheVariants as out
+use Rattle.turn_laws.specs.Listed.{request_at}
+use Rattle.turn_laws.specs.Turns.{answered, answered_in}
+use Rattle.turn_rules.specs.Datagrams.{Delivery, delivery_of}
+use Rattle.turn_rules.specs.IkeState.{taken_id}
+use Rattle.turn_rules.specs.Safe.{taken_as}
+use Rattle.turn_rules.specs.Tasks.{receipt}
 use Rattle.turn_laws.specs.Places.{Ours, Place, is_place, Theirs}
 use Rattle.turn_rules.specs.Draws.{reach_of}
 use Rattle.turn_rules.specs.Ends.{Member, own, performer_at, Peer}
 use Rattle.turn_rules.specs.Held.{Held, held_by, window_by, used}
+
+-- where no request is taken, none is answered
+pub untaken-answered : (spir : ℕ) (event : Event) (verdict : Verdict) → taken_as verdict ≡ None → answered spir event verdict ≡ None
+untaken-answered spir event verdict none = go (delivery_of event)
+  where
+    by_verdict : (verdict : Verdict) → taken_as verdict ≡ None → taken_id spir verdict ≡ None
+    by_verdict (out.Executed name id mark) none = absurd (cc)
+    by_verdict (out.Refusing name id notify) none = absurd (cc)
+    by_verdict verdict none = refl
+
+    go : (x : Option Delivery) → answered_in spir (receipt x) verdict ≡ None
+    go None = refl
+    go (Some delivery) = by_verdict verdict none
 
 -- a member that holds an association uses a number of it, once that is ready
 pub record UsesNext (past : List Turn) (event : Event) (calls : List Call) (step : Step) : Type 0 where
@@ -47,7 +68,8 @@ one-uses : (spir : ℕ) (c : Counter) (n : ℕ) (event : Event) (step : Step) �
 one-uses spir c n event step it = record {
   ss = spent_of (Ours spir c) n ∷ [];
   were_needed = (inl refl, tt);
-  served = it.spends.served;
+  answering = none-answering step it.spends.served it.spends.untaken;
+  answers = λ other. untaken-answered other event step.verdict it.spends.untaken ∙ sym (ap (request_at (Ours other counter.Answer)) it.spends.untaken);
   uses_them = it.spends.uses_it;
   apart = (tt, tt);
   told = λ other d. one-listed (number_at (Ours other d) (Ours spir c) n) ∙ ap option_to_list (sym (it.told other d));
@@ -85,7 +107,7 @@ pub record PeerUsesNext (past : List Turn) (event : Event) (calls : List Call) (
   pub told : (other : ℕ) (d : Counter) → number_theirs other d event step ≡ number_at (Ours other d) (Ours slot.sa.spir c) number
   pub no_entry : record_entered event step.verdict ≡ None
 
-ours-counter : (a b : ℕ) (c d : Counter) → Ours a c ≡ Ours b d → c ≡ d
+pub ours-counter : (a b : ℕ) (c d : Counter) → Ours a c ≡ Ours b d → c ≡ d
 ours-counter a b c d same = ap counter_in same
   where
     counter_in : Place → Counter
@@ -97,7 +119,8 @@ one-peer-used {past} {event} {calls} {step} u = Used_theirs (record {
   needs = record { test = u.test; slot = u.slot; c = u.c; number = u.number; is_first = u.is_first; is_open = u.is_open } ∷ [];
   by_it = u.by_it;
   no_calls = u.no_calls;
-  served = u.spends.served;
+  answering = none-answering step u.spends.served u.spends.untaken;
+  not_answered = λ other. ap (request_at (Ours other counter.Answer)) u.spends.untaken;
   uses_them = u.spends.uses_it;
   apart = (tt, tt);
   not_ours = u.not_ours;

@@ -9,11 +9,14 @@ use Rattle.keeper_book.specs.Counters.{five_at}
 use Rattle.keeper_book.specs.declared.counters.Counter.{Counter}
 use Rattle.keeper_book.specs.declared.counters.Counter.TheVariants as counter
 use Rattle.keeper_book.specs.declared.records.Taken.{Taken}
-use Rattle.turn_laws.proofs.Deeds.{IsOpen}
+use Rattle.turn_laws.proofs.Answered.{AreAnswering, answered-member, ids-answered, new-unused, since-all}
+use Rattle.turn_laws.proofs.Deeds.{IsAnswering, IsOpen}
 use Rattle.turn_laws.proofs.Unused.{fresh-unused, next-unused}
 use Rattle.turn_laws.specs.Holdings.{Holding, IsNotIn}
 use Rattle.turn_laws.specs.Turns.{turn_taken, told}
 use Rattle.turn_rules.proofs.Ties.{five_at-five_of}
+use Rattle.turn_rules.specs.IkeState.{turn_response}
+use Rattle.turn_rules.specs.Tasks.{member_task}
 use Rattle.turn_rules.specs.Held.{Held, found, grant_of, greatest, held_by, high_of, holding, next_number_of, number_of, received_of, since}
 
 -- what own turns say that a member holds, at one counter
@@ -23,18 +26,20 @@ pub record Tells (mine : List Turn) (spir : ℕ) (c : Counter) (held : Held) (h 
   pub base : h.base ≡ five_at held.bases c
   pub high : h.high ≡ five_at held.highs c
   pub end : h.end ≡ end_of held.sa c
-  pub unused : (n : ℕ) → IsOpen held c n → (h.base ≤ n) × IsNotIn n h.numbers
+  pub unused : (n : ℕ) → AreAnswering mine → IsOpen held c n → (h.base ≤ n) × IsNotIn n h.numbers
 
 module _ (size spir : ℕ) (mine : List Turn) (taken : Taken) where
   next-open : (c : Counter) (n : ℕ) → n ≡ five_at (holding size spir mine taken).nexts c → (five_at taken.bases c ≤ n) × IsNotIn n (filter_map (number_of spir c) (since spir mine))
   next-open c n is = next-unused (five_at taken.bases c) n (filter_map (number_of spir c) (since spir mine)) (is ∙ five_at-five_of (λ d. next_number_of spir d taken.bases mine) c)
 
-  open-unused : (c : Counter) (n : ℕ) → IsOpen (holding size spir mine taken) c n → (five_at taken.bases c ≤ n) × IsNotIn n (filter_map (turn_taken spir c) (since spir mine))
-  open-unused counter.EspOut n is = next-open counter.EspOut n is
-  open-unused counter.EspIn n fresh = fresh-unused size taken.bases.esp_in n (filter_map (received_of spir) (since spir mine)) fresh
-  open-unused counter.Iv n is = next-open counter.Iv n is
-  open-unused counter.Ask n is = next-open counter.Ask n is
-  open-unused counter.Answer n is = next-open counter.Answer n is
+  open-unused : (c : Counter) (n : ℕ) → AreAnswering mine → IsOpen (holding size spir mine taken) c n → (five_at taken.bases c ≤ n) × IsNotIn n (filter_map (turn_taken spir c) (since spir mine))
+  open-unused counter.EspOut n all is = next-open counter.EspOut n is
+  open-unused counter.EspIn n all fresh = fresh-unused size taken.bases.esp_in n (filter_map (received_of spir) (since spir mine)) fresh
+  open-unused counter.Iv n all is = next-open counter.Iv n is
+  open-unused counter.Ask n all is = next-open counter.Ask n is
+  open-unused counter.Answer n all new =
+      new-unused taken.bases.answer n (filter_map (turn_response member_task spir) (since spir mine)) (filter_map (turn_taken spir counter.Answer) (since spir mine))
+      (ids-answered member_task answered-member spir (since spir mine) (since-all (λ turn. IsAnswering turn.step) spir mine all)) new
 
   abbrev as_told : Counter → Taken → Holding
   as_told c t = record { epoch = t.epoch; base = five_at t.bases c; next = greatest (five_at t.bases c) (map (λ n. n + 1) (filter_map (turn_taken spir c) (since spir mine))); high = high_of spir c t.bases mine; end = end_of t.sa c; numbers = filter_map (turn_taken spir c) (since spir mine) }

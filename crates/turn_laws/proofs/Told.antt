@@ -6,7 +6,6 @@ use Rattle.std.specs.Option.{option_map}
 use Rattle.events.specs.declared.event.Event.{Event}
 use Rattle.events.specs.declared.turn.Step.{Step}
 use Rattle.events.specs.declared.turn.Turn.{Turn}
-use Rattle.events.specs.declared.verdict.Verdict.{Verdict}
 use Rattle.keeper_book.specs.CounterEnds.{end_of}
 use Rattle.keeper_book.specs.Counters.{five_at}
 use Rattle.keeper_book.specs.Told.{seen}

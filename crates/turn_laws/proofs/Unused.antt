@@ -23,7 +23,7 @@ above-used base n (k ∷ ks) is =
 pub next-unused : (base n : ℕ) (numbers : List ℕ) → n ≡ greatest base (map (λ k. k + 1) numbers) → (base ≤ n) × IsNotIn n numbers
 next-unused base n numbers is = ((let low : base ≤ greatest base (map (λ k. k + 1) numbers) = greatest-least base (map (λ k. k + 1) numbers) in omega arith), above-used base n numbers is)
 
-not-among : (n : ℕ) (numbers : List ℕ) → ¬ Contains numbers n → IsNotIn n numbers
+pub not-among : (n : ℕ) (numbers : List ℕ) → ¬ Contains numbers n → IsNotIn n numbers
 not-among n [] none = tt
 not-among n (k ∷ ks) none = ((λ same. none (zero, omega arith, same)), not-among n ks (λ among. none (suc among.0, (let low : among.0 < length ks = among.1 in omega arith), among.2)))
 

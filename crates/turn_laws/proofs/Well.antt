@@ -22,7 +22,9 @@ use Rattle.keeper_book.specs.declared.counters.Counter.{Counter}
 use Rattle.keeper_book.specs.declared.counters.Counter.TheVariants as counter
 use Rattle.turn_laws.proofs.Acting.{MayDoMoves}
 use Rattle.turn_laws.proofs.Covers.{IsCover, IsLease}
-use Rattle.turn_laws.proofs.Deeds.{AreReady, Asked, Deed, Ended, IsOpenTo, Last, Need, NoneStarted, Rested, Rests, Used, Used_theirs, UsesIt, rest_of, spent_by, PeerNeed, spent_theirs, LotNeed, lots_of, IsLotReady, with_lot, Left, Leased, InVain}
+use Rattle.turn_laws.proofs.Answered.{AreAnswering}
+use Rattle.turn_laws.proofs.Lists.{all-filter}
+use Rattle.turn_laws.proofs.Deeds.{IsAnswering, AreReady, Asked, Deed, Ended, IsOpenTo, Last, Need, NoneStarted, Rested, Rests, Used, Used_theirs, UsesIt, rest_of, spent_by, PeerNeed, spent_theirs, LotNeed, lots_of, IsLotReady, with_lot, Left, Leased, InVain}
 use Rattle.turn_laws.proofs.Entries.{is_counter-same}
 use Rattle.turn_laws.proofs.Holdings.{is_actor-same}
 use Rattle.turn_rules.proofs.SlotTies.{all-weaker}
@@ -35,7 +37,7 @@ use Rattle.turn_laws.specs.Holdings.{Actor, End, Holding, IsNotIn, holding_after
 use Rattle.turn_laws.specs.Places.{Ours, Theirs, Pooled}
 use Rattle.turn_laws.specs.Turns.{actor_as, told, acts_of}
 use Rattle.turn_rules.specs.Draws.{reach_of}
-use Rattle.turn_rules.specs.Ends.{Member, Peer, own, performer_at}
+use Rattle.turn_rules.specs.Ends.{Member, Peer, is_by, own, performer_at}
 use Rattle.turn_rules.specs.Held.{covered, is_named, window_by}
 use Rattle.turn_rules.specs.Slots.{Slot, first_slot, peer_counter, slots_by}
 
@@ -190,9 +192,9 @@ module _ (past : List Turn) (member : ℕ) (event : Event) (step : Step) where
   )
 
   -- what own turns tell is kept
-  told-kept : (acts : List Act) → ((spir : ℕ) (c : Counter) → told spir c (own (Member member) past) ≡ holding_at (Ours spir c) acts w) → (needs : List (Need past member)) → AllByRecursion (λ n. Kept n acts) needs
-  told-kept acts agrees [] = tt
-  told-kept acts agrees (need ∷ needs) = (one (tells (window_by past) (own (Member member) past) need.held.sa.spir need.c need.held need.is_held), told-kept acts agrees needs)
+  told-kept : (acts : List Act) → AreAnswering (own (Member member) past) → ((spir : ℕ) (c : Counter) → told spir c (own (Member member) past) ≡ holding_at (Ours spir c) acts w) → (needs : List (Need past member)) → AllByRecursion (λ n. Kept n acts) needs
+  told-kept acts answering agrees [] = tt
+  told-kept acts answering agrees (need ∷ needs) = (one (tells (window_by past) (own (Member member) past) need.held.sa.spir need.c need.held need.is_held), told-kept acts answering agrees needs)
     where
       one : (h : Holding) × Tells (own (Member member) past) need.held.sa.spir need.c need.held h → Kept need acts
       one so = record {
@@ -201,8 +203,8 @@ module _ (past : List Turn) (member : ℕ) (event : Event) (step : Step) where
         epoch = so.1.epoch;
         end = so.1.end;
         high = let a : so.0.high ≡ five_at need.held.highs need.c = so.1.high in omega arith;
-        from_base = (so.1.unused need.number need.is_open).0;
-        unused = (so.1.unused need.number need.is_open).1;
+        from_base = (so.1.unused need.number answering need.is_open).0;
+        unused = (so.1.unused need.number answering need.is_open).1;
       }
 
   -- what a member may use before a lease it may use after it
@@ -284,19 +286,19 @@ module _ (past : List Turn) (member : ℕ) (event : Event) (step : Step) where
       )
 
   -- a member uses the numbers that it needs
-  pub uses-well : (acts : List Act) → ((spir : ℕ) (c : Counter) → told spir c (own (Member member) past) ≡ holding_at (Ours spir c) acts w) → AreLots acts → (needs : List (Need past member)) (lot : Option LotNeed) (calls : List Call)
+  pub uses-well : (acts : List Act) → AreAnswering (own (Member member) past) → ((spir : ℕ) (c : Counter) → told spir c (own (Member member) past) ≡ holding_at (Ours spir c) acts w) → AreLots acts → (needs : List (Need past member)) (lot : Option LotNeed) (calls : List Call)
       → AreReady needs calls (Rests step) (λ rest. IsLotReady lot (lots_of past member) rest (Rests step ⊎ UsesIt (map spent_by needs) event step) (UsesIt (with_lot lot (map spent_by needs)) event step)) → MayMake acts calls
-  uses-well acts agrees lots needs lot calls ready = ready-well (Rests step) _
+  uses-well acts answering agrees lots needs lot calls ready = ready-well (Rests step) _
       rests-well
       needs AreLots lots-later
       (λ acts lots usable calls so. lot-well needs lot acts lots usable calls so)
-      acts lots (told-kept acts agrees needs) calls ready
+      acts lots (told-kept acts answering agrees needs) calls ready
 
 -- the peer may use what is open to it
 abbrev pub PeerMayUse : List Turn → List Act → Type 0
 PeerMayUse past acts = (test : Slot → Bool) (slot : Slot) → first_slot test (slots_by (window_by past) (own Peer past)) ≡ Some slot → (c : Counter) (n : ℕ) → IsOpenTo slot c n → HoldsFor (holding_at (Theirs (peer_counter slot.sa c)) acts (End Peer)) n
 
-module _ (past : List Turn) (acts : List Act) (agrees : (member spir : ℕ) (c : Counter) → told spir c (own (Member member) past) ≡ holding_at (Ours spir c) acts (End (Member member))) (peer_may : PeerMayUse past acts) (none_started : NoneStarted acts)
+module _ (past : List Turn) (acts : List Act) (answering : AreAnswering past) (agrees : (member spir : ℕ) (c : Counter) → told spir c (own (Member member) past) ≡ holding_at (Ours spir c) acts (End (Member member))) (peer_may : PeerMayUse past acts) (none_started : NoneStarted acts)
     (lots : (member : ℕ) (pool : Pool) → holding_at (Pooled pool) acts (End (Member member)) ≡ lots_of past member pool) (event : Event) (calls : List Call) (step : Step) where
   -- the moves of a deed may be made
   pub deed-well : Deed past event calls step → MayDoMoves acts (actor_as (performer_at event step.verdict)) (map Calls calls ++ rest_of event step)
@@ -305,7 +307,7 @@ module _ (past : List Turn) (acts : List Act) (agrees : (member spir : ℕ) (c :
   deed-well (Ended member by none said ends quiet) = let over : _ = over-rest event step member said ends quiet in rw (none, over) (tt, tt)
   deed-well (Used u) =
       subst (λ v. MayDoMoves acts v (map Calls calls ++ rest_of event step)) (sym (ap actor_as u.by_it))
-      (uses-well past u.member event step acts (λ spir c. agrees u.member spir c) (lots u.member) u.needs u.lot calls u.ready)
+      (uses-well past u.member event step acts (all-filter (λ (turn : Turn). IsAnswering turn.step) (is_by (Member u.member)) past answering) (λ spir c. agrees u.member spir c) (lots u.member) u.needs u.lot calls u.ready)
   deed-well (Used_theirs u) =
       subst (λ v. MayDoMoves acts v (map Calls calls ++ rest_of event step)) (sym (ap actor_as u.by_it))
       (let none : _ = u.no_calls in rw none

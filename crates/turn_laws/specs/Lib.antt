@@ -10,4 +10,5 @@ pub mod PeerTurns
 pub mod Places
 pub mod Replaced
 pub mod Resumed
+pub mod Serving
 pub mod Turns

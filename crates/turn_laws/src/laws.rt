@@ -1,16 +1,14 @@
-//! The laws. Each is the contract of a function that does nothing.
+//! The laws of moves. Each is the contract of a function that does nothing.
 
-ghost use Rattle.std.specs.Prelude.{◌+◌, ◌≡◌, ◌≢◌, ◌<◌, ◌≤◌, ◌⊎◌, ℕ, Bool, Option, Some, None, List, [], ◌∷◌, length, true};
-ghost use Rattle.std.specs.List.{AllByRecursion, Contains, filter_map, flat_map};
-ghost use Rattle.events.specs.declared.turn.Turn.{Turn};
-ghost use Rattle.keeper_book.specs.Book.{Answers, Book, Enters, Entry, book_after, entry_of, is_spent, pool_next};
-ghost use Rattle.keeper_book.specs.Counters.{counter_named, five_at};
+ghost use Rattle.std.specs.Prelude.{◌≡◌, ◌≢◌, ◌<◌, ◌≤◌, ◌⊎◌, ℕ, Option, Some, None, List, [], ◌∷◌, length, true};
+ghost use Rattle.std.specs.List.{AllByRecursion, Contains};
+ghost use Rattle.keeper_book.specs.Book.{Book, Enters, Entry, book_after, entry_of, is_spent, pool_next};
+ghost use Rattle.keeper_book.specs.Counters.{five_at};
 ghost use Rattle.keeper_book.specs.declared.calls.Call.{Call};
-ghost use Rattle.ha_base.specs.declared.counter_names.CounterName.{CounterName};
-ghost use Rattle.ha_base.specs.declared.counter_names.Kind.{Kind};
 ghost use Rattle.ha_base.specs.declared.counter_names.Derivation.{Derivation};
 ghost use Rattle.keeper_book.specs.Told.{seen};
 ghost use Rattle.keeper_book.specs.declared.TheConstants.{SETTLED_IV_HIGH};
+ghost use Rattle.ha_base.specs.declared.limits.TheConstants.{LEAST_SPI};
 ghost use Rattle.keeper_book.specs.declared.records.Record.{Record};
 ghost use Rattle.turn_rules.specs.Slots.{peer_counter};
 ghost use Rattle.keeper_book.specs.declared.calls.KeeperAnswer.TheVariants as answer;
@@ -20,25 +18,14 @@ ghost use Rattle.keeper_book.specs.declared.counters.Counter.TheVariants as coun
 ghost use Rattle.keeper_book.specs.declared.faults.KeeperFault.TheVariants as fault;
 ghost use Rattle.keeper_book.specs.declared.pools.Pool.{Pool};
 ghost use Rattle.keeper_book.specs.declared.pools.Pool.TheVariants as pools;
-ghost use Rattle.turn_laws.specs.Acts.{Act, Calls, Ends, HoldsFor, IsHalfOpen, IsNotBy, MayAsk, MayDo, MayDoAll, MaySettle, Move, Opened, Opens, Seals, Starts, act_by, acts_onto, begun_at, column_at, end_at, half_begun, holding_at, holding_settled, lot_begun, numbers_at, opened_at, uses_at};
+ghost use Rattle.turn_laws.specs.Acts.{Act, Calls, Ends, HoldsFor, IsHalfOpen, IsNotBy, MayAsk, MayDo, MaySettle, Move, Opened, Opens, Seals, Starts, act_by, acts_onto, begun_at, column_at, half_begun, holding_at, holding_settled, lot_begun, numbers_at, opened_at, uses_at};
 ghost use Rattle.turn_laws.specs.Columns.{Column, ColumnGoesOn, column_mark, nothing};
-ghost use Rattle.turn_laws.specs.FirstDelivery.{MemberAcceptsFirst, PeerAcceptsFirst};
 ghost use Rattle.turn_laws.specs.Holdings.{Actor, Begins, Draws, End, Half, Holding, IsNew, IsOwned, Jumps, MayUse, Passes, Rises, Use, holding_after, uses_after};
-ghost use Rattle.turn_laws.specs.Listed.{listed_at};
-ghost use Rattle.turn_laws.specs.OwnTurns.{OwnTurnsTell};
 ghost use Rattle.turn_laws.specs.Owned.{Owned, WritesBook};
-ghost use Rattle.turn_laws.specs.PeerTurns.{told_theirs};
 ghost use Rattle.turn_laws.specs.Places.{Ours, Place, Pooled, Theirs, place_of};
-ghost use Rattle.turn_laws.specs.Replaced.{AreReplacedLater};
 ghost use Rattle.turn_laws.specs.Resumed.{IsResumedRecord};
-ghost use Rattle.turn_laws.specs.Turns.{AreBelowEnds, AreOwned, acts_in, acts_of, told};
-ghost use Rattle.turn_rules.specs.Ends.{Member, Peer, Performer, own};
-ghost use Rattle.turn_rules.specs.Genuine.{AreAccepted};
-ghost use Rattle.turn_rules.specs.Held.{Held, held_by, number_of, window_by};
-ghost use Rattle.turn_rules.specs.Local.{Explained, Stands};
-ghost use Rattle.turn_rules.specs.Safe.{IsEachOnce, KeyIv, Safe, accepted_in, key_ivs};
-
-use esp_packets::sealed_packets_open;
+ghost use Rattle.turn_rules.specs.Ends.{Performer};
+ghost use Rattle.turn_rules.specs.Safe.{IsEachOnce, KeyIv};
 
 /// A call of the keeper keeps what is owned: one that is answered or refused by name, its answer
 /// seen or hidden, and one that failed, whether the book took its entry or was left.
@@ -190,7 +177,8 @@ pub fn starts_keep_owned()
 /// holds the first epoch's IVs alone, nobody used one of them, and no member holds the first epoch
 /// of a counter. The book's IVs go on from these, so that its high and the base of each later epoch
 /// are no lower than where they end. An association of the book under its SPI has the record of its
-/// derivation, and its ticket is spent.
+/// derivation, and its ticket is spent. And whatever has a number that was used, of any counter of
+/// the cluster, under an SPI that no import has, has one that was drawn.
 pub fn half_opens_are_apart()
     ensures alone { (acts : List Act) (book : Book) → Owned acts book
         → (spir : ℕ) → IsHalfOpen acts spir → (v : Actor) (h : Holding)
@@ -228,6 +216,9 @@ pub fn half_opens_are_apart()
         → (spir : ℕ) (o : Opened) → opened_at spir acts ≡ Some o
         → (e : Entry) → entry_of spir book.entries ≡ Some e
         → is_spent o.ticket book.spent ≡ true }
+    ensures used { (acts : List Act) (book : Book) → Owned acts book
+        → (spir : ℕ) → spir < LEAST_SPI → (c : Counter) → numbers_at (Ours spir c) acts ≢ []
+        → Contains (numbers_at (Pooled pools.Nonce) acts) spir }
 {}
 
 /// Lots of a pool lie below its next number and do not meet, a lot belongs to one end, and each
@@ -249,149 +240,3 @@ pub fn lots_are_apart()
     ensures once { (acts : List Act) (book : Book) → Owned acts book → (q : Pool)
         → IsEachOnce (numbers_at (Pooled q) acts) }
 {}
-
-/// What an end's own turns say that it holds of a counter is what the moves of all turns make of
-/// it.
-pub fn own_turns_tell_holdings()
-    ensures members { (boxes : ℕ) (past : List Turn) → Explained boxes past
-        → (member spir : ℕ) (c : Counter)
-        → told spir c (own (Member member) past)
-        ≡ holding_at (Ours spir c) (acts_of past) (End (Member member)) }
-    ensures peer { (boxes : ℕ) (past : List Turn) → Explained boxes past → (name : CounterName)
-        → told_theirs name (own Peer past)
-        ≡ holding_at (Theirs name) (acts_of past) (End Peer) }
-{}
-
-/// What the turns of a run make of what its ends hold, each end's own turns tell.
-pub fn own_turns_tell_states()
-    ensures { (boxes : ℕ) (past : List Turn) → Explained boxes past → OwnTurnsTell boxes past }
-{}
-
-/// What each event does is a list of acts that may be done one after another.
-pub fn turns_are_moves()
-    ensures { (boxes : ℕ) (past : List Turn) (turn : Turn) → Explained boxes (turn ∷ past)
-        → MayDoAll (acts_of past) (acts_in turn) }
-{}
-
-/// Where each turn is explained by its end's own turns, and the book is the one that the calls lead
-/// to, the numbers of the book's epochs belong to one end each.
-pub fn all_is_owned()
-    ensures { (boxes : ℕ) (past : List Turn) (book : Book) → Explained boxes past → Stands past book
-        → AreOwned past book }
-{}
-
-/// The numbers of a counter that the laws speak of are exactly those that the lists of the trace
-/// have: the numbers that were drawn, those of accepted packets, and the IVs of seals. Of a counter
-/// that members send by they are those from which the next number is told.
-pub fn uses_are_told()
-    ensures listed { (past : List Turn) (p : Place)
-        → numbers_at p (acts_of past) ≡ flat_map (listed_at p) past }
-    ensures sent { (boxes : ℕ) (past : List Turn) → Explained boxes past → (spir : ℕ) (c : Counter)
-        → c ≢ counter.EspIn
-        → numbers_at (Ours spir c) (acts_of past) ≡ filter_map (number_of spir c) past }
-{}
-
-/// No number of a counter is used twice, by whatever ends: of no counter of the cluster or the
-/// peer, and in particular of no counter that events of members used.
-pub fn no_number_twice()
-    ensures places { (boxes : ℕ) (past : List Turn) (book : Book) → Explained boxes past
-        → Stands past book
-        → (p : Place) → IsEachOnce (numbers_at p (acts_of past)) }
-    ensures counters { (boxes : ℕ) (past : List Turn) (book : Book) → Explained boxes past
-        → Stands past book
-        → (spir : ℕ) (c : Counter) → IsEachOnce (filter_map (number_of spir c) past) }
-{}
-
-/// No number reaches its counter's end, as the record of what was held gives it, whatever the
-/// keeper's book is. An honest book gives the same end.
-pub fn no_number_past_its_end()
-    ensures uses { (boxes : ℕ) (past : List Turn) → Explained boxes past → AreBelowEnds past }
-    ensures places { (boxes : ℕ) (past : List Turn) (book : Book) → Explained boxes past
-        → Stands past book
-        → (p : Place) → AllByRecursion (λ n. n < end_at p (acts_of past) book)
-        (numbers_at p (acts_of past)) }
-    ensures counters { (boxes : ℕ) (past : List Turn) (book : Book) → Explained boxes past
-        → Stands past book
-        → (spir : ℕ) (c : Counter)
-        → AllByRecursion (λ n. n < end_at (Ours spir c) (acts_of past) book)
-        (filter_map (number_of spir c) past) }
-{}
-
-/// Two members that hold an association, the replaced ones too, hold different epochs, and where an
-/// earlier epoch's highs end, the later one's bases have not begun.
-pub fn holdings_are_apart()
-    ensures epochs { (boxes : ℕ) (past : List Turn) (book : Book) → Explained boxes past
-        → Stands past book
-        → (m k spir : ℕ) (h g : Held) → held_by (window_by past) (own (Member m) past) spir ≡ Some h
-        → held_by (window_by past) (own (Member k) past) spir ≡ Some g
-        → h.epoch ≡ g.epoch → m ≡ k }
-    ensures highs { (boxes : ℕ) (past : List Turn) (book : Book) → Explained boxes past
-        → Stands past book
-        → (m k spir : ℕ) (h g : Held) → held_by (window_by past) (own (Member m) past) spir ≡ Some h
-        → held_by (window_by past) (own (Member k) past) spir ≡ Some g
-        → h.epoch < g.epoch → (c : Counter) → five_at h.highs c ≤ five_at g.bases c }
-{}
-
-/// With an honest book a cover that is answered `Replaced` is one of an earlier epoch than the
-/// answer names: that of the holding of the end that asked.
-pub fn replaced_by_later_epochs()
-    ensures holdings { (acts : List Act) (w : Actor) (old new : Book) (spir : ℕ) (kind : Kind)
-        (child epoch upto later : ℕ)
-        → Owned acts old
-        → MayAsk acts w (ask.Cover spir kind child epoch upto)
-        → Answers old (ask.Cover spir kind child epoch upto)
-        (answer.Refused (fault.Replaced later)) new
-        → (c : Counter) (h : Holding) → counter_named kind child ≡ Some c
-        → holding_at (Ours spir c) acts w ≡ Some h → h.epoch < later }
-    ensures calls { (boxes : ℕ) (past : List Turn) (book : Book) → Explained boxes past
-        → Stands past book → AreReplacedLater past }
-{}
-
-/// With an honest book no two associations that members hold receive at one SPI.
-pub fn one_receives_at_an_spi()
-    ensures { (boxes : ℕ) (past : List Turn) (book : Book) → Explained boxes past → Stands past book
-        → (m k a b : ℕ) (h g : Held) → held_by (window_by past) (own (Member m) past) a ≡ Some h
-        → held_by (window_by past) (own (Member k) past) b ≡ Some g
-        → h.sa.spi_in ≡ g.sa.spi_in → a ≡ b }
-{}
-
-/// No key and IV seals two plaintexts, whatever ends seal: an IV is a number of its key's counter.
-pub fn no_nonce_reuse()
-    ensures { (boxes : ℕ) (past : List Turn) (book : Book) → Explained boxes past → Stands past book
-        → IsEachOnce (key_ivs past) }
-{}
-
-/// No packet is accepted twice, by whatever ends: its number is one of the counter that receives
-/// it.
-pub fn packets_once()
-    ensures { (boxes : ℕ) (past : List Turn) (book : Book) → Explained boxes past → Stands past book
-        → IsEachOnce (filter_map accepted_in past) }
-{}
-
-/// No event is executed by a service.
-pub fn nothing_is_executed()
-    ensures { (boxes : ℕ) (past : List Turn) → Explained boxes past
-        → AllByRecursion (λ turn. turn.step.served ≡ None) past }
-{}
-
-/// A covered genuine packet that comes to an end that is up is accepted at first delivery, by a
-/// member where its number is acknowledged to it. Genuine are octets that open, whoever sealed
-/// them, and new is what no earlier turn accepted.
-pub fn genuine_are_accepted()
-    ensures runs { (boxes : ℕ) (past : List Turn) → Explained boxes past → AreAccepted past }
-    ensures members { (boxes : ℕ) (past : List Turn) (turn : Turn) → Explained boxes (turn ∷ past)
-        → MemberAcceptsFirst past turn }
-    ensures peer { (boxes : ℕ) (past : List Turn) (turn : Turn) → Explained boxes (turn ∷ past)
-        → PeerAcceptsFirst past turn }
-{
-    sealed_packets_open();
-}
-
-/// What holds across the ends: no key and IV seals two plaintexts, no packet is accepted twice, and
-/// covered genuine packets are accepted at first delivery.
-pub fn runs_are_safe()
-    ensures { (boxes : ℕ) (past : List Turn) (book : Book) → Explained boxes past → Stands past book
-        → Safe past }
-{
-    genuine_are_accepted();
-}

@@ -1,4 +1,4 @@
-use Rattle.turn_laws.proofs.Halves.{half-above, half-alone, half-none, half-unheld, half-unused, high-above, later-above, opened-drawn, recorded-its}
+use Rattle.turn_laws.proofs.Halves.{half-above, half-alone, half-none, half-unheld, half-unused, high-above, later-above, opened-drawn, recorded-its, used-drawn}
 use Rattle.turn_laws.proofs.laws.half_opens_are_apart.Goals as goal
 
 pub returns-clause-alone : goal.returns-clause-alone
@@ -33,3 +33,6 @@ returns-clause-its_record c acts book owned spir o is e found = (recorded-its ac
 
 pub returns-clause-spent : goal.returns-clause-spent
 returns-clause-spent c acts book owned spir o is e found = (recorded-its acts book owned spir o is e found).1
+
+pub returns-clause-used : goal.returns-clause-used
+returns-clause-used c = used-drawn

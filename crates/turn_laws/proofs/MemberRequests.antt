@@ -1,0 +1,227 @@
+-- Each request that a member asks or answers is a deed.
+use Rattle.std.proofs.Common.{◌≡◌, ◌≢◌, ℕ, ◌==◌, ◌&&◌, Bool, true, false, Option, Some, None, MatchBool, MatchOption, List, [], ◌∷◌, ⊎_elim, refl, ap, sym, ◌∙◌, subst, if◌then◌else◌}
+use Rattle.events.specs.declared.event.Event.{Event}
+use Rattle.events.specs.declared.event.Event.TheVariants as event
+use Rattle.events.specs.declared.event.Party.TheVariants as parties
+use Rattle.events.specs.declared.turn.Step.{Step}
+use Rattle.events.specs.declared.turn.Turn.{Turn}
+use Rattle.events.specs.declared.verdict.Refusal.{Refusal}
+use Rattle.events.specs.declared.verdict.Refusal.TheVariants as refusal
+use Rattle.events.specs.declared.verdict.Verdict.TheVariants as out
+use Rattle.ha_base.specs.Octets.{WithRoom}
+use Rattle.ha_base.specs.declared.counter_names.End.TheVariants as end
+use Rattle.horizons.specs.Ready.{Ready}
+use Rattle.horizons.specs.declared.stop.Stop.{Stop}
+use Rattle.ike_window.specs.Kept.{kept_octets}
+use Rattle.ike_window.specs.Requests.{IsNewRequest}
+use Rattle.ike_window.specs.Windows.{IsAnswered}
+use Rattle.keeper_book.specs.Counters.{five_at}
+use Rattle.keeper_book.specs.declared.calls.Call.{Call}
+use Rattle.keeper_book.specs.declared.counters.Counter.{Counter}
+use Rattle.keeper_book.specs.declared.counters.Counter.TheVariants as counter
+use Rattle.sk_payload.specs.declared.open.Opened.{Opened}
+use Rattle.turn_laws.proofs.Arrivals.{Answered_by, Rested_by, Taken, again-rests, message-taken}
+use Rattle.turn_laws.proofs.Covers.{ready-as, ready-calls}
+use Rattle.turn_laws.proofs.Deeds.{AreReady, Deed, IsOpen, Last, Need, Rested, Rests, Used, UsesIt, says-rests}
+use Rattle.turn_laws.proofs.Members.{member-performs, own-held}
+use Rattle.turn_laws.proofs.Names.{place-ours}
+use Rattle.turn_laws.proofs.Pairs.{Answering, UsesPair, answering-pair, asking-pair, pair-first, pair-it, pair-none, pair-second, request-answering, sealed-here, sends-seals}
+use Rattle.turn_laws.proofs.Receiving.{Brings}
+use Rattle.turn_laws.proofs.Uses.{number_at, spent_of}
+use Rattle.turn_laws.specs.Listed.{request_at}
+use Rattle.turn_laws.specs.Places.{Ours}
+use Rattle.turn_laws.proofs.Single.{untaken-answered}
+use Rattle.turn_rules.specs.Safe.{taken_as}
+use Rattle.turn_laws.specs.Turns.{answered, number_taken}
+use Rattle.turn_rules.proofs.Refusals.{stop-own}
+use Rattle.turn_rules.proofs.Ties.{said-receiving}
+use Rattle.turn_rules.specs.Draws.{counter_name, reach_of, refusal_of_stop}
+use Rattle.turn_rules.specs.Ends.{Member, is_refused_by_run, own, performer_of}
+use Rattle.turn_rules.specs.Held.{Held, first_some, held_by, said_in, window_by}
+use Rattle.turn_rules.specs.IkeState.{is_of_spir}
+use Rattle.turn_rules.specs.MemberMessages.{HeldAnswers, HeldAsks, HeldSendsRequest, ReadiesWithIv, RefusesThen, ResendsOf, held_ike, member_listener, of_spii}
+use Rattle.turn_rules.specs.Messages.{GivesAgain, SendsRequest, TakesMessage, Windowed}
+use Rattle.turn_rules.specs.Peers.{record_entered}
+use Rattle.turn_rules.specs.States.{told_state}
+use Rattle.turn_rules.specs.Steps.{Says}
+use Rattle.turn_rules.specs.Tasks as task
+use Rattle.turn_rules.specs.Tasks.{member_task}
+use Rattle.ike_sas.specs.Held.{request_header}
+use Rattle.ike_sas.specs.Answers.{request_payloads}
+
+-- A member uses a number of what it holds and its next IV, once both are ready.
+module _ (past : List Turn) (event : Event) (step : Step) (member : ℕ) (held : Held) (is_held : held_by (window_by past) (own (Member member) past) held.sa.spir ≡ Some held)
+    (performs : performer_of event step.verdict ≡ Some (Member member)) (c : Counter) (n : ℕ) (is_open : IsOpen held c n) (done : Type 0) where
+  abbrev iv : ℕ
+  iv = five_at held.nexts counter.Iv
+
+  abbrev Stopped : Stop → List Call → Type 0
+  Stopped why rest = RefusesThen (refusal_of_stop why) rest step
+
+  abbrev Done : ℕ → List Call → Type 0
+  Done high rest = (rest ≡ []) × done
+
+  abbrev Sealing : ℕ → List Call → Type 0
+  Sealing high rest = Ready (reach_of held counter.Iv) iv rest Stopped Done
+
+  abbrev IsPair : Type 0
+  IsPair = UsesPair (Ours held.sa.spir c) (Ours held.sa.spir counter.Iv) n iv event step
+
+  abbrev Goes : List Call → Type 0
+  Goes rest = Last rest (UsesIt (spent_of (Ours held.sa.spir c) n ∷ spent_of (Ours held.sa.spir counter.Iv) iv ∷ []) event step)
+
+  abbrev iv_need : List (Need past member)
+  iv_need = record { held = held; c = counter.Iv; number = iv; is_held = is_held; is_open = refl } ∷ []
+
+  abbrev needs : List (Need past member)
+  needs = record { held = held; c = c; number = n; is_held = is_held; is_open = is_open } ∷ iv_need
+
+  pair-not_run : (done → IsPair) → (calls : List Call) → ReadiesWithIv held c n calls step done → is_refused_by_run step.verdict ≡ false
+  pair-not_run pair calls ready = ready-calls (λ calls. is_refused_by_run step.verdict ≡ false) (reach_of held c) n Stopped Sealing
+      (λ call rest asked is. is)
+      (λ why rest s. let said : _ = s.1.said in rw said (stop-own why))
+      (λ high rest more. ready-calls (λ calls. is_refused_by_run step.verdict ≡ false) (reach_of held counter.Iv) iv Stopped Done
+      (λ call rest asked is. is)
+      (λ why rest s. let said : _ = s.1.said in rw said (stop-own why))
+      (λ high rest d. (pair d.1).not_run)
+      rest more)
+      calls ready
+
+  pub pair-used : Ours held.sa.spir c ≢ Ours held.sa.spir counter.Iv → (done → IsPair)
+      → (done → (other : ℕ) (d : Counter) → number_taken other d event step ≡ first_some (number_at (Ours other d) (Ours held.sa.spir c) n) (number_at (Ours other d) (Ours held.sa.spir counter.Iv) iv))
+      → (done → (other : ℕ) → answered other event step.verdict ≡ request_at (Ours other counter.Answer) (taken_as step.verdict))
+      → (calls : List Call) → ReadiesWithIv held c n calls step done → Deed past event calls step
+  pair-used apart pair told answers calls ready = Used (record {
+    member = member;
+    needs = needs;
+    lot = None;
+    by_it = member-performs event step.verdict member performs (pair-not_run pair calls ready);
+    ready = ready-as (reach_of held c) n Stopped (λ why rest. Last rest (Rests step)) Sealing (λ high rest. AreReady iv_need rest (Rests step) Goes)
+        rests
+        (λ high rest more. ready-as (reach_of held counter.Iv) iv Stopped (λ why rest. Last rest (Rests step)) Done (λ high rest. Goes rest)
+        rests
+        (λ high rest d. record { ended = d.0; is = pair-it held.sa.spir c n iv event step apart (pair d.1) (told d.1) (answers d.1) })
+        rest more)
+        calls ready;
+  })
+    where
+      rests : (why : Stop) (rest : List Call) → Stopped why rest → Last rest (Rests step)
+      rests why rest s = record { ended = s.0; is = says-rests step (out.Refused (refusal_of_stop why)) tt s.1 }
+
+first-only : (b : Bool) (n k : ℕ) → first_some (if b && true then Some n else None) (if b && false then Some k else None) ≡ (if b && true then Some n else None)
+first-only true n k = refl
+first-only false n k = refl
+
+refused-then : (past : List Turn) (event : Event) (calls : List Call) (step : Step) (why : Refusal) → record_entered event step.verdict ≡ None → RefusesThen why calls step → Deed past event calls step
+refused-then past event calls step why none r = Rested r.0 (says-rests step (out.Refused why) tt r.1) none
+
+-- a member asks, by what it holds
+module _ (past : List Turn) (step : Step) (member spir : ℕ) (request : WithRoom) (held : Held) (own_spir : held.sa.spir ≡ spir)
+    (is_held : held_by (window_by past) (own (Member member) past) held.sa.spir ≡ Some held) where
+  abbrev asked : Event
+  asked = event.Ask (parties.Member member) spir request
+
+  abbrev id : ℕ
+  id = five_at held.nexts counter.Ask
+
+  abbrev its_iv : ℕ
+  its_iv = five_at held.nexts counter.Iv
+
+  abbrev Sent : Type 0
+  Sent = SendsRequest (held_ike held) id its_iv request.octets step
+
+  asked-told : Sent → (other : ℕ) (d : Counter) → number_taken other d asked step ≡ first_some (number_at (Ours other d) (Ours held.sa.spir counter.Ask) id) (number_at (Ours other d) (Ours held.sa.spir counter.Iv) its_iv)
+  asked-told s other counter.EspOut = pair-none (held.sa.spir == other) id its_iv
+  asked-told s other counter.EspIn = pair-none (held.sa.spir == other) id its_iv
+  asked-told s other counter.Iv = sealed-here held.sa end.Cluster (counter_name held.sa counter.Iv) its_iv step refl refl refl (sends-seals (held_ike held) its_iv (request_header (held_ike held).keys id) (request_payloads request.octets) step s.sends) other
+      ∙ pair-second (held.sa.spir == other) id its_iv
+  asked-told s other counter.Ask = ap (said_in other counter.Ask (task.Ask spir request.octets)) s.said
+      ∙ (ap (λ k. if k == other then Some id else None) (sym own_spir) ∙ pair-first (held.sa.spir == other) id its_iv)
+  asked-told s other counter.Answer = pair-none (held.sa.spir == other) id its_iv
+
+  pub asks-deed : (calls : List Call) → HeldAsks held request.octets calls step → Deed past asked calls step
+  asks-deed calls asks = by_synced held.synced asks
+    where
+      sends : HeldSendsRequest held request.octets calls step → Deed past asked calls step
+      sends ready = pair-used past asked step member held is_held refl counter.Ask id refl Sent (λ same. absurd (cc))
+          (λ s. asking-pair asked step (held_ike held) (Ours held.sa.spir counter.Ask) (Ours held.sa.spir counter.Iv) id its_iv request.octets (place-ours held.sa counter.Ask) (place-ours held.sa counter.Iv) s)
+          asked-told
+          (λ s other. untaken-answered other asked step.verdict (ap taken_as s.said) ∙ sym (ap (λ v. request_at (Ours other counter.Answer) (taken_as v)) s.said))
+          calls ready
+
+      windowed : Windowed (held_ike held) id (λ least. RefusesThen (refusal.WindowFull least) calls step) (HeldSendsRequest held request.octets calls step) → Deed past asked calls step
+      windowed w = ⊎_elim (λ fits. sends fits.1) (λ full. refused-then past asked calls step (refusal.WindowFull full.0) refl full.3) w
+
+      by_synced : (b : Bool) → MatchBool b (Windowed (held_ike held) id (λ least. RefusesThen (refusal.WindowFull least) calls step) (HeldSendsRequest held request.octets calls step)) (RefusesThen refusal.NotSynced calls step)
+          → Deed past asked calls step
+      by_synced true w = windowed w
+      by_synced false r = refused-then past asked calls step refusal.NotSynced refl r
+
+-- and asks again
+pub resends-deed : (past : List Turn) (step : Step) (member spir id : ℕ) (x : Option Held) (calls : List Call) → ResendsOf x id calls step → Deed past (event.Again (parties.Member member) spir id) calls step
+resends-deed past step member spir id None calls r = refused-then past (event.Again (parties.Member member) spir id) calls step refusal.NotOwner refl r
+resends-deed past step member spir id (Some held) calls r = Rested r.0 (go (kept_octets id held.asked) r.1) refl
+  where
+    go : (o : Option (List ℕ)) → MatchOption o (Says (out.Refused (refusal.NotOutstanding id)) step) (λ octets. GivesAgain (out.Resent id) octets step) → Rests step
+    go None says = says-rests step (out.Refused (refusal.NotOutstanding id)) tt says
+    go (Some octets) again = again-rests (out.Resent id) octets step tt again
+
+-- a member gets an IKE message, by what it holds
+module _ (boxes : ℕ) (past : List Turn) (own_spir : (member spir : ℕ) (held : Held) → held_by (window_by past) (own (Member member) past) spir ≡ Some held → held.sa.spir ≡ spir)
+    (event : Event) (calls : List Call) (step : Step) (member : ℕ) (brings : Brings event (parties.Member member)) where
+  module _ (held : Held) (is_held : held_by (window_by past) (own (Member member) past) held.sa.spir ≡ Some held) (request : Opened)
+      (new : IsNewRequest held.answered.low (IsAnswered held.answered) request.header.id) where
+    abbrev taken : ℕ
+    taken = request.header.id
+
+    abbrev the_iv : ℕ
+    the_iv = five_at held.nexts counter.Iv
+
+    abbrev Answered : Type 0
+    Answered = Answering (counter_name held.sa counter.Answer) taken (counter_name held.sa counter.Iv) the_iv step
+
+    unsaid : (other : ℕ) (d : Counter) → said_in other d (member_task event) step.verdict ≡ None
+    unsaid other d = ap (λ t. said_in other d t step.verdict) brings.member_receives ∙ said-receiving other d step.verdict
+
+    answered-told : Answered → (other : ℕ) (d : Counter) → number_taken other d event step ≡ first_some (number_at (Ours other d) (Ours held.sa.spir counter.Answer) taken) (number_at (Ours other d) (Ours held.sa.spir counter.Iv) the_iv)
+    answered-told a other counter.EspOut = unsaid other counter.EspOut ∙ pair-none (held.sa.spir == other) taken the_iv
+    answered-told a other counter.EspIn = brings.receives other step.verdict ∙ (a.none_received other ∙ pair-none (held.sa.spir == other) taken the_iv)
+    answered-told a other counter.Iv = sealed-here held.sa end.Cluster (counter_name held.sa counter.Iv) the_iv step refl refl refl a.seals other ∙ pair-second (held.sa.spir == other) taken the_iv
+    answered-told a other counter.Ask = unsaid other counter.Ask ∙ pair-none (held.sa.spir == other) taken the_iv
+    answered-told a other counter.Answer = brings.answers other step.verdict ∙ (a.taken other
+        ∙ (ap (λ o. if is_of_spir other o then Some taken else None) held.sa.origin_is_own ∙ pair-first (held.sa.spir == other) taken the_iv))
+
+    answered-taken : Answered → (other : ℕ) → answered other event step.verdict ≡ request_at (Ours other counter.Answer) (taken_as step.verdict)
+    answered-taken a other =
+        answered-told a other counter.Answer
+        ∙ (first-only (held.sa.spir == other) taken the_iv
+        ∙ (ap (λ p. number_at (Ours other counter.Answer) p taken) (sym (place-ours held.sa counter.Answer))
+        ∙ sym (ap (request_at (Ours other counter.Answer)) a.is_taken)))
+
+    answers-deed : HeldAnswers held request calls step → Deed past event calls step
+    answers-deed ready = pair-used past event step member held is_held (brings.performs step.verdict) counter.Answer taken new _ (λ same. absurd (cc))
+        (λ s. answering-pair event step (counter_name held.sa counter.Answer) (counter_name held.sa counter.Iv) (Ours held.sa.spir counter.Answer) (Ours held.sa.spir counter.Iv) taken the_iv
+        (place-ours held.sa counter.Answer) (place-ours held.sa counter.Iv) (request-answering (counter_name held.sa counter.Answer) (held_ike held) the_iv request step s))
+        (λ s. answered-told (request-answering (counter_name held.sa counter.Answer) (held_ike held) the_iv request step s))
+        (λ s. answered-taken (request-answering (counter_name held.sa counter.Answer) (held_ike held) the_iv request step s))
+        calls ready
+
+  -- what is held of an association under both SPIs is held under the responder's
+  of-spii : (spii : ℕ) (x : Option Held) (held : Held) → of_spii spii x ≡ Some held → x ≡ Some held
+  of-spii spii None held is = absurd (cc)
+  of-spii spii (Some other) held is = by_test (other.sa.spii == spii) is
+    where
+      by_test : (b : Bool) → (if b then Some other else None) ≡ Some held → Some other ≡ Some held
+      by_test true is = is
+      by_test false is = absurd (cc)
+
+  pub member_message-deed : (octets : List ℕ) → TakesMessage (member_listener ((told_state boxes past).members member).held) octets calls step → Deed past event calls step
+  member_message-deed octets takes = go (message-taken (member_listener ((told_state boxes past).members member).held) calls step octets takes)
+    where
+      go : Taken (member_listener ((told_state boxes past).members member).held) calls step → Deed past event calls step
+      go (Rested_by none rests) = Rested none rests (brings.no_entry step.verdict)
+      go (Answered_by held request found new answers) =
+          let spir : ℕ = request.header.spir in
+          let is_held : held_by (window_by past) (own (Member member) past) spir ≡ Some held =
+          own-held boxes past member spir held (of-spii request.header.spii (((told_state boxes past).members member).held spir) held found) in
+          answers-deed held (subst (λ k. held_by (window_by past) (own (Member member) past) k ≡ Some held) (sym (own_spir member spir held is_held)) is_held) request new answers

@@ -1,5 +1,0 @@
-use Rattle.turn_laws.proofs.All.{owned-run}
-use Rattle.turn_laws.proofs.laws.all_is_owned.Goals as goal
-
-pub returns : goal.returns
-returns c = owned-run

@@ -1,5 +1,0 @@
-use Rattle.turn_laws.proofs.Sealed.{no-nonce-reuse}
-use Rattle.turn_laws.proofs.laws.no_nonce_reuse.Goals as goal
-
-pub returns : goal.returns
-returns c = no-nonce-reuse

@@ -1,5 +1,0 @@
-use Rattle.turn_laws.proofs.Receivers.{receivers-apart}
-use Rattle.turn_laws.proofs.laws.one_receives_at_an_spi.Goals as goal
-
-pub returns : goal.returns
-returns c = receivers-apart

@@ -1,9 +1,0 @@
-use Rattle.turn_laws.proofs.Theirs.{told_theirs-held}
-use Rattle.turn_laws.proofs.Told.{told-held}
-use Rattle.turn_laws.proofs.laws.own_turns_tell_holdings.Goals as goal
-
-pub returns-clause-members : goal.returns-clause-members
-returns-clause-members c = told-held
-
-pub returns-clause-peer : goal.returns-clause-peer
-returns-clause-peer c = told_theirs-held

@@ -1,5 +1,0 @@
-use Rattle.turn_laws.proofs.Accepted.{packets-once}
-use Rattle.turn_laws.proofs.laws.packets_once.Goals as goal
-
-pub returns : goal.returns
-returns c = packets-once

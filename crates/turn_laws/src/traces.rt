@@ -1,0 +1,193 @@
+//! The laws of whole traces. Each is the contract of a function that does nothing.
+
+ghost use Rattle.std.specs.Prelude.{◌≡◌, ◌≢◌, ◌<◌, ◌≤◌, ℕ, Some, IsSome, List, ◌∷◌};
+ghost use Rattle.std.specs.List.{AllByRecursion, filter_map, flat_map};
+ghost use Rattle.events.specs.declared.turn.Turn.{Turn};
+ghost use Rattle.keeper_book.specs.Book.{Answers, Book};
+ghost use Rattle.keeper_book.specs.Counters.{counter_named, five_at};
+ghost use Rattle.ha_base.specs.declared.counter_names.CounterName.{CounterName};
+ghost use Rattle.ha_base.specs.declared.counter_names.Kind.{Kind};
+ghost use Rattle.keeper_book.specs.declared.calls.KeeperAnswer.TheVariants as answer;
+ghost use Rattle.keeper_book.specs.declared.calls.KeeperAsk.TheVariants as ask;
+ghost use Rattle.keeper_book.specs.declared.counters.Counter.{Counter};
+ghost use Rattle.keeper_book.specs.declared.counters.Counter.TheVariants as counter;
+ghost use Rattle.keeper_book.specs.declared.faults.KeeperFault.TheVariants as fault;
+ghost use Rattle.turn_laws.specs.Acts.{Act, MayAsk, MayDoAll, end_at, holding_at, numbers_at};
+ghost use Rattle.turn_laws.specs.FirstDelivery.{MemberAcceptsFirst, PeerAcceptsFirst};
+ghost use Rattle.turn_laws.specs.Holdings.{Actor, End, Holding};
+ghost use Rattle.turn_laws.specs.Listed.{listed_at, request_at};
+ghost use Rattle.turn_laws.specs.OwnTurns.{OwnTurnsTell};
+ghost use Rattle.turn_laws.specs.Owned.{Owned};
+ghost use Rattle.turn_laws.specs.PeerTurns.{told_theirs};
+ghost use Rattle.turn_laws.specs.Places.{Ours, Place, Theirs};
+ghost use Rattle.turn_laws.specs.Replaced.{AreReplacedLater};
+ghost use Rattle.turn_laws.specs.Serving.{ServesNamed};
+ghost use Rattle.turn_laws.specs.Turns.{AreBelowEnds, AreOwned, acts_in, acts_of, told};
+ghost use Rattle.turn_rules.specs.Ends.{Member, Peer, own};
+ghost use Rattle.turn_rules.specs.Genuine.{AreAccepted};
+ghost use Rattle.turn_rules.specs.Held.{Held, held_by, number_of, window_by};
+ghost use Rattle.turn_rules.specs.Local.{Explained, Stands};
+ghost use Rattle.turn_rules.specs.Safe.{IsEachOnce, Safe, TakesWhereServed, accepted_in, key_ivs, taken_in};
+
+use esp_packets::sealed_packets_open;
+
+/// What an end's own turns say that it holds of a counter is what the moves of all turns make of
+/// it.
+pub fn own_turns_tell_holdings()
+    ensures members { (boxes : ℕ) (past : List Turn) → Explained boxes past
+        → (member spir : ℕ) (c : Counter)
+        → told spir c (own (Member member) past)
+        ≡ holding_at (Ours spir c) (acts_of past) (End (Member member)) }
+    ensures peer { (boxes : ℕ) (past : List Turn) → Explained boxes past → (name : CounterName)
+        → told_theirs name (own Peer past)
+        ≡ holding_at (Theirs name) (acts_of past) (End Peer) }
+{}
+
+/// What the turns of a run make of what its ends hold, each end's own turns tell.
+pub fn own_turns_tell_states()
+    ensures { (boxes : ℕ) (past : List Turn) → Explained boxes past → OwnTurnsTell boxes past }
+{}
+
+/// What each event does is a list of acts that may be done one after another.
+pub fn turns_are_moves()
+    ensures { (boxes : ℕ) (past : List Turn) (turn : Turn) → Explained boxes (turn ∷ past)
+        → MayDoAll (acts_of past) (acts_in turn) }
+{}
+
+/// Where each turn is explained by its end's own turns, and the book is the one that the calls lead
+/// to, the numbers of the book's epochs belong to one end each.
+pub fn all_is_owned()
+    ensures { (boxes : ℕ) (past : List Turn) (book : Book) → Explained boxes past → Stands past book
+        → AreOwned past book }
+{}
+
+/// The numbers of a counter that the laws speak of are exactly those that the lists of the trace
+/// have: the numbers that were drawn, those of accepted packets, the Message IDs of requests that
+/// were asked and taken, and the IVs of seals. Of a counter that members send by they are those from
+/// which the next number is told, and of the requests that members answer, those that turns take.
+pub fn uses_are_told()
+    ensures listed { (past : List Turn) (p : Place)
+        → numbers_at p (acts_of past) ≡ flat_map (listed_at p) past }
+    ensures sent { (boxes : ℕ) (past : List Turn) → Explained boxes past → (spir : ℕ) (c : Counter)
+        → c ≢ counter.EspIn → c ≢ counter.Answer
+        → numbers_at (Ours spir c) (acts_of past) ≡ filter_map (number_of spir c) past }
+    ensures taken { (boxes : ℕ) (past : List Turn) → Explained boxes past → (spir : ℕ)
+        → numbers_at (Ours spir counter.Answer) (acts_of past)
+        ≡ filter_map (λ turn. request_at (Ours spir counter.Answer) (taken_in turn)) past }
+{}
+
+/// No number of a counter is used twice, by whatever ends: of no counter of the cluster or the
+/// peer, and in particular of no counter that events of members used.
+pub fn no_number_twice()
+    ensures places { (boxes : ℕ) (past : List Turn) (book : Book) → Explained boxes past
+        → Stands past book
+        → (p : Place) → IsEachOnce (numbers_at p (acts_of past)) }
+    ensures counters { (boxes : ℕ) (past : List Turn) (book : Book) → Explained boxes past
+        → Stands past book
+        → (spir : ℕ) (c : Counter) → IsEachOnce (filter_map (number_of spir c) past) }
+{}
+
+/// No number reaches its counter's end, as the record of what was held gives it, whatever the
+/// keeper's book is. An honest book gives the same end.
+pub fn no_number_past_its_end()
+    ensures uses { (boxes : ℕ) (past : List Turn) → Explained boxes past → AreBelowEnds past }
+    ensures places { (boxes : ℕ) (past : List Turn) (book : Book) → Explained boxes past
+        → Stands past book
+        → (p : Place) → AllByRecursion (λ n. n < end_at p (acts_of past) book)
+        (numbers_at p (acts_of past)) }
+    ensures counters { (boxes : ℕ) (past : List Turn) (book : Book) → Explained boxes past
+        → Stands past book
+        → (spir : ℕ) (c : Counter)
+        → AllByRecursion (λ n. n < end_at (Ours spir c) (acts_of past) book)
+        (filter_map (number_of spir c) past) }
+{}
+
+/// Two members that hold an association, the replaced ones too, hold different epochs, and where an
+/// earlier epoch's highs end, the later one's bases have not begun.
+pub fn holdings_are_apart()
+    ensures epochs { (boxes : ℕ) (past : List Turn) (book : Book) → Explained boxes past
+        → Stands past book
+        → (m k spir : ℕ) (h g : Held) → held_by (window_by past) (own (Member m) past) spir ≡ Some h
+        → held_by (window_by past) (own (Member k) past) spir ≡ Some g
+        → h.epoch ≡ g.epoch → m ≡ k }
+    ensures highs { (boxes : ℕ) (past : List Turn) (book : Book) → Explained boxes past
+        → Stands past book
+        → (m k spir : ℕ) (h g : Held) → held_by (window_by past) (own (Member m) past) spir ≡ Some h
+        → held_by (window_by past) (own (Member k) past) spir ≡ Some g
+        → h.epoch < g.epoch → (c : Counter) → five_at h.highs c ≤ five_at g.bases c }
+{}
+
+/// With an honest book a cover that is answered `Replaced` is one of an earlier epoch than the
+/// answer names: that of the holding of the end that asked.
+pub fn replaced_by_later_epochs()
+    ensures holdings { (acts : List Act) (w : Actor) (old new : Book) (spir : ℕ) (kind : Kind)
+        (child epoch upto later : ℕ)
+        → Owned acts old
+        → MayAsk acts w (ask.Cover spir kind child epoch upto)
+        → Answers old (ask.Cover spir kind child epoch upto)
+        (answer.Refused (fault.Replaced later)) new
+        → (c : Counter) (h : Holding) → counter_named kind child ≡ Some c
+        → holding_at (Ours spir c) acts w ≡ Some h → h.epoch < later }
+    ensures calls { (boxes : ℕ) (past : List Turn) (book : Book) → Explained boxes past
+        → Stands past book → AreReplacedLater past }
+{}
+
+/// With an honest book no two associations that members hold receive at one SPI.
+pub fn one_receives_at_an_spi()
+    ensures { (boxes : ℕ) (past : List Turn) (book : Book) → Explained boxes past → Stands past book
+        → (m k a b : ℕ) (h g : Held) → held_by (window_by past) (own (Member m) past) a ≡ Some h
+        → held_by (window_by past) (own (Member k) past) b ≡ Some g
+        → h.sa.spi_in ≡ g.sa.spi_in → a ≡ b }
+{}
+
+/// No key and IV seals two plaintexts, whatever ends seal: an IV is a number of its key's counter.
+pub fn no_nonce_reuse()
+    ensures { (boxes : ℕ) (past : List Turn) (book : Book) → Explained boxes past → Stands past book
+        → IsEachOnce (key_ivs past) }
+{}
+
+/// No packet is accepted twice, by whatever ends: its number is one of the counter that receives
+/// it.
+pub fn packets_once()
+    ensures { (boxes : ℕ) (past : List Turn) (book : Book) → Explained boxes past → Stands past book
+        → IsEachOnce (filter_map accepted_in past) }
+{}
+
+/// No request is taken twice, of one association, by one answering end and under one Message ID,
+/// and a service executes only in a turn that takes one.
+pub fn requests_once()
+    ensures once { (boxes : ℕ) (past : List Turn) (book : Book) → Explained boxes past
+        → Stands past book → IsEachOnce (filter_map taken_in past) }
+    ensures served { (boxes : ℕ) (past : List Turn) → Explained boxes past
+        → AllByRecursion TakesWhereServed past }
+{}
+
+/// What a turn executes is executed for the end that its event names, which is up: a member that
+/// joined and did not end, or the peer.
+pub fn executed_for_the_named()
+    ensures { (boxes : ℕ) (past : List Turn) (turn : Turn) → Explained boxes (turn ∷ past)
+        → IsSome turn.step.served → ServesNamed past turn }
+{}
+
+/// A covered genuine packet that comes to an end that is up is accepted at first delivery, by a
+/// member where its number is acknowledged to it. Genuine are octets that open, whoever sealed
+/// them, and new is what no earlier turn accepted.
+pub fn genuine_are_accepted()
+    ensures runs { (boxes : ℕ) (past : List Turn) → Explained boxes past → AreAccepted past }
+    ensures members { (boxes : ℕ) (past : List Turn) (turn : Turn) → Explained boxes (turn ∷ past)
+        → MemberAcceptsFirst past turn }
+    ensures peer { (boxes : ℕ) (past : List Turn) (turn : Turn) → Explained boxes (turn ∷ past)
+        → PeerAcceptsFirst past turn }
+{
+    sealed_packets_open();
+}
+
+/// What holds across the ends: no key and IV seals two plaintexts, no packet is accepted twice,
+/// covered genuine packets are accepted at first delivery, and no request is taken twice, nor is one
+/// executed that is not taken.
+pub fn runs_are_safe()
+    ensures { (boxes : ℕ) (past : List Turn) (book : Book) → Explained boxes past → Stands past book
+        → Safe past }
+{
+    genuine_are_accepted();
+}
