@@ -6,6 +6,7 @@ pub mod Judgements
 pub mod Parts
 pub mod Auth
 pub mod Lots
+pub mod Ready
 pub mod ResumedKeys
 pub mod FirstMessages
 pub mod AuthMessages

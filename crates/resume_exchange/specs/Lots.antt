@@ -1,7 +1,8 @@
 -- How a number of a pool is drawn: from what is left of the range that was leased last, and else
 -- from a new one. A rule reads the calls of a turn one after another: `stops` says what holds of the
 -- calls that are left after a refusal, and `goes` what holds of the number, the lot and them.
-use Rattle.std.specs.Prelude.{ℕ, ◌+◌, ◌<◌, ◌≡◌, List, [], ◌∷◌, Result, Ok, Err}
+use Rattle.std.specs.Prelude.{ℕ, ◌+◌, ◌<◌, ◌≤◌, ◌≡◌, List, [], ◌∷◌, Result, Ok, Err}
+use Rattle.keeper_book.specs.Pools.{pool_end}
 use Rattle.keeper_book.specs.Told.{seen}
 use Rattle.keeper_book.specs.declared.calls.Call.{Call}
 use Rattle.keeper_book.specs.declared.calls.KeeperAnswer.{KeeperAnswer}
@@ -9,8 +10,19 @@ use Rattle.keeper_book.specs.declared.calls.KeeperAnswer.TheVariants as answer
 use Rattle.keeper_book.specs.declared.calls.KeeperAsk.TheVariants as ask
 use Rattle.keeper_book.specs.declared.faults.KeeperFault.{KeeperFault}
 use Rattle.keeper_book.specs.declared.pools.Pool.{Pool}
+use Rattle.keeper_book.specs.declared.pools.TheConstants.{FIRST_POOL_NUMBER}
 use Rattle.spend_once.specs.Lot.{Drawn, Remaining}
 use Rattle.resume_exchange.specs.declared.lots.TheConstants.{LEASED_NUMBERS}
+
+-- the number is one of the pool
+pub record IsNumberOf (pool : Pool) (n : ℕ) : Type 0 where
+  pub begins : FIRST_POOL_NUMBER ≤ n
+  pub ends : n < pool_end pool
+
+-- the numbers that are left in a lot are numbers of the pool
+pub record AreNumbersOf (pool : Pool) (lot : Remaining) : Type 0 where
+  pub begins : FIRST_POOL_NUMBER ≤ lot.next
+  pub ends : lot.end ≤ pool_end pool
 
 -- the lot without its next number
 abbrev pub drawn_once : Remaining → Remaining

@@ -1,10 +1,11 @@
 -- What a peer makes of the response to its IKE_AUTH (RFC 7296, section 1.2).
-use Rattle.std.specs.Prelude.{◌≡◌, ℕ, ◌&&◌, ◌==◌, nat_lt, if◌then◌else◌, Bool, true, false, List, length, slice_get, Option, Some, None, is_some, MatchOption, Result, Ok, Err}
+use Rattle.std.specs.Prelude.{◌≡◌, ℕ, ◌&&◌, ◌==◌, if◌then◌else◌, Bool, true, false, List, length, slice_get, Option, Some, None, is_some, MatchOption, Result, Ok, Err}
 use Rattle.std.specs.Int.{w32, from_be_bytes}
 use Rattle.std.specs.List.{filter_map}
 use Rattle.ha_base.specs.declared.counter_names.End.TheVariants.{Cluster}
+use Rattle.ike_sas.specs.Errors.{first_error}
 use Rattle.ike_values.specs.declared.fault.Bad.{Bad}
-use Rattle.ike_values.specs.Values.{IdValue, PayloadValue, ProposalValue, idr, notify}
+use Rattle.ike_values.specs.Values.{IdValue, PayloadValue, ProposalValue, idr}
 use Rattle.ike_values.specs.Writing.{numbered_written}
 use Rattle.keeper_book.specs.declared.records.Record.{Record}
 use Rattle.key_schedule.specs.Codes.{auth_code}
@@ -19,20 +20,10 @@ use Rattle.resume_exchange.specs.declared.offers.TheConstants.{ESP}
 use Rattle.resume_exchange.specs.declared.parts.TheConstants.{SHARED_KEY}
 use Rattle.resume_exchange.specs.declared.peer_auth.PeerAuth.{PeerAuth}
 use Rattle.resume_exchange.specs.declared.peer_auth.PeerAuth.TheVariants as answer
-use Rattle.resume_exchange.specs.declared.peer_auth.TheConstants.{ERRORS_END}
 use Rattle.sk_payload.specs.Answers.{IsOpening}
 use Rattle.sk_payload.specs.declared.not_read.OpenFault.{OpenFault}
 use Rattle.sk_payload.specs.declared.not_read.OpenFault.TheVariants as fault
 use Rattle.sk_payload.specs.declared.open.Opened.{Opened}
-
--- the type of a notification of an error (RFC 7296, section 3.10.1)
-abbrev pub error_kind : PayloadValue → Option ℕ
-error_kind (notify x) = if nat_lt x.kind ERRORS_END then Some x.kind else None
-error_kind _ = None
-
--- of several errors the first counts
-abbrev pub first_error : List PayloadValue → Option ℕ
-first_error payloads = first_of error_kind payloads
 
 -- the member's identity
 abbrev pub idr_data : PayloadValue → Option IdValue

@@ -76,7 +76,7 @@ fn right_code(half_open: &HalfOpen) -> [u8; 32]
 
 /// The body of the ID payload of an identity: its type, three reserved octets and its data (RFC
 /// 7296, section 3.5).
-pub(crate) fn id_body(identity: &Identity) -> OctetList<ID_BODY_OCTETS>
+pub fn id_body(identity: &Identity) -> OctetList<ID_BODY_OCTETS>
     ensures { result ≡ numbered_written identity.now.kind identity.now.octets }
 {
     let mut body = OctetList::from_slice(&[identity.kind, 0, 0, 0]);

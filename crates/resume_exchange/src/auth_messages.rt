@@ -25,7 +25,7 @@ use std::alloc::Global;
 pub const REQUEST_WINDOW: u32 = 8;
 
 /// The header of an end's message.
-pub(crate) fn auth_header(end: End, from: &Derivation) -> Header
+pub fn auth_header(end: End, from: &Derivation) -> Header
     ensures { result ≡ auth_header end from.now }
 {
     Header {
@@ -39,7 +39,7 @@ pub(crate) fn auth_header(end: End, from: &Derivation) -> Header
 }
 
 /// A copy of octets. An error is want of memory.
-pub(crate) fn copy_of(alloc: Global, octets: &[u8]) -> Result<Octets, Memory>
+pub fn copy_of(alloc: Global, octets: &[u8]) -> Result<Octets, Memory>
     ensures { IfOk result (λ copy. copy.octets ≡ octets.now) }
 {
     let mut copy = Octets::with_room(alloc, octets.len())?;
@@ -134,7 +134,7 @@ fn put_offer(
 }
 
 /// All addresses of IPv4, with all ports and protocols.
-pub(crate) fn all_addresses() -> Selector
+pub fn all_addresses() -> Selector
     ensures { selector_value result ≡ all_addresses }
 {
     Selector {
@@ -187,7 +187,7 @@ fn put_selectors(
 /// What an end offers for the Child SA: the number of its proposal, the SPI at which it receives,
 /// and the size of the keys.
 #[derive(Clone, Copy)]
-pub(crate) struct Offer {
+pub struct Offer {
     pub number: u8,
     pub spi: u32,
     pub size: KeySize,
@@ -195,7 +195,7 @@ pub(crate) struct Offer {
 
 /// The inner payloads of an IKE_AUTH of an end, which take at most 352 octets. An error is want of
 /// memory.
-pub(crate) fn auth_frame(
+pub fn auth_frame(
     alloc: Global,
     end: End,
     identity: &Identity,

@@ -26,13 +26,13 @@ pub const FRESH_OCTETS: usize = 24;
 const PAYLOAD_HEADER: usize = 4;
 
 /// How many octets a notification has before its data, with the header of its payload.
-const NOTIFY_FRONT: usize = 8;
+pub const NOTIFY_FRONT: usize = 8;
 
 /// How many octets a payload with a nonce has.
-const NONCE_PAYLOAD: usize = PAYLOAD_HEADER + NONCE_OCTETS;
+pub const NONCE_PAYLOAD: usize = PAYLOAD_HEADER + NONCE_OCTETS;
 
 /// Fresh octets, and a number that is drawn once.
-pub(crate) fn numbered_nonce(fresh: &[u8; FRESH_OCTETS], number: u64) -> [u8; NONCE_OCTETS]
+pub fn numbered_nonce(fresh: &[u8; FRESH_OCTETS], number: u64) -> [u8; NONCE_OCTETS]
     ensures { result ≡ numbered_nonce fresh.now number }
 {
     let counted = number.to_be_bytes();
@@ -64,7 +64,7 @@ fn put_payload_header(out: &mut Octets, next: u8, body: usize)
 }
 
 /// Appends a nonce. There is room for it.
-fn put_nonce(out: &mut Octets, next: u8, octets: &[u8; NONCE_OCTETS])
+pub fn put_nonce(out: &mut Octets, next: u8, octets: &[u8; NONCE_OCTETS])
     requires room { NONCE_PAYLOAD ≤ out.old.spare }
     ensures octets { out.new.octets
         ≡ out.old.octets ++ payload_written next (nonce octets.now) }
@@ -89,7 +89,7 @@ fn put_notify_front(out: &mut Octets, next: u8, kind: u16, size: usize)
 
 /// Appends a notification of this type with these data, protocol 0 and no SPI. There is room for
 /// it.
-fn put_notify(out: &mut Octets, next: u8, kind: u16, content: &[u8])
+pub fn put_notify(out: &mut Octets, next: u8, kind: u16, content: &[u8])
     requires small { 8 + length content.now < LENGTH_END }
     requires room { 8 + length content.now ≤ out.old.spare }
     ensures octets { out.new.octets
@@ -102,7 +102,7 @@ fn put_notify(out: &mut Octets, next: u8, kind: u16, content: &[u8])
 
 /// Appends a notification of this type that names a gateway, with a nonce behind it. There is room
 /// for it.
-fn put_gateway(out: &mut Octets, next: u8, kind: u16, gateway: &GatewayId, behind: &[u8])
+pub fn put_gateway(out: &mut Octets, next: u8, kind: u16, gateway: &GatewayId, behind: &[u8])
     requires small { length behind.now ≤ NONCE_OCTETS }
     requires room { 10 + length gateway.now.octets + length behind.now ≤ out.old.spare }
     ensures octets { out.new.octets

@@ -1,5 +1,5 @@
-ghost use Rattle.std.specs.Prelude.{◌≡◌, ◌<◌, ◌≤◌, [], ◌∷◌, ◌++◌, length, filter, IfOk};
-ghost use Rattle.resume_exchange.specs.HalfOpens.{is_live};
+ghost use Rattle.std.specs.Prelude.{◌≡◌, ◌≢◌, ◌<◌, ◌≤◌, [], ◌∷◌, ◌++◌, length, filter, IfOk};
+ghost use Rattle.keeper_book.specs.declared.pools.TheConstants.{NONCE_NUMBERS_END};
 
 use ha_base::{Derivation, Memory, Moment, Octets};
 use std::alloc::Global;
@@ -22,14 +22,17 @@ pub struct HalfOpen {
     pub ticket: u64,
     /// What the ticket carries.
     pub content: Content,
-    /// What the keys are derived from.
+    /// What the keys are derived from. The responder's SPI is a number of the nonces' pool.
     pub derivation: Derivation,
     /// The request and the response of IKE_SESSION_RESUME, which the AUTH codes sign.
     pub request: Octets,
     pub response: Octets,
+    pub ghost number_within: { derivation.spir < NONCE_NUMBERS_END },
 }
 
 impl HalfOpen {
+    ghost use Rattle.resume_exchange.specs.HalfOpens.{is_live};
+
     /// Whether it was begun less than 60 seconds ago.
     fn is_live(&self, now: Moment) -> bool
         ensures { result ≡ is_live now.0 self.now }
@@ -61,6 +64,8 @@ impl Model for HalfOpens {
 }
 
 impl HalfOpens {
+    ghost use Rattle.resume_exchange.specs.HalfOpens.{is_live};
+
     /// None, and room for 64. An error is want of memory.
     pub fn new(alloc: Global) -> Result<HalfOpens, Memory>
         ensures { IfOk result (λ half_opens. half_opens ≡ []) }
@@ -88,7 +93,7 @@ impl HalfOpens {
 
     /// Keeps one more, for which there is room.
     pub fn put(&mut self, half_open: HalfOpen)
-        requires { length self.old < MAX_HALF_OPENS }
+        requires { length self.old ≢ MAX_HALF_OPENS }
         ensures { self.new ≡ self.old ++ half_open ∷ [] }
     {
         self.kept.push_reserved(half_open);

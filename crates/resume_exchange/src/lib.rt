@@ -29,19 +29,23 @@ mod sealing;
 mod usable;
 
 pub use attempts::{ATTEMPTS_END, Attempt, Awaited, OldKeys};
-pub use auth::{AuthJudged, ID_BODY_OCTETS, judge_auth};
-pub use auth_messages::REQUEST_WINDOW;
+pub use auth::{AuthJudged, ID_BODY_OCTETS, id_body, judge_auth};
+pub use auth_messages::{Offer, REQUEST_WINDOW, auth_frame, auth_header, copy_of};
 pub use drops::ResumeDrop;
-pub use first_messages::{FRESH_OCTETS, LONGEST_KEPT_TICKET};
+pub use first_messages::{
+    FRESH_OCTETS, LONGEST_KEPT_TICKET, NONCE_PAYLOAD, NOTIFY_FRONT, numbered_nonce, put_gateway,
+    put_nonce, put_notify,
+};
 pub use half_opens::{HALF_OPEN_AGE, HalfOpen, HalfOpens, MAX_HALF_OPENS};
 pub use judging::Judged;
 pub use lots::{LEASED_NUMBERS, draw_pooled};
 pub use offers::{ESP, LEAST_CHILD_SPI, first_fit};
-pub use parts::SHARED_KEY;
+pub use parts::{SHARED_KEY, first_initiator_selectors, first_responder_selectors};
 pub use peer_answers::PeerAnswer;
-pub use peer_auth::{ERRORS_END, PeerAuth};
+pub use peer_auth::PeerAuth;
+pub use records::resumed_record;
 pub use request::{NONCE_OCTETS, presented};
-pub use sealing::FIRST_IV;
+pub use sealing::{FIRST_IV, Ready, sa_keys, sealing_key};
 pub use usable::usable_ticket;
 
 #[cfg(test)]

@@ -46,7 +46,7 @@ fn first_identity(payloads: &[Payload]) -> Option<&IdBody>
 }
 
 /// The first authentication data.
-pub(crate) fn first_auth(payloads: &[Payload]) -> Option<&AuthBody>
+pub fn first_auth(payloads: &[Payload]) -> Option<&AuthBody>
     ensures { MatchOption result
         (first_of auth_data (map payload_value payloads.now) ≡ None)
         (λ found.
@@ -63,7 +63,7 @@ pub(crate) fn first_auth(payloads: &[Payload]) -> Option<&AuthBody>
 }
 
 /// The proposals of the first security association.
-pub(crate) fn first_proposals(payloads: &[Payload]) -> Option<&Proposals>
+pub fn first_proposals(payloads: &[Payload]) -> Option<&Proposals>
     ensures { MatchOption result
         (first_of sa_data (map payload_value payloads.now) ≡ None)
         (λ found. first_of sa_data (map payload_value payloads.now) ≡ Some found.now) }
@@ -79,7 +79,7 @@ pub(crate) fn first_proposals(payloads: &[Payload]) -> Option<&Proposals>
 }
 
 /// The first traffic selectors of the initiator.
-fn first_initiator_selectors(payloads: &[Payload]) -> Option<&Selectors>
+pub fn first_initiator_selectors(payloads: &[Payload]) -> Option<&Selectors>
     ensures { MatchOption result
         (first_of tsi_data (map payload_value payloads.now) ≡ None)
         (λ found. first_of tsi_data (map payload_value payloads.now) ≡ Some found.now) }
@@ -95,7 +95,7 @@ fn first_initiator_selectors(payloads: &[Payload]) -> Option<&Selectors>
 }
 
 /// The first traffic selectors of the responder.
-fn first_responder_selectors(payloads: &[Payload]) -> Option<&Selectors>
+pub fn first_responder_selectors(payloads: &[Payload]) -> Option<&Selectors>
     ensures { MatchOption result
         (first_of tsr_data (map payload_value payloads.now) ≡ None)
         (λ found. first_of tsr_data (map payload_value payloads.now) ≡ Some found.now) }

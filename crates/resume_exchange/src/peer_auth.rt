@@ -4,8 +4,8 @@ ghost use Rattle.ike_values.specs.PayloadView.{id_value, payload_value};
 ghost use Rattle.ike_values.specs.ProposalView.{proposal_value};
 ghost use Rattle.resume_exchange.specs.Parts.{first_of};
 ghost use Rattle.resume_exchange.specs.MemberProofs.{IsAuthAnswer, IsAwaitedAnswer, IsInnerAnswer};
-ghost use Rattle.resume_exchange.specs.MemberProofs.{IsPeerAuth, IsProven, OffersSpi, error_kind};
-ghost use Rattle.resume_exchange.specs.MemberProofs.{proposal_spi, first_error, first_esp_spi, idr_data};
+ghost use Rattle.resume_exchange.specs.MemberProofs.{IsPeerAuth, IsProven, OffersSpi};
+ghost use Rattle.resume_exchange.specs.MemberProofs.{proposal_spi, first_esp_spi, idr_data};
 ghost use Rattle.resume_exchange.specs.MemberProofs.{member_code};
 ghost use Rattle.resume_exchange.specs.Attempts.{child_spi};
 ghost use Rattle.resume_exchange.specs.ResumedRecords.{IsRecordResumed};
@@ -18,14 +18,12 @@ use crate::records::resumed_record;
 use crate::sealing::{sa_keys, sealing_key};
 use ha_base::{End, Memory, Octets, read_u32};
 use ike_grammar::Bad;
+use ike_sas::first_error;
 use ike_values::{IdBody, Message, Payload, Payloads, Proposal, Proposals};
 use keeper_book::Record;
 use key_schedule::{auth_code, equal_codes};
 use sk_payload::{OpenFault, open_decoded};
 use std::alloc::Global;
-
-/// The types of notifications below this are errors (RFC 7296, section 3.10.1).
-pub const ERRORS_END: u16 = 16_384;
 
 /// What a peer makes of the response to its IKE_AUTH.
 #[derive(Drop)]
@@ -212,30 +210,6 @@ fn proposal_spi(proposal: &Proposal) -> Option<u32>
         Some(read_u32(spi))
     } else {
         None
-    }
-}
-
-/// The type of the first error.
-fn first_error(payloads: &[Payload]) -> Option<u16>
-    ensures { result ≡ first_error (map payload_value payloads.now) }
-{
-    let mut rest = payloads;
-    while let [payload, others @ ..] = rest {
-        if let Some(kind) = error_kind(payload) {
-            return Some(kind);
-        }
-        rest = others;
-    }
-    None
-}
-
-/// The type of an error.
-fn error_kind(payload: &Payload) -> Option<u16>
-    ensures { result ≡ error_kind (payload_value payload.now) }
-{
-    match payload {
-        Payload::Notify(notify) if notify.kind < ERRORS_END => Some(notify.kind),
-        _ => None,
     }
 }
 

@@ -20,7 +20,7 @@ fn resumed_child_keys(sk_d: &[u8; 32], size: KeySize, from: &Derivation) -> Chil
 
 /// The record of a resumed association, from the SK_d of the old one, the size of the keys, the
 /// peer's identity, and the SPIs at which the cluster and the peer receive in the Child SA.
-pub(crate) fn resumed_record(
+pub fn resumed_record(
     sk_d: &[u8; 32],
     size: KeySize,
     identity: Identity,

@@ -15,12 +15,13 @@ use key_schedule::resumed_keys;
 use sk_payload::{Frame, MESSAGE_OVERHEAD, seal_message};
 use spend_once::{Lot, Number};
 use std::alloc::Global;
+use std::marker::Model;
 
 /// The initialization vector of an end's first message, which is its IKE_AUTH.
 pub const FIRST_IV: u64 = 1;
 
 /// The keys of the resumed association.
-pub(crate) fn sa_keys(sk_d: &[u8; 32], size: KeySize, from: &Derivation) -> SaKeys
+pub fn sa_keys(sk_d: &[u8; 32], size: KeySize, from: &Derivation) -> SaKeys
     ensures keys { result ≡ resumed_sa_keys sk_d.now size from.now }
     ensures peer_key { HasKeySize result.sk_ei }
     ensures member_key { HasKeySize result.sk_er }
@@ -43,7 +44,7 @@ fn iv_counter(from: &Derivation, end: End) -> CounterName
 }
 
 /// The key with which an end seals.
-pub(crate) fn sealing_key(sk_d: &[u8; 32], size: KeySize, from: &Derivation, end: End) -> Key
+pub fn sealing_key(sk_d: &[u8; 32], size: KeySize, from: &Derivation, end: End) -> Key
     ensures { result ≡ sealing_key (resumed_sa_keys sk_d.now size from.now) from.now end }
 {
     let keys = sa_keys(sk_d, size, from);
@@ -55,22 +56,33 @@ pub(crate) fn sealing_key(sk_d: &[u8; 32], size: KeySize, from: &Derivation, end
     key.unwrap()
 }
 
-/// A message that is ready to be sealed: its inner payloads, and room for what is noted and given
-/// of it.
-pub(crate) struct Ready {
+/// A message that is ready to be sealed, and room for what is noted and given of it.
+///
+/// Contracts see its inner payloads.
+pub struct Ready {
     frame: Frame,
     plain: Octets,
     sealed: Octets,
     given: Octets,
-    ghost plain_fits: { IsEmptyFor (length (plain_of frame.payloads)) plain },
-    ghost sealed_fits: { IsEmptyFor (length (plain_of frame.payloads) + MESSAGE_OVERHEAD) sealed },
-    ghost given_fits: { IsEmptyFor (length (plain_of frame.payloads) + MESSAGE_OVERHEAD) given },
+}
+
+impl Model for Ready {
+    ghost use Rattle.std.specs.Prelude.{List};
+    ghost use Rattle.ike_values.specs.Values.{PayloadValue};
+    ghost use Rattle.resume_exchange.specs.Ready.{HasRoomFor};
+
+    ghost Value = { List PayloadValue };
+
+    ghost view = { λ ready. ready.frame.payloads };
+
+    ghost invariant = { λ ready.
+        HasRoomFor ready.frame.payloads ready.plain ready.sealed ready.given };
 }
 
 impl Ready {
     /// Makes room for the message of a frame. An error is want of memory.
-    pub(crate) fn new(alloc: Global, frame: Frame) -> Result<Ready, Memory>
-        ensures { IfOk result (λ ready. ready.frame.payloads ≡ frame.payloads) }
+    pub fn new(alloc: Global, frame: Frame) -> Result<Ready, Memory>
+        ensures { IfOk result (λ ready. ready ≡ frame.payloads) }
     {
         let octets = frame.message_octets();
         Ok(Ready {
@@ -82,8 +94,8 @@ impl Ready {
     }
 
     /// Seals the message with this header, as the first of its end. No memory is taken.
-    pub(crate) fn seal(self, key: &Key, header: &Header) -> SentMessage
-        ensures { SendsIke key.now FIRST_IV header.now self.frame.payloads result }
+    pub fn seal(self, key: &Key, header: &Header) -> SentMessage
+        ensures { SendsIke key.now FIRST_IV header.now self result }
     {
         let Ready {
             frame,

@@ -1,0 +1,3 @@
+pub mod Unspent
+pub mod Octets
+pub mod Members
