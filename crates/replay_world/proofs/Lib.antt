@@ -1,4 +1,7 @@
 mod AskedLaws
+mod FewEvents
+mod Joins
+mod ServedLaws
 mod OwnedLaws
 pub mod PlayedLaws
 mod ReadLaws

@@ -1,10 +1,14 @@
-ghost use Rattle.std.specs.Prelude.{◌≡◌, ℕ, Some, List, [], ◌++◌, IfOk, OnOk};
+ghost use Rattle.std.specs.Prelude.{◌≡◌, ◌+◌, ◌≤◌, ℕ, Some, List, [], ◌++◌, IfOk, OnOk, length};
+ghost use Rattle.std.specs.List.{AllByRecursion};
 ghost use Rattle.event_text.specs.Input.{contents_of, left_contents};
+ghost use Rattle.event_text.specs.declared.input.TheConstants.{MAX_EVENTS};
 ghost use Rattle.keeper_book.specs.Gates.{told_calls};
 ghost use Rattle.report_text.specs.Report.{report, turns_text};
 ghost use Rattle.replay_world.specs.Played.{IsPlayed, handed, prefixed, titles};
+ghost use Rattle.replay_world.specs.Worlds.{ServesOn, boxes_of};
 ghost use Rattle.run_ends.specs.Asked.{AsksAsSeen};
 ghost use Rattle.run_ends.specs.Runs.{CausedSince, StandsTold};
+ghost use Rattle.turn_laws.specs.Serving.{KeepServices};
 ghost use Rattle.turn_rules.specs.Local.{Local, calls_of};
 
 use crate::world::World;
@@ -14,8 +18,8 @@ use keeper_book::{Gate, Keeper};
 use report_text::{write_head, write_turn};
 use std::alloc::Global;
 use turn_laws::{
-    all_is_owned, no_number_past_its_end, nothing_is_executed, own_turns_tell_states,
-    replaced_by_later_epochs, runs_are_safe,
+    all_is_owned, no_number_past_its_end, own_turns_tell_states, replaced_by_later_epochs,
+    runs_are_safe,
 };
 use word_text::write_end;
 
@@ -37,6 +41,10 @@ fn play_events<K: Keeper>(
 ) -> Result<Option<InputFault>, Memory>
     requires told { told_calls keeper.old ≡ Some [] }
     requires local { Local world.old.ends.boxes world.old.ends.past }
+    requires few { length world.old.ends.past + length (left_contents reader.old).events
+        ≤ MAX_EVENTS }
+    requires kept { KeepServices count world.old.ends.boxes world.old.ends.past
+        (boxes_of world.old) }
     ensures held { K.held keeper.new.keeper ≡ K.held keeper.old.keeper }
     ensures events { IfOk result (λ fault. prefixed (titles world.old.ends.past)
         (left_contents reader.old)
@@ -53,6 +61,8 @@ fn play_events<K: Keeper>(
     ensures asks { (start : K) → AsksAsSeen K.Keeper start
         (calls_of world.old.ends.past) keeper.old.keeper
         → OnOk result (AsksAsSeen K.Keeper start (calls_of world.new.ends.past) keeper.new.keeper) }
+    ensures serve { ServesOn count gives world.old.ends.past (boxes_of world.old)
+        world.new.ends.past (boxes_of world.new) }
 {
     loop {
         match reader.next_event(alloc) {
@@ -78,6 +88,7 @@ fn play_input<K: Keeper>(
 ) -> Result<Option<InputFault>, Memory>
     requires told { told_calls keeper.old ≡ Some [] }
     requires begun { world.old.ends.past ≡ [] }
+    requires kept { KeepServices count world.old.ends.boxes [] (boxes_of world.old) }
     ensures held { K.held keeper.new.keeper ≡ K.held keeper.old.keeper }
     ensures events { IfOk result (λ fault. contents_of input.now
         ≡ record { events = titles world.new.ends.past; fault = fault }) }
@@ -91,6 +102,8 @@ fn play_input<K: Keeper>(
         → OnOk result (CausedSince start (K.faults keeper.new.keeper) world.new.ends.past) }
     ensures asks { (start : K) → AsksAsSeen K.Keeper start [] keeper.old.keeper
         → OnOk result (AsksAsSeen K.Keeper start (calls_of world.new.ends.past) keeper.new.keeper) }
+    ensures serve { OnOk result (ServesOn count gives [] (boxes_of world.old)
+        world.new.ends.past (boxes_of world.new)) }
 {
     match EventReader::new(input) {
         Err(fault) => Ok(Some(fault)),
@@ -110,6 +123,7 @@ pub(crate) fn play<K: Keeper>(
 ) -> Result<Played, Memory>
     requires told { told_calls keeper.old ≡ Some [] }
     requires begun { world.old.ends.past ≡ [] }
+    requires kept { KeepServices count world.old.ends.boxes [] (boxes_of world.old) }
     ensures held { K.held keeper.new.keeper ≡ K.held keeper.old.keeper }
     ensures events { IfOk result (λ played. contents_of input.now
         ≡ record { events = titles world.new.ends.past; fault = played.fault }) }
@@ -122,6 +136,8 @@ pub(crate) fn play<K: Keeper>(
         → OnOk result (CausedSince start (K.faults keeper.new.keeper) world.new.ends.past) }
     ensures asks { (start : K) → AsksAsSeen K.Keeper start [] keeper.old.keeper
         → OnOk result (AsksAsSeen K.Keeper start (calls_of world.new.ends.past) keeper.new.keeper) }
+    ensures serve { OnOk result (ServesOn count gives [] (boxes_of world.old)
+        world.new.ends.past (boxes_of world.new)) }
 {
     let mut report = Octets::new(alloc);
     write_head(&mut report)?;
@@ -139,6 +155,8 @@ fn play_run<K: Keeper>(
     services: Vec<Box<dyn Service>>,
 ) -> Result<Played, Memory>
     requires told { told_calls keeper.old ≡ Some [] }
+    requires peer { count peer_service ≡ 0 }
+    requires services { AllByRecursion (λ service. count service ≡ 0) services.items }
     ensures held { K.held keeper.new.keeper ≡ K.held keeper.old.keeper }
     ensures played { IfOk result (λ played. IsPlayed
         (handed K.Keeper keeper.old.keeper keeper.new.keeper gives peer_service services)
@@ -146,7 +164,6 @@ fn play_run<K: Keeper>(
 {
     all_is_owned();
     no_number_past_its_end();
-    nothing_is_executed();
     own_turns_tell_states();
     replaced_by_later_epochs();
     runs_are_safe();
@@ -163,6 +180,8 @@ pub(crate) fn play_file<K: Keeper>(
     peer_service: Box<dyn Service>,
     services: Vec<Box<dyn Service>>,
 ) -> Result<Played, Memory>
+    requires peer { count peer_service ≡ 0 }
+    requires services { AllByRecursion (λ service. count service ≡ 0) services.items }
     ensures held { K.held keeper.new ≡ K.held keeper.old }
     ensures played { IfOk result (λ played. IsPlayed
         (handed K.Keeper keeper.old keeper.new gives peer_service services)

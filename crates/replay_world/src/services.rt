@@ -1,10 +1,13 @@
 //! The services that execute requests for members, each until its member ends.
 
-ghost use Rattle.std.specs.Prelude.{◌≡◌, map, Some, IfOk};
+ghost use Rattle.std.specs.Prelude.{◌≡◌, ℕ, map, Some, None, IfOk, MatchOption};
 ghost use Rattle.replay_world.specs.Crashes.{services_after};
+ghost use Rattle.replay_world.specs.Worlds.{IsServicePlace};
+ghost use Rattle.turn_laws.specs.Serving.{member_box};
+ghost use Rattle.turn_rules.specs.Fits.{member_of, named_in};
 ghost use Rattle.turn_rules.specs.States.{ended_in};
 
-use events::{Event, Turn, Verdict};
+use events::{Event, Party, Turn, Verdict};
 use ha_base::{Memory, Service};
 use std::alloc::Global;
 
@@ -39,8 +42,55 @@ pub(crate) fn drop_service(services: &mut Vec<Option<Box<dyn Service>>>, ended: 
     ensures { services.new.items ≡ services_after ended services.old.items }
 {
     let Some(member) = ended else { return };
-    let place = member.saturating_sub(1);
-    if place < services.len() as u64 {
-        services[place as usize] = None;
+    if member > 0 && member <= services.len() as u64 {
+        services[(member - 1) as usize] = None;
+    }
+}
+
+fn member_of(party: Party) -> Option<u64>
+    ensures { result ≡ member_of party }
+{
+    match party {
+        Party::Peer => None,
+        Party::Member(member) => Some(member),
+    }
+}
+
+/// The member that an event names, if it names one.
+pub(crate) fn named_in(event: &Event) -> Option<u64>
+    ensures { result ≡ named_in event.now }
+{
+    match event {
+        Event::Own { member, .. } => Some(*member),
+        Event::Draw { member, .. } => Some(*member),
+        Event::Crash { member } => Some(*member),
+        Event::Send { from, .. } => member_of(*from),
+        Event::Ask { from, .. } => member_of(*from),
+        Event::Again { from, .. } => member_of(*from),
+        Event::Deliver { to, .. } => member_of(*to),
+        Event::Alter { to, .. } => member_of(*to),
+        Event::Cut { to, .. } => member_of(*to),
+        Event::Inject { to, .. } => member_of(*to),
+        _ => None,
+    }
+}
+
+/// Where the service of a member stands, if it is there.
+pub(crate) fn place_of(
+    services: &Vec<Option<Box<dyn Service>>>,
+    member: Option<u64>,
+) -> Option<usize>
+    ensures { MatchOption result
+        ((number : ℕ) → member ≡ Some number → member_box services.now.items number ≡ None)
+        (IsServicePlace services.now.items member) }
+{
+    let Some(member) = member else { return None };
+    if member == 0 || member > services.len() as u64 {
+        return None;
+    }
+    let place = (member - 1) as usize;
+    match services[place] {
+        Some(_) => Some(place),
+        None => None,
     }
 }

@@ -56,6 +56,8 @@ fn run_command<S: Source, O: Sink, D: Sink, K: Keeper>(
     peer_service: Box<dyn Service>,
     services: Vec<Box<dyn Service>>,
 ) -> Status
+    requires peer { count peer_service ≡ 0 }
+    requires services { AllByRecursion (λ service. count service ≡ 0) services.items }
     ensures ends { Ends
         (job_of (handed K.Keeper keeper.old keeper.new gives peer_service services) Run)
         (outside S.Source O.Sink D.Sink source.old out.old diag.old)

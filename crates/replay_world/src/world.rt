@@ -1,21 +1,24 @@
-ghost use Rattle.std.specs.Prelude.{◌≡◌, ◌⊎◌, ℕ, [], IfOk, OnOk, OnErr, Some, length, map, slice_get, vec_len};
+ghost use Rattle.std.specs.Prelude.{◌≡◌, ◌<◌, ◌⊎◌, ℕ, [], IfOk, OnOk, OnErr, Some, length, map, slice_get, vec_len};
 ghost use Rattle.std.specs.Option.{option_copied};
 ghost use Rattle.events.specs.Events.{plain};
 ghost use Rattle.events.specs.Ranges.{Fits};
 ghost use Rattle.keeper_book.specs.Gates.{told_calls};
+ghost use Rattle.ha_base.specs.declared.services.TheConstants.{MOST_REQUESTS};
 ghost use Rattle.run_ends.specs.Asked.{AsksAsSeen, newest_calls};
-ghost use Rattle.run_ends.specs.Runs.{CausedSince, Grows, LackMemory, StandsTold};
+ghost use Rattle.run_ends.specs.Runs.{CausedSince, Grows, LackMemory, StandsTold, served_last};
 ghost use Rattle.turn_laws.specs.OwnTurns.{OwnTurnsTell};
 ghost use Rattle.turn_laws.specs.Replaced.{AreReplacedLater};
+ghost use Rattle.turn_laws.specs.Serving.{KeepServices, LentFor};
 ghost use Rattle.turn_laws.specs.Turns.{AreBelowEnds};
 ghost use Rattle.turn_rules.specs.Datagrams.{datagrams_of};
+ghost use Rattle.turn_rules.specs.Fits.{named_in};
 ghost use Rattle.turn_rules.specs.Local.{Local};
 ghost use Rattle.turn_rules.specs.Safe.{Safe};
-ghost use Rattle.replay_world.specs.Crashes.{ended_last, services_after};
+ghost use Rattle.replay_world.specs.Crashes.{ended_last};
 ghost use Rattle.replay_world.specs.Owning.{OwnedTold};
-ghost use Rattle.replay_world.specs.Worlds.{peer_service_of, run_of, services_of};
+ghost use Rattle.replay_world.specs.Worlds.{ServeNewest, boxes_of, lent_for, peer_service_of, run_of, services_of};
 
-use crate::services::{all_kept, drop_service, ended_in};
+use crate::services::{all_kept, drop_service, ended_in, named_in, place_of};
 use events::{Event, Turn};
 use ha_base::{Memory, Moment, Service};
 use keeper_book::{Gate, Keeper};
@@ -58,10 +61,14 @@ impl World {
     }
 
     /// Plays an event at a moment, one that a line spells: the ends act, and one turn is appended
-    /// to the trace. A member that ends drops its service. An error is want of memory; the run and
+    /// to the trace. The service of the end that acts executes what the turn says, each other one
+    /// is as it was, and a member that ends drops its own. An error is want of memory; the run and
     /// the keeper's book are then as they were, and the keeper was asked only where it lacked the
-    /// memory itself. The clauses on whole runs are the laws of `turn_laws` that the body names;
-    /// its other laws on whole runs hold by `local` and `stands`.
+    /// memory itself. The clauses on whole runs are the laws of `turn_laws` that the body names; its
+    /// other laws on whole runs hold by `local` and `stands`.
+    ///
+    /// What a world keeps of its services is asked for as a clause, since no invariant of a type
+    /// speaks of what is behind a box.
     pub fn turn<K: Keeper>(
         &mut self,
         keeper: &mut Gate<K>,
@@ -70,6 +77,9 @@ impl World {
     ) -> Result<(), Memory>
         requires told { told_calls keeper.old ≡ Some [] }
         requires fits { Fits (plain event) }
+        requires few { length (run_of self.old).past < MOST_REQUESTS }
+        requires kept { KeepServices count (run_of self.old).boxes (run_of self.old).past
+            (boxes_of self.old) }
         ensures grows { OnOk result (Grows (run_of self.old) now event (run_of self.new)) }
         ensures local { Local (run_of self.new).boxes (run_of self.new).past }
         ensures own_turns { OwnTurnsTell (run_of self.new).boxes (run_of self.new).past }
@@ -93,9 +103,10 @@ impl World {
         ensures err { OnErr result (self.new ≡ self.old) }
         ensures keeps_book { OnErr result (K.book keeper.new.keeper ≡ K.book keeper.old.keeper) }
         ensures in_vain { OnErr result ((keeper.new ≡ keeper.old) ⊎ LackMemory keeper.new.first) }
-        ensures peer_service { peer_service_of self.new ≡ peer_service_of self.old }
-        ensures services { OnOk result (services_of self.new
-            ≡ services_after (ended_last (run_of self.new).past) (services_of self.old)) }
+        ensures serve { OnOk result (ServeNewest count last gives (run_of self.new).past
+            (boxes_of self.old) (boxes_of self.new)) }
+        ensures kept { KeepServices count (run_of self.new).boxes (run_of self.new).past
+            (boxes_of self.new) }
         ensures held { K.held keeper.new.keeper ≡ K.held keeper.old.keeper }
     {
         all_is_owned();
@@ -103,10 +114,51 @@ impl World {
         own_turns_tell_states();
         replaced_by_later_epochs();
         runs_are_safe();
-        self.ends.turn(keeper, now, event)?;
+        self.play(keeper, now, event)?;
         let ended = self.last_ended();
         drop_service(&mut self.services, ended);
         Ok(())
+    }
+
+    // Plays an event with the service of the member that it names, where that is there, and else
+    // with the peer's.
+    fn play<K: Keeper>(
+        &mut self,
+        keeper: &mut Gate<K>,
+        now: Moment,
+        event: Event,
+    ) -> Result<(), Memory>
+        requires told { told_calls keeper.old ≡ Some [] }
+        requires fits { Fits (plain event) }
+        requires few { length (run_of self.old).past < MOST_REQUESTS }
+        requires kept { KeepServices count (run_of self.old).boxes (run_of self.old).past
+            (boxes_of self.old) }
+        ensures grows { OnOk result (Grows (run_of self.old) now event (run_of self.new)) }
+        ensures local { Local (run_of self.new).boxes (run_of self.new).past }
+        ensures stands { StandsTold (run_of self.old).past (K.book keeper.old.keeper)
+            → OnOk result (StandsTold (run_of self.new).past (K.book keeper.new.keeper)) }
+        ensures caused { (start : ℕ) → CausedSince start (K.faults keeper.old.keeper)
+            (run_of self.old).past
+            → OnOk result (CausedSince start (K.faults keeper.new.keeper) (run_of self.new).past) }
+        ensures asks { OnOk result (AsksAsSeen K.Keeper keeper.old.keeper
+            (newest_calls (run_of self.new).past) keeper.new.keeper) }
+        ensures told { OnOk result (told_calls keeper.new ≡ Some []) }
+        ensures err { OnErr result (self.new ≡ self.old) }
+        ensures keeps_book { OnErr result (K.book keeper.new.keeper ≡ K.book keeper.old.keeper) }
+        ensures in_vain { OnErr result ((keeper.new ≡ keeper.old) ⊎ LackMemory keeper.new.first) }
+        ensures lends { OnOk result (LentFor count last gives
+            (lent_for (boxes_of self.old) (named_in event)) (served_last (run_of self.new).past)
+            (boxes_of self.old) (boxes_of self.new)) }
+        ensures held { K.held keeper.new.keeper ≡ K.held keeper.old.keeper }
+    {
+        let place = place_of(&self.services, named_in(&event));
+        let Some(place) = place else {
+            return self.ends.turn(keeper, &mut self.peer_service, now, event);
+        };
+        match &mut self.services[place] {
+            Some(service) => self.ends.turn(keeper, service, now, event),
+            None => unreachable!(),
+        }
     }
 
     // The member that ended in the newest turn, if one did.

@@ -46,6 +46,8 @@ refused-plays past s moment at why step new in_place e says same = subst (λ now
 -- what is delivered may give a datagram
 pub gives-datagrams : (at : Event) (to : Party) → DeliversTo at to → is_of_datagrams at ≡ true
 gives-datagrams (event.Send from spir payload) to d = refl
+gives-datagrams (event.Ask from spir request) to d = refl
+gives-datagrams (event.Again from spir id) to d = refl
 gives-datagrams at to d = ap is_some d.1
 
 -- there is no room for one

@@ -25,12 +25,14 @@ use Rattle.ha_base.specs.Octets.{WithRoom}
 use Rattle.ha_base.specs.declared.identities.Identity.{Identity}
 use Rattle.replay_set.specs.Window.{IsWindowSize}
 use Rattle.turn_rules.specs.Datagrams.{PlainDatagram, altered, arrives, changed, cut, datagram_at, plain_datagram}
-use Rattle.turn_rules.specs.Ends.{is_of_run}
 use Rattle.turn_rules.specs.Packets.{Outbound, SendsEsp}
 use Rattle.run_ends.specs.Parties.{IsShort}
 
 pub fits_send : (from : Party) (spir : ℕ) (payload : WithRoom) → Fits (plain (event.Send from spir payload)) → length payload.octets ≤ 1400
 fits_send from spir payload fits = fits.ranges.1.1.0.most_size
+
+pub fits_ask : (from : Party) (spir : ℕ) (request : WithRoom) → Fits (plain (event.Ask from spir request)) → length request.octets ≤ 256
+fits_ask from spir request fits = fits.ranges.1.1.0.most_size
 
 pub fits_inject : (to : Party) (medium : Medium) (octets : WithRoom) → Fits (plain (event.Inject to medium octets)) → length octets.octets ≤ 2048
 fits_inject to medium octets fits = fits.ranges.1.1.0.most_size

@@ -16,7 +16,7 @@ use Rattle.ha_base.specs.declared.counter_names.End.TheVariants as end
 use Rattle.ha_base.specs.declared.outside.Moment.{Moment}
 use Rattle.keeper_book.specs.declared.calls.Call.{Call}
 use Rattle.keeper_book.specs.declared.records.Record.{Record}
-use Rattle.turn_rules.specs.Configurations.{Configuration, Membership, configured_in, first_ticket_key, fresh_in, gateway_of, membership}
+use Rattle.turn_rules.specs.Configurations.{Configuration, configured_in, first_ticket_key, fresh_in, gateway_of, membership}
 use Rattle.turn_rules.specs.Ends.{Member, Peer, Performer, is_end, is_of_run, is_refused_by_run, performer_at, performer_of}
 use Rattle.turn_rules.specs.Held.{Held, after_number, first_some, held_after, held_at, iv_in}
 use Rattle.turn_rules.specs.Peers.{entered_at_task}

@@ -1,5 +1,5 @@
 -- After an event the ends hold what the turns make of it, and each turn is explained.
-use Rattle.std.proofs.Common.{◌≡◌, ℕ, zero, suc, ◌≤◌, true, false, None, arith, Option, List, [], ◌∷◌, ◌++◌, length, refl, ap, sym, ◌∙◌, subst}
+use Rattle.std.proofs.Common.{◌≡◌, ℕ, zero, suc, ◌≤◌, true, false, arith, Option, List, [], ◌∷◌, ◌++◌, length, refl, ap, sym, ◌∙◌, subst}
 use Rattle.std.proofs.lemmas.Bool.{lt-ltb}
 use Rattle.std.specs.List.{AllByRecursion}
 use Rattle.std.specs.Prelude.{is_none, nat_lt}
@@ -14,7 +14,8 @@ use Rattle.turn_rules.specs.Local.{AreShown, IsExplained, Local}
 use Rattle.turn_rules.specs.PeerStates.{peer_begun}
 use Rattle.turn_rules.specs.States.{RunState, has_turns, no_member, state_after, state_by}
 use Rattle.cluster_member.specs.Members.{Holder}
-use Rattle.run_ends.proofs.Verdicts.{does-few}
+use Rattle.run_ends.proofs.Performing.{does-few}
+use Rattle.run_ends.proofs.ShortKept.{StateKeepsShort, state-short}
 use Rattle.run_ends.specs.Parties.{AreKept, EndsHeld, IsShort, Plays, holder_of, member_at, state_of}
 
 all-append : (xs ys : List PlainDatagram) → AllByRecursion IsShort xs → AllByRecursion IsShort ys → AllByRecursion IsShort (xs ++ ys)
@@ -72,8 +73,11 @@ some-played [] turns count some =
 some-played (turn ∷ past) turns count some = refl
 
 module _ (past : List Turn) (turn : Turn) (s new : EndsHeld) (k : AreKept past s) (fits : Fits (plain turn.event)) (shown : AreShown turn.calls) (answers : AreAnswers turn.calls) (p : Plays past s turn.moment turn.event turn.calls turn.step new) where
-  pub few : length turn.calls ≤ 1
-  few = (does-few (state_of past s) turn.moment turn.calls turn.step turn.event fits p.does).0
+  keeps : StateKeepsShort (state_of past s)
+  keeps = subst StateKeepsShort (sym k.state) (state-short s.boxes past k.short)
+
+  pub few : length turn.calls ≤ 2
+  few = (does-few (state_of past s) keeps turn.moment turn.calls turn.step turn.event fits p.does).0
 
   pub boxes-stay : new.boxes ≡ s.boxes
   boxes-stay = ap (λ (x : RunState). x.boxes) p.holds
@@ -85,6 +89,6 @@ module _ (past : List Turn) (turn : Turn) (s new : EndsHeld) (k : AreKept past s
   kept = record {
     state = p.holds ∙ ap (state_after turn.moment turn.event turn.calls turn.step) k.state ∙ ap (λ boxes. state_by boxes (turn ∷ past)) (sym boxes-stay);
     in_place = p.in_place;
-    short = all-append _ _ k.short (does-few (state_of past s) turn.moment turn.calls turn.step turn.event fits p.does).1;
+    short = all-append _ _ k.short (does-few (state_of past s) keeps turn.moment turn.calls turn.step turn.event fits p.does).1;
     local = subst (λ boxes. Local boxes (turn ∷ past)) (sym boxes-stay) (explained, k.local);
   }

@@ -2,12 +2,12 @@
 use Rattle.std.proofs.Common.{◌≡◌, ℕ, suc, ◌+◌, ◌≤◌, ◌||◌, Bool, true, false, not, Option, Some, None, Result, Ok, Err, List, [], ◌∷◌, ◌++◌, length, get_or, refl, ap, sym, ◌∙◌, subst, arith}
 use Rattle.std.proofs.Math.ListN.{set}
 use Rattle.std.specs.Prelude.{IfOk, nat_le}
+use Rattle.events.specs.Events.{plain}
+use Rattle.events.specs.Ranges.{Fits}
 use Rattle.events.specs.declared.event.Event.{Event}
 use Rattle.events.specs.declared.event.Event.TheVariants as event
 use Rattle.events.specs.declared.event.Party.{Party}
 use Rattle.events.specs.declared.event.Party.TheVariants as parties
-use Rattle.events.specs.declared.turn.Medium.{Medium}
-use Rattle.events.specs.declared.turn.Medium.TheVariants as medium
 use Rattle.events.specs.declared.turn.Step.{Step}
 use Rattle.events.specs.declared.turn.Turn.{Turn}
 use Rattle.events.specs.declared.verdict.Refusal.{Refusal}
@@ -16,16 +16,19 @@ use Rattle.events.specs.declared.verdict.Verdict.TheVariants as out
 use Rattle.ha_base.specs.Octets.{WithRoom}
 use Rattle.ha_base.specs.declared.limits.TheConstants.{MAX_DATAGRAMS, PAYLOAD_OCTETS}
 use Rattle.ha_base.specs.declared.outside.Moment.{Moment}
+use Rattle.ha_base.specs.declared.services.TheConstants.{LONGEST_REQUEST}
 use Rattle.keeper_book.specs.declared.calls.Call.{Call}
 use Rattle.keeper_book.specs.declared.keepers.Keeper.{Ghosts}
 use Rattle.keeper_book.specs.declared.records.Record.{Record}
 use Rattle.keeper_book.specs.Asks.{AsksFor}
 use Rattle.turn_rules.specs.Configurations.{Configuration, first_ticket_key, gateway_of}
-use Rattle.turn_rules.specs.Datagrams.{PlainDatagram, arrives, datagrams_of}
-use Rattle.turn_rules.specs.Deliveries.{MemberTakes, PeerTakes}
+use Rattle.turn_rules.specs.Datagrams.{PlainDatagram, arrives, datagrams_of, delivery_of}
+use Rattle.turn_rules.specs.Deliveries.{MemberGets, PeerGets}
 use Rattle.turn_rules.specs.Draws.{EntersRecord, TakesOver}
-use Rattle.turn_rules.specs.Fits.{DrawsOf, MAX_MEMBERS, Quietly, Receives, Refusing, SendsOf, is_importable, refused_arrival, refused_besides, refused_medium, refused_where, run_refusal}
+use Rattle.turn_rules.specs.Fits.{DrawsOf, MAX_MEMBERS, Quietly, Receives, Refusing, SendsOf, is_importable, refused_arrival, refused_besides, refused_where, run_refusal}
 use Rattle.turn_rules.specs.Held.{held_at}
+use Rattle.turn_rules.specs.MemberMessages.{AsksOf, ResendsOf}
+use Rattle.turn_rules.specs.PeerMessages.{PeerAsks, PeerResends}
 use Rattle.turn_rules.specs.Peers.{admits}
 use Rattle.turn_rules.specs.PeerStates.{PeerHeld, peer_after}
 use Rattle.turn_rules.specs.Slots.{PeerSends, Slot, entered_slot, records, slots_after}
@@ -35,10 +38,12 @@ use Rattle.turn_rules.specs.Steps.{Says}
 use Rattle.turn_rules.specs.Tasks as task
 use Rattle.cluster_member.specs.Members.{Holder, IsAfter}
 use Rattle.cluster_peer.specs.Slots.{PeerWithRoom}
-use Rattle.run_ends.proofs.Acting.{Brings, WithRoomFor, acts-plays, brings, does-performed, has-room, of-peer, refused-plays, up-refusal, its-member}
+use Rattle.run_ends.proofs.Acting.{Brings, acts-plays, brings, does-performed, has-room, of-peer, refused-plays, up-refusal, its-member}
 use Rattle.run_ends.proofs.Holding.{Holds, configured-holds, crash-holds, entered-after, join-holds, not_entered-after, peer-holds}
 use Rattle.run_ends.proofs.Seats.{counted, ended-in_place, joined-in_place, seat_of}
-use Rattle.run_ends.proofs.Verdicts.{draws-proper, enters-proper, member_takes-proper, peer_sends-proper, peer_takes-proper, sends-proper, takes-proper}
+use Rattle.run_ends.proofs.Asking.{asks-proper, peer_asks-proper, peer_resends-said, resends_of-said}
+use Rattle.run_ends.proofs.Performing.{does-alone, member_gets-said, peer_gets-said}
+use Rattle.run_ends.proofs.Verdicts.{draws-proper, enters-proper, peer_sends-proper, sends-proper, takes-proper}
 use Rattle.run_ends.specs.Arrivals.{MemberTakesIn, PeerTakesIn}
 use Rattle.run_ends.specs.Parties.{AreInPlace, DeliversTo, EndsHeld, IsMemberPlace, Plays, member_seen, seat_or, state_of}
 
@@ -75,36 +80,33 @@ module _ (past : List Turn) (s : EndsHeld) (moment : Moment) (member place : ℕ
       acts-plays past s moment at member refl room in_place place x is seat (record { by = λ v. refl; no_config = λ v. refl }) was now calls step new some refl refl
       (sends-proper (held_at was.held spir) octets calls step size does).said (subst (λ (y : Option Holder). SendsOf ((member_seen y).held spir) payload.octets calls step) (sym its) it) later leaves
 
+  pub asks : (spir : ℕ) (request : WithRoom) (octets : List ℕ) (calls : List Call) (step : Step) → request.octets ≡ octets → length octets ≤ LONGEST_REQUEST → nat_le MAX_DATAGRAMS (length (datagrams_of past)) ≡ false
+      → AsksOf (held_at was.held spir) octets calls step → IsAfter (task.Ask spir octets) calls step was now → Plays past s moment (event.Ask (parties.Member member) spir request) calls step new
+  asks spir request octets calls step same size room does after =
+      let at : Event = event.Ask (parties.Member member) spir request in
+      let it : AsksOf (held_at was.held spir) request.octets calls step = subst (λ o. AsksOf (held_at was.held spir) o calls step) (sym same) does in
+      let later : IsAfter (task.Ask spir request.octets) calls step was now = subst (λ o. IsAfter (task.Ask spir o) calls step was now) (sym same) after in
+      acts-plays past s moment at member refl room in_place place x is seat (record { by = λ v. refl; no_config = λ v. refl }) was now calls step new some refl refl
+      (asks-proper (held_at was.held spir) octets calls step size does).said (subst (λ (y : Option Holder). AsksOf ((member_seen y).held spir) request.octets calls step) (sym its) it) later leaves
+
+  pub asks_again : (spir id : ℕ) (calls : List Call) (step : Step) → nat_le MAX_DATAGRAMS (length (datagrams_of past)) ≡ false → ResendsOf (held_at was.held spir) id calls step → IsAfter (task.Again spir id) calls step was now
+      → Plays past s moment (event.Again (parties.Member member) spir id) calls step new
+  asks_again spir id calls step room does after =
+      acts-plays past s moment (event.Again (parties.Member member) spir id) member refl room in_place place x is seat (record { by = λ v. refl; no_config = λ v. refl }) was now calls step new some refl refl
+      (resends_of-said (held_at was.held spir) id calls step does) (subst (λ (y : Option Holder). ResendsOf ((member_seen y).held spir) id calls step) (sym its) does) after leaves
+
   -- what arrives is taken by a member
   pub takes : (at : Event) → DeliversTo at (parties.Member member) → nat_le MAX_DATAGRAMS (length (datagrams_of past)) ≡ false → (datagram : PlainDatagram) → arrives (datagrams_of past) at ≡ Ok datagram
-      → (calls : List Call) (step : Step) → MemberTakesIn datagram.medium datagram.octets calls step was now → s ≡ record s { members = set s.members place (Some was) } → Plays past s moment at calls step new
-  takes at to room datagram found calls step = by_medium datagram.medium refl
-    where
-      facts : Brings at (parties.Member member)
-      facts = brings at (parties.Member member) to
-
-      its_room : WithRoomFor (state_of past s) at
-      its_room = has-room (state_of past s) at room
-
-      free : refused_besides (state_of past s) at ≡ refused_arrival (Ok datagram)
-      free = facts.besides (state_of past s) ∙ ap refused_arrival found
-
-      by_medium : (m : Medium) → datagram.medium ≡ m → MemberTakesIn m datagram.octets calls step was now → s ≡ record s { members = set s.members place (Some was) } → Plays past s moment at calls step new
-      by_medium medium.Ike e it back =
-          let none : calls ≡ [] = it.0.no_calls in
-          let same : new ≡ s = leaves ∙ ap (λ h. record s { members = set s.members place (Some h) }) it.1 ∙ sym back in
-          let unbuilt : refused_arrival (Ok datagram) ≡ Some refusal.NotBuilt = ap refused_medium e in
-          subst (λ cs. Plays past s moment at cs step new) (sym none)
-          (refused-plays past s moment at refusal.NotBuilt step new in_place
-          (up-refusal past s moment at member facts.named its_room in_place place x is seat was some ∙ free ∙ unbuilt) it.0.says same)
-      by_medium medium.Esp e it back =
-          let built : refused_arrival (Ok datagram) ≡ None = ap refused_medium e in
-          acts-plays past s moment at member facts.named its_room in_place place x is seat (record { by = facts.by; no_config = facts.no_config }) was now calls step new some (free ∙ built) (facts.no_end step.verdict)
-          (member_takes-proper (held_at was.held) datagram.octets calls step it.0).said
-          (facts.performs (state_of past s) moment calls step
-          (subst (λ r. Receives (state_of past s) moment (parties.Member member) r calls step) (sym found)
-          (subst (λ (y : Option Holder). MemberTakes (member_seen y).held datagram.octets calls step) (sym its) it.0)))
-          (subst (λ t. IsAfter t calls step was now) (sym facts.member) it.1) leaves
+      → (calls : List Call) (step : Step) → MemberTakesIn datagram.medium datagram.octets calls step was now → Plays past s moment at calls step new
+  takes at to room datagram found calls step it =
+      let facts : Brings at (parties.Member member) = brings at (parties.Member member) to in
+      acts-plays past s moment at member facts.named (has-room (state_of past s) at room) in_place place x is seat (record { by = facts.by; no_config = facts.no_config }) was now calls step new some
+      (facts.besides (state_of past s) ∙ ap refused_arrival found) (facts.no_end step.verdict)
+      (member_gets-said datagram.medium (held_at was.held) datagram.octets calls step it.0)
+      (facts.performs (state_of past s) moment calls step
+      (subst (λ r. Receives (state_of past s) moment (parties.Member member) r calls step) (sym found)
+      (subst (λ (y : Option Holder). MemberGets datagram.medium (member_seen y).held datagram.octets calls step) (sym its) it.0)))
+      (subst (λ t. IsAfter t calls step was now) (sym facts.member) it.1) leaves
 
 -- a member ends
 pub crashes : (past : List Turn) (s : EndsHeld) (moment : Moment) (member place : ℕ) (x : Option Holder) → AreInPlace s → IsMemberPlace member place s.members → x ≡ get_or s.members place x → (was : Holder) → x ≡ Some was → (step : Step) → Says out.Down step
@@ -201,34 +203,46 @@ module _ (past : List Turn) (s : EndsHeld) (moment : Moment) (in_place : AreInPl
         in_place = in_place;
       })
 
+  -- the peer asks, and asks again
+  pub peer_asks : (spir : ℕ) (request : WithRoom) (octets : List ℕ) → request.octets ≡ octets → length octets ≤ LONGEST_REQUEST → nat_le MAX_DATAGRAMS (length (datagrams_of past)) ≡ false → PeerAsks spir s.peer.slots octets step
+      → new ≡ record s { peer = peer_after s.config.window moment (task.Ask spir octets) step s.peer } → Plays past s moment (event.Ask parties.Peer spir request) [] step new
+  peer_asks spir request octets same size room does leaves =
+      let at : Event = event.Ask parties.Peer spir request in
+      let it : PeerAsks spir s.peer.slots request.octets step = subst (λ o. PeerAsks spir s.peer.slots o step) (sym same) does in
+      subst (λ later. Plays past s moment (event.Ask parties.Peer spir request) [] step later) (sym leaves) (record {
+        does = does-performed (state_of past s) moment (event.Ask parties.Peer spir request) [] step (of-peer (state_of past s) (event.Ask parties.Peer spir request) room refl) (refl, it);
+        holds = peer-holds past s moment (event.Ask parties.Peer spir request) [] step (peer_after s.config.window moment (task.Ask spir octets) step s.peer) (peer_asks-proper spir s.peer.slots octets step size does).said refl refl refl
+            (ap (λ o. peer_after s.config.window moment (task.Ask spir o) step s.peer) (sym same));
+        in_place = in_place;
+      })
+
+  pub peer_asks_again : (spir id : ℕ) → nat_le MAX_DATAGRAMS (length (datagrams_of past)) ≡ false → PeerResends spir s.peer.slots id step → s.peer ≡ peer_after s.config.window moment (task.Again spir id) step s.peer → new ≡ s → Plays past s moment (event.Again parties.Peer spir id) [] step new
+  peer_asks_again spir id room does same leaves = subst (λ later. Plays past s moment (event.Again parties.Peer spir id) [] step later) (sym leaves) (record {
+    does = does-performed (state_of past s) moment (event.Again parties.Peer spir id) [] step (of-peer (state_of past s) (event.Again parties.Peer spir id) room refl) (refl, does);
+    holds = peer-holds past s moment (event.Again parties.Peer spir id) [] step s.peer (peer_resends-said spir s.peer.slots id step does) refl refl refl same;
+    in_place = in_place;
+  })
+
   -- what arrives is refused, or taken by the peer
   pub not_arrives : (at : Event) (to : Party) → DeliversTo at to → (why : Refusal) → arrives (datagrams_of past) at ≡ Err why → run_refusal (state_of past s) at ≡ refused_besides (state_of past s) at → Says (out.Refused why) step → new ≡ s → Plays past s moment at [] step new
   not_arrives at to d why found present says same = refused-plays past s moment at why step new in_place (present ∙ (brings at to d).besides (state_of past s) ∙ ap refused_arrival found) says same
 
   pub peer_takes : (at : Event) → DeliversTo at parties.Peer → nat_le MAX_DATAGRAMS (length (datagrams_of past)) ≡ false → (datagram : PlainDatagram) → arrives (datagrams_of past) at ≡ Ok datagram → (was now : PeerWithRoom) → was.held ≡ s.peer → was.window ≡ s.config.window
       → PeerTakesIn datagram.medium datagram.octets step was now → new ≡ record s { peer = now.held } → Plays past s moment at [] step new
-  peer_takes at to room datagram found was now same_held same_window takes leaves = by_medium datagram.medium refl takes
-    where
-      facts : Brings at parties.Peer
-      facts = brings at parties.Peer to
+  peer_takes at to room datagram found was now same_held same_window it leaves =
+      let facts : Brings at parties.Peer = brings at parties.Peer to in
+      let present : run_refusal (state_of past s) at ≡ None = of-peer (state_of past s) at (has-room (state_of past s) at room) facts.named ∙ facts.besides (state_of past s) ∙ ap refused_arrival found in
+      let received : PeerGets datagram.medium s.peer.slots datagram.octets [] step = subst (λ (peer : PeerHeld). PeerGets datagram.medium peer.slots datagram.octets [] step) same_held it.0 in
+      subst (λ later. Plays past s moment at [] step later) (sym leaves) (record {
+        does = does-performed (state_of past s) moment at [] step present (facts.performs (state_of past s) moment [] step (subst (λ r. Receives (state_of past s) moment parties.Peer r [] step) (sym found) received));
+        holds = peer-holds past s moment at [] step now.held (peer_gets-said datagram.medium s.peer.slots datagram.octets [] step received) (facts.by step.verdict) (facts.no_end step.verdict) (facts.no_config step.verdict)
+            (it.1.holds moment
+            ∙ ap (λ w. peer_after w moment task.Receive step was.held) same_window
+            ∙ ap (peer_after s.config.window moment task.Receive step) same_held
+            ∙ ap (λ t. peer_after s.config.window moment t step s.peer) (sym facts.peer));
+        in_place = in_place;
+      })
 
-      present : run_refusal (state_of past s) at ≡ refused_arrival (Ok datagram)
-      present = of-peer (state_of past s) at (has-room (state_of past s) at room) facts.named ∙ facts.besides (state_of past s) ∙ ap refused_arrival found
-
-      by_medium : (m : Medium) → datagram.medium ≡ m → PeerTakesIn m datagram.octets step was now → Plays past s moment at [] step new
-      by_medium medium.Ike e it =
-          let unbuilt : refused_arrival (Ok datagram) ≡ Some refusal.NotBuilt = ap refused_medium e in
-          let same : now.held ≡ s.peer = ap (λ (p : PeerWithRoom). p.held) it.1 ∙ same_held in
-          refused-plays past s moment at refusal.NotBuilt step new in_place (present ∙ unbuilt) it.0.says (leaves ∙ ap (λ peer. record s { peer = peer }) same)
-      by_medium medium.Esp e it =
-          let built : refused_arrival (Ok datagram) ≡ None = ap refused_medium e in
-          let received : PeerTakes s.peer.slots datagram.octets [] step = subst (λ (peer : PeerHeld). PeerTakes peer.slots datagram.octets [] step) same_held it.0 in
-          subst (λ later. Plays past s moment at [] step later) (sym leaves) (record {
-            does = does-performed (state_of past s) moment at [] step (present ∙ built) (facts.performs (state_of past s) moment [] step (subst (λ r. Receives (state_of past s) moment parties.Peer r [] step) (sym found) received));
-            holds = peer-holds past s moment at [] step now.held (peer_takes-proper s.peer.slots datagram.octets [] step received).said (facts.by step.verdict) (facts.no_end step.verdict) (facts.no_config step.verdict)
-                (it.1.holds moment
-                ∙ ap (λ w. peer_after w moment task.Receive step was.held) same_window
-                ∙ ap (peer_after s.config.window moment task.Receive step) same_held
-                ∙ ap (λ t. peer_after s.config.window moment t step s.peer) (sym facts.peer));
-            in_place = in_place;
-          })
+-- where nothing is delivered, no service executes anything
+pub plays-alone : (past : List Turn) (s : EndsHeld) (moment : Moment) (at : Event) (calls : List Call) (step : Step) (new : EndsHeld) → Fits (plain at) → delivery_of at ≡ None → Plays past s moment at calls step new → step.served ≡ None
+plays-alone past s moment at calls step new fits none p = does-alone (state_of past s) moment calls step at fits none p.does

@@ -15,10 +15,10 @@ got_all calls got true e = absurd (cc)
 got_all calls got false e = cc
 
 -- a gate that had told no call has recorded these
-pub told-all : {K : Type 0} (calls : List Call) (before after : Gated K) → told_calls before ≡ Some [] → length calls ≤ 1 → AddsAllTold (told_calls before) calls (told_calls after) → after.first ≡ calls
+pub told-all : {K : Type 0} (calls : List Call) (before after : Gated K) → told_calls before ≡ Some [] → length calls ≤ 2 → AddsAllTold (told_calls before) calls (told_calls after) → after.first ≡ calls
 told-all calls before after told few adds =
     let said : AddsAllTold (Some []) calls (told_calls after) = subst (λ t. AddsAllTold t calls (told_calls after)) told adds in
-    got_all calls after.first after.missed (said (omega arith))
+    got_all calls after.first after.missed (said (omega (arith, few)))
 
 pub shown-all : {G : Type 0} (gives : G → Call → G → Type 0) → ((a : G) (call : Call) (b : G) → gives a call b → call.hidden ≡ false) → (old : G) (calls : List Call) (new : G) → EachGives gives old calls new → AreShown calls
 shown-all gives plain old [] new e = tt

@@ -1,13 +1,9 @@
 -- What the ends come to themselves: how it comes out, by how many calls, and how long what they send is.
-use Rattle.std.proofs.Common.{◌≡◌, ℕ, ◌≤◌, Bool, true, false, not, Option, Some, None, Result, Ok, Err, MatchOption, List, [], ◌∷◌, length, option_to_list, ⊎_elim, refl, ap, sym, subst, arith}
+use Rattle.std.proofs.Common.{◌≡◌, ℕ, ◌≤◌, Bool, false, Option, Some, None, Result, Ok, Err, MatchOption, List, [], ◌∷◌, length, option_to_list, ⊎_elim, refl, ap, sym, subst, arith}
 use Rattle.std.proofs.lemmas.Bool.{cases_lt}
 use Rattle.std.specs.List.{AllByRecursion}
 use Rattle.std.specs.Option.{option_map}
 use Rattle.esp_packets.specs.Packet.{spi_of}
-use Rattle.events.specs.declared.event.Event.{Event}
-use Rattle.events.specs.declared.event.Event.TheVariants as event
-use Rattle.events.specs.declared.event.Party.{Party}
-use Rattle.events.specs.declared.event.Party.TheVariants as parties
 use Rattle.events.specs.declared.turn.Step.{Step}
 use Rattle.events.specs.declared.verdict.EspVerdict.{EspVerdict}
 use Rattle.events.specs.declared.verdict.EspVerdict.TheVariants as esp
@@ -15,13 +11,10 @@ use Rattle.events.specs.declared.verdict.Refusal.{Refusal}
 use Rattle.events.specs.declared.verdict.Refusal.TheVariants as refusal
 use Rattle.events.specs.declared.verdict.Verdict.{Verdict}
 use Rattle.events.specs.declared.verdict.Verdict.TheVariants as out
-use Rattle.events.specs.Events.{plain}
-use Rattle.events.specs.Ranges.{Fits}
 use Rattle.ha_base.specs.declared.counter_names.CounterName.{CounterName}
 use Rattle.ha_base.specs.declared.esp_outcomes.EspDrop.{EspDrop}
 use Rattle.ha_base.specs.declared.esp_outcomes.EspDrop.TheVariants as drop
 use Rattle.ha_base.specs.declared.esp_outcomes.EspOpened.{EspOpened}
-use Rattle.ha_base.specs.declared.outside.Moment.{Moment}
 use Rattle.keeper_book.specs.Counters.{five_at}
 use Rattle.keeper_book.specs.Told.{seen}
 use Rattle.keeper_book.specs.declared.calls.Call.{Call}
@@ -35,42 +28,38 @@ use Rattle.keeper_book.specs.declared.records.Record.{Record}
 use Rattle.turn_rules.proofs.KeySizes.{sized_to_cluster, sized_to_peer}
 use Rattle.turn_rules.proofs.Readies.{ready-elim}
 use Rattle.turn_rules.proofs.Refusals.{stop-own}
-use Rattle.turn_rules.specs.Datagrams.{PlainDatagram, arrives, plain_datagram}
+use Rattle.turn_rules.specs.Datagrams.{plain_datagram}
 use Rattle.turn_rules.specs.Deliveries.{MemberTakes, PeerTakes}
 use Rattle.turn_rules.specs.Draws.{Admits, Concludes, EntersRecord, Grants, TakesOver, counter_name, refusal_of_import, refusal_of_stop, refusal_of_takeover}
 use Rattle.turn_rules.specs.Ends.{is_of_run}
-use Rattle.turn_rules.specs.Fits.{Does, DrawsOf, Performs, Quietly, Receives, Refuses, Refusing, SendsOf, Yields, run_refusal}
+use Rattle.turn_rules.specs.Fits.{DrawsOf, Quietly, Refuses, SendsOf}
 use Rattle.turn_rules.specs.Held.{Held}
 use Rattle.turn_rules.specs.MemberPackets.{MemberReceives, TakesPacket, outbound_of}
 use Rattle.turn_rules.specs.Packets.{Drops, IsVerdictOf, SendsEsp}
-use Rattle.turn_rules.specs.Peers.{admits}
-use Rattle.turn_rules.specs.Slots.{PeerReceives, PeerSends, Slot, SlotReceives, SlotSends, SlotTakes, first_slot, has_spir, peer_counter, receives_at, records, slot_outbound}
-use Rattle.turn_rules.specs.States.{RunState}
+use Rattle.turn_rules.specs.Slots.{PeerReceives, PeerSends, Slot, SlotReceives, SlotSends, SlotTakes, first_slot, has_spir, peer_counter, receives_at, slot_outbound}
 use Rattle.turn_rules.specs.Steps.{IsQuiet, Says}
-use Rattle.run_ends.proofs.Bounds.{fits_send, sends-short}
+use Rattle.run_ends.proofs.Bounds.{sends-short}
 use Rattle.run_ends.proofs.Holding.{IsOfEnd}
+use Rattle.run_ends.proofs.MessageBounds.{IsBrief}
 use Rattle.run_ends.specs.Parties.{IsShort}
 
--- what is given is short
-abbrev pub IsBrief : Step → Type 0
-IsBrief step = AllByRecursion IsShort (option_to_list (option_map plain_datagram step.gives))
-
--- a step that an end comes to itself, by one call at most, and gives nothing long
+-- a step that an end comes to itself with no service, by two calls at most, and gives nothing long
 pub record IsProper (calls : List Call) (step : Step) : Type 0 where
-  pub few : length calls ≤ 1
+  pub few : length calls ≤ 2
   pub said : IsOfEnd step.verdict
   pub brief : IsBrief step
+  pub alone : step.served ≡ None
 
-none-few : (calls : List Call) → calls ≡ [] → length calls ≤ 1
+pub none-few : (calls : List Call) → calls ≡ [] → length calls ≤ 2
 none-few calls none = omega (arith, ap length none)
 
 pub quiet-brief : (step : Step) → step.gives ≡ None → IsBrief step
 quiet-brief step none = subst (λ gives. AllByRecursion IsShort (option_to_list (option_map plain_datagram gives))) (sym none) tt
 
-of-verdict : (verdict is : Verdict) → IsOfEnd is → verdict ≡ is → IsOfEnd verdict
+pub of-verdict : (verdict is : Verdict) → IsOfEnd is → verdict ≡ is → IsOfEnd verdict
 of-verdict verdict is own same = subst IsOfEnd (sym same) own
 
-of-refusal : (verdict : Verdict) (why : Refusal) → is_of_run why ≡ false → verdict ≡ out.Refused why → IsOfEnd verdict
+pub of-refusal : (verdict : Verdict) (why : Refusal) → is_of_run why ≡ false → verdict ≡ out.Refused why → IsOfEnd verdict
 of-refusal verdict why own = of-verdict verdict (out.Refused why) (record { no_join = refl; heard = own })
 
 abbrev own_of : Option Refusal → Bool
@@ -101,8 +90,8 @@ keeper-refused : (refused : Option Refusal) (verdict : Verdict) → own_of refus
 keeper-refused None verdict own m = absurd m
 keeper-refused (Some r) verdict own m = of-refusal verdict r own m
 
-quiet-proper : (calls : List Call) (step : Step) → length calls ≤ 1 → IsOfEnd step.verdict → IsQuiet step → IsProper calls step
-quiet-proper calls step few said quiet = record { few = few; said = said; brief = quiet-brief step quiet.gives }
+pub quiet-proper : (calls : List Call) (step : Step) → length calls ≤ 2 → IsOfEnd step.verdict → IsQuiet step → IsProper calls step
+quiet-proper calls step few said quiet = record { few = few; said = said; brief = quiet-brief step quiet.gives; alone = quiet.served }
 
 pub takes-proper : (spir member : ℕ) (calls : List Call) (step : Step) → Quietly (TakesOver spir member) calls step → IsProper calls step
 takes-proper spir member calls step quietly = go calls quietly.follows
@@ -143,8 +132,8 @@ draws-proper (Some held) calls step quietly = ready-elim held counter.EspOut (fi
     (λ why rest. Concludes rest step.verdict (out.Refused (refusal_of_stop why)))
     (λ high rest. Concludes rest step.verdict (out.Number (five_at held.nexts counter.EspOut)))
     (λ why rest c. c.no_more) (λ high rest c. c.no_more) calls
-    (λ why rest vain c. quiet-proper calls step vain.few (of-refusal step.verdict (refusal_of_stop why) (stop-own why) c.said) quietly.quiet)
-    (λ high rest covers c. quiet-proper calls step covers.few (of-verdict step.verdict (out.Number (five_at held.nexts counter.EspOut)) (record { no_join = refl; heard = refl }) c.said) quietly.quiet)
+    (λ why rest vain c. quiet-proper calls step (omega (arith, vain.few)) (of-refusal step.verdict (refusal_of_stop why) (stop-own why) c.said) quietly.quiet)
+    (λ high rest covers c. quiet-proper calls step (omega (arith, covers.few)) (of-verdict step.verdict (out.Number (five_at held.nexts counter.EspOut)) (record { no_join = refl; heard = refl }) c.said) quietly.quiet)
     quietly.follows
 
 pub sends-proper : (held : Option Held) (payload : List ℕ) (calls : List Call) (step : Step) → length payload ≤ 1400 → SendsOf held payload calls step → IsProper calls step
@@ -153,11 +142,12 @@ sends-proper (Some held) payload calls step size sends = ready-elim held counter
     (λ why rest. (rest ≡ []) × Says (out.Refused (refusal_of_stop why)) step)
     (λ high rest. (rest ≡ []) × SendsEsp (outbound_of held) (five_at held.nexts counter.EspOut) payload step)
     (λ why rest s. s.0) (λ high rest s. s.0) calls
-    (λ why rest vain s. quiet-proper calls step vain.few (of-refusal step.verdict (refusal_of_stop why) (stop-own why) s.1.said) s.1.quiet)
+    (λ why rest vain s. quiet-proper calls step (omega (arith, vain.few)) (of-refusal step.verdict (refusal_of_stop why) (stop-own why) s.1.said) s.1.quiet)
     (λ high rest covers s. record {
-      few = covers.few;
+      few = omega (arith, covers.few);
       said = of-verdict step.verdict (out.Sent (five_at held.nexts counter.EspOut)) (record { no_join = refl; heard = refl }) s.1.said;
       brief = sends-short (outbound_of held) (five_at held.nexts counter.EspOut) payload step (sized_to_peer held.sa.size held.sa.keys held.sa.child held.sa.key_lengths) size s.1;
+      alone = s.1.served;
     })
     sends
 
@@ -170,6 +160,7 @@ peer_sends-proper spir slots payload step size sends = go (first_slot (has_spir 
           few = omega arith;
           said = of-verdict step.verdict (out.Sent slot.next) (record { no_join = refl; heard = refl }) it.said;
           brief = sends-short (slot_outbound slot) slot.next payload step (sized_to_cluster slot.sa.size slot.sa.keys slot.sa.child slot.sa.key_lengths) size it;
+          alone = it.served;
         })
         (λ above. let it = s.ended above in quiet-proper [] step (omega arith) (of-refusal step.verdict refusal.Exhausted refl it.said) it.quiet)
         (cases_lt slot.next (end_of slot.sa counter.EspOut))
@@ -197,8 +188,8 @@ module _ (calls : List Call) (step : Step) (ended : EspVerdict) (after : List �
       (λ why rest. (rest ≡ []) × (ended ≡ esp.Refused (refusal_of_stop why)))
       (λ high rest. (rest ≡ []) × (ended ≡ esp.Accepted (counter_name held.sa counter.EspIn) packet))
       (λ why rest s. s.0) (λ high rest s. s.0) calls
-      (λ why rest vain s. quiet-proper calls step vain.few (of-refusal step.verdict (refusal_of_stop why) (stop-own why) (as_said (esp.Refused (refusal_of_stop why)) s.1)) quiet)
-      (λ high rest covers s. quiet-proper calls step covers.few (accepted-said (counter_name held.sa counter.EspIn) packet s.1) quiet)
+      (λ why rest vain s. quiet-proper calls step (omega (arith, vain.few)) (of-refusal step.verdict (refusal_of_stop why) (stop-own why) (as_said (esp.Refused (refusal_of_stop why)) s.1)) quiet)
+      (λ high rest covers s. quiet-proper calls step (omega (arith, covers.few)) (accepted-said (counter_name held.sa counter.EspIn) packet s.1) quiet)
       takes
 
   received-proper : (held : ℕ → Option Held) (octets : List ℕ) → MemberReceives held octets calls ended after → IsProper calls step
@@ -226,48 +217,3 @@ member_takes-proper held octets calls step t = received-proper calls step t.answ
 
 pub peer_takes-proper : (slots : List Slot) (octets : List ℕ) (calls : List Call) (step : Step) → PeerTakes slots octets calls step → IsProper calls step
 peer_takes-proper slots octets calls step t = peer_received-proper calls step t.answer t.after t.worded t.quiet slots octets t.no_calls t.receives
-
--- of each event: by one call at most, and nothing long is given
-module _ (state : RunState) (moment : Moment) (calls : List Call) (step : Step) where
-  abbrev IsFew : Type 0
-  IsFew = (length calls ≤ 1) × IsBrief step
-
-  yields-few : (verdict : Verdict) → Yields verdict calls step → IsFew
-  yields-few verdict y = (none-few calls y.no_calls, quiet-brief step y.says.quiet.gives)
-
-  proper-few : IsProper calls step → IsFew
-  proper-few p = (p.few, p.brief)
-
-  imports-few : (sa : Record) (b : Bool) → Refusing b refusal.SpiInUse calls step (Quietly (EntersRecord sa) calls step) → IsFew
-  imports-few sa true r = yields-few (out.Refused refusal.SpiInUse) r
-  imports-few sa false quietly = proper-few (enters-proper sa calls step quietly)
-
-  receives-few : (to : Party) (found : Result PlainDatagram Refusal) → Receives state moment to found calls step → IsFew
-  receives-few to (Err why) r = absurd r
-  receives-few parties.Peer (Ok datagram) r = proper-few (peer_takes-proper state.peer.slots datagram.octets calls step r)
-  receives-few (parties.Member member) (Ok datagram) r = proper-few (member_takes-proper (state.members member).held datagram.octets calls step r)
-
-  performs-few : (at : Event) → Fits (plain at) → Performs state moment at calls step → IsFew
-  performs-few (event.Cluster identity lifetime window ticket_key) fits p = yields-few out.Configured p
-  performs-few (event.Import sa) fits p = imports-few sa (not (admits (records state.peer.slots) sa)) p
-  performs-few (event.Join fresh) fits p = yields-few _ p
-  performs-few (event.Own member spir) fits p = proper-few (takes-proper spir member calls step p)
-  performs-few (event.Draw member spir) fits p = proper-few (draws-proper ((state.members member).held spir) calls step p)
-  performs-few (event.Crash member) fits p = yields-few out.Down p
-  performs-few (event.Send parties.Peer spir payload) fits p =
-      (none-few calls p.0, (peer_sends-proper spir state.peer.slots payload.octets step (fits_send parties.Peer spir payload fits) p.1).brief)
-  performs-few (event.Send (parties.Member member) spir payload) fits p =
-      proper-few (sends-proper ((state.members member).held spir) payload.octets calls step (fits_send (parties.Member member) spir payload fits) p)
-  performs-few (event.Ask from spir request) fits p = absurd p
-  performs-few (event.Again from spir id) fits p = absurd p
-  performs-few (event.Deliver which to) fits p = receives-few to (arrives state.datagrams (event.Deliver which to)) p
-  performs-few (event.Alter which to place octet) fits p = receives-few to (arrives state.datagrams (event.Alter which to place octet)) p
-  performs-few (event.Cut which to keep) fits p = receives-few to (arrives state.datagrams (event.Cut which to keep)) p
-  performs-few (event.Inject to medium octets) fits p = receives-few to (arrives state.datagrams (event.Inject to medium octets)) p
-
-  pub does-few : (at : Event) → Fits (plain at) → Does state moment at calls step → IsFew
-  does-few at fits does = go (run_refusal state at) does
-    where
-      go : (x : Option Refusal) → MatchOption x (Performs state moment at calls step) (λ why. Refuses why calls step) → IsFew
-      go None p = performs-few at fits p
-      go (Some why) r = yields-few (out.Refused why) r

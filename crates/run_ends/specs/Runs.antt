@@ -2,6 +2,7 @@
 -- first.
 use Rattle.std.specs.Prelude.{ℕ, ◌≡◌, Option, Some, None, List, [], ◌∷◌}
 use Rattle.events.specs.declared.event.Event.{Event}
+use Rattle.events.specs.declared.turn.Served.{Served}
 use Rattle.events.specs.declared.turn.Turn.{Turn}
 use Rattle.ha_base.specs.declared.outside.Moment.{Moment}
 use Rattle.keeper_book.specs.Book.{Book}
@@ -36,3 +37,8 @@ CausedSince start now past = HaveCause start now (calls_of past)
 abbrev pub LackMemory : List Call → Type 0
 LackMemory (call ∷ []) = seen call ≡ answer.Refused fault.Memory
 LackMemory calls = ⊥
+
+-- what was executed in the newest turn
+abbrev pub served_last : List Turn → Option Served
+served_last [] = None
+served_last (turn ∷ past) = turn.step.served

@@ -6,6 +6,7 @@ mod deliveries;
 mod ends;
 mod members;
 mod parties;
+mod requests;
 mod sends;
 mod settings;
 

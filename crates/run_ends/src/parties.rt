@@ -1,6 +1,6 @@
 //! The ends of a run, and what they do at an event.
 
-ghost use Rattle.std.specs.Prelude.{◌≡◌, ◌≤◌, [], List, IfOk, OnErr, length};
+ghost use Rattle.std.specs.Prelude.{◌≡◌, ◌<◌, [], List, IfOk, OnErr};
 ghost use Rattle.std.specs.List.{AllByRecursion};
 ghost use Rattle.events.specs.Events.{plain};
 ghost use Rattle.events.specs.Ranges.{Fits};
@@ -8,12 +8,14 @@ ghost use Rattle.cluster_member.specs.Members.{AsksInVain};
 ghost use Rattle.events.specs.declared.event.Event.TheVariants as event;
 ghost use Rattle.events.specs.declared.turn.Turn.{Turn};
 ghost use Rattle.ha_base.specs.declared.outside.Moment.{Moment};
+ghost use Rattle.ha_base.specs.declared.services.TheConstants.{MOST_REQUESTS};
 ghost use Rattle.keeper_book.specs.Asks.{AsksFor};
 ghost use Rattle.replay_set.specs.Window.{IsWindowSize};
 ghost use Rattle.turn_rules.specs.Configurations.{default_configuration, gateway_of};
 ghost use Rattle.turn_rules.specs.Datagrams.{datagrams_of};
 ghost use Rattle.turn_rules.specs.Fits.{is_importable};
 ghost use Rattle.turn_rules.specs.PeerStates.{peer_begun};
+ghost use Rattle.turn_rules.specs.Services.{Serves};
 ghost use Rattle.turn_rules.specs.Steps.{Says};
 ghost use Rattle.run_ends.specs.Parties.{AreInPlace, Configures, IsShort, Plays};
 
@@ -21,7 +23,7 @@ use crate::settings::Settings;
 use cluster_member::{Member, of_import};
 use cluster_peer::Peer;
 use events::{Event, Refusal, Step, Verdict};
-use ha_base::{LEAST_ESP_SPI, LEAST_SPI, Memory, Moment};
+use ha_base::{LEAST_ESP_SPI, LEAST_SPI, Memory, Moment, Service};
 use keeper_book::{Keeper, Record};
 use std::alloc::Global;
 use std::marker::Model;
@@ -96,24 +98,29 @@ impl Parties {
         }
     }
 
-    /// What the ends do at a moment at an event, where these turns were before. An error is want of
-    /// memory; the ends are then as they were, and the keeper was asked only where it lacked the
-    /// memory itself.
+    /// What the ends do at a moment at an event, where these turns were before. The service is that
+    /// of the end that acts. An error is want of memory; the ends and the service are then as they
+    /// were, and the keeper was asked only where it lacked the memory itself.
     pub fn play<K: Keeper>(
         &mut self,
         keeper: &mut K,
+        service: &mut Box<dyn Service>,
         now: Moment,
         trace: &Trace,
         event: &Event,
     ) -> Result<Step, Memory>
         requires fits { Fits (plain event.now) }
+        requires room { count service.old < MOST_REQUESTS }
         requires short { AllByRecursion IsShort (datagrams_of trace.now.past) }
         requires first { trace.now.past ≡ []
             → (self.old.peer.slots ≡ []) × (self.old.members ≡ []) }
         requires in_place { AreInPlace self.old }
         ensures plays { IfOk result (λ step. AsksFor K.Keeper keeper.old keeper.new (λ calls.
             Plays trace.now.past self.old now event.now calls step self.new)) }
+        ensures serves { IfOk result
+            (λ step. Serves count last gives service.old step.served service.new) }
         ensures err { OnErr result (self.new ≡ self.old) }
+        ensures unserved { OnErr result (service.new ≡ service.old) }
         ensures in_vain { OnErr result (AsksInVain K.Keeper keeper.old keeper.new) }
     {
         match event {
@@ -136,12 +143,22 @@ impl Parties {
                 spir,
                 payload,
             } => return self.send(keeper, trace, *from, *spir, payload.as_slice()),
-            Event::Ask { .. } => return Ok(refused(Refusal::NotBuilt)),
-            Event::Again { .. } => return Ok(refused(Refusal::NotBuilt)),
-            Event::Deliver { to, .. } => return self.deliver(keeper, now, trace, *to, event),
-            Event::Alter { to, .. } => return self.deliver(keeper, now, trace, *to, event),
-            Event::Cut { to, .. } => return self.deliver(keeper, now, trace, *to, event),
-            Event::Inject { to, .. } => return self.deliver(keeper, now, trace, *to, event),
+            Event::Ask {
+                from,
+                spir,
+                request,
+            } => return self.ask(keeper, trace, *from, *spir, request.as_slice()),
+            Event::Again { from, spir, id } => return self.again(trace, *from, *spir, *id),
+            Event::Deliver { to, .. } => {
+                return self.deliver(keeper, service, now, trace, *to, event);
+            }
+            Event::Alter { to, .. } => {
+                return self.deliver(keeper, service, now, trace, *to, event);
+            }
+            Event::Cut { to, .. } => return self.deliver(keeper, service, now, trace, *to, event),
+            Event::Inject { to, .. } => {
+                return self.deliver(keeper, service, now, trace, *to, event);
+            }
         }
     }
 

@@ -2,6 +2,7 @@
 
 use crate::run::{Failing, Outcome, play};
 use anyhow::bail;
+use ha_base::PIECE_OCTETS;
 use replay_world::top::Status;
 use std::alloc::Global;
 use std::str;
@@ -21,7 +22,7 @@ fn is_same(one: &Outcome, other: &Outcome) -> bool {
 }
 
 fn in_pieces(alloc: Global, word: &str, kind: &str, input: &str) -> anyhow::Result<String> {
-    let whole = play(alloc, word, input, 65_536, Failing::Nothing)?;
+    let whole = play(alloc, word, input, PIECE_OCTETS, Failing::Nothing)?;
     let cut = play(alloc, word, input, 7, Failing::Nothing)?;
     let single = play(alloc, word, input, 1, Failing::Nothing)?;
     if !is_same(&whole, &cut) || !is_same(&whole, &single) {

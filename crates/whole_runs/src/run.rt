@@ -63,17 +63,17 @@ fn plan(alloc: Global, call: Option<u8>) -> anyhow::Result<Octets> {
 fn source(
     alloc: Global,
     input: &str,
-    piece: u32,
+    piece: usize,
     call: Option<u8>,
 ) -> anyhow::Result<MemorySource> {
     let input = octets(alloc, input.as_bytes())?;
     let plan = plan(alloc, call)?;
-    Ok(MemorySource::new(input, (piece as usize).max(1), plan))
+    Ok(MemorySource::new(input, piece.max(1), plan))
 }
 
-fn sink(alloc: Global, piece: u32, call: Option<u8>) -> anyhow::Result<MemorySink> {
+fn sink(alloc: Global, piece: usize, call: Option<u8>) -> anyhow::Result<MemorySink> {
     let plan = plan(alloc, call)?;
-    match MemorySink::new(alloc, ROOM, (piece as usize).max(1), plan) {
+    match MemorySink::new(alloc, ROOM, piece.max(1), plan) {
         Ok(sink) => Ok(sink),
         Err(_) => bail!("want of memory"),
     }
@@ -135,7 +135,7 @@ pub fn play(
     alloc: Global,
     word: &str,
     input: &str,
-    piece: u32,
+    piece: usize,
     failing: Failing,
 ) -> anyhow::Result<Outcome> {
     let mut source = source(alloc, input, piece, failing.of_source())?;

@@ -5,7 +5,10 @@ use Rattle.events.specs.Events.{plain}
 use Rattle.event_text.specs.Input.{left_contents, with_event}
 use Rattle.replay_world.specs.Played.{prefixed, titles}
 use Rattle.replay_world.proofs.AskedLaws.{asks-more}
+use Rattle.replay_world.proofs.FewEvents.{few-more}
 use Rattle.replay_world.proofs.PlayedLaws.{newest, prefixed-turn, text-turn}
+use Rattle.replay_world.proofs.ServedLaws.{serves-more, serves-same}
+use Rattle.replay_world.specs.Worlds.{boxes_of}
 use Rattle.replay_world.proofs.play.play_events.Goals as goal
 
 pub loop-moment-preserved-in-Continue-branch-2 : goal.loop-moment-preserved-in-Continue-branch-2
@@ -30,5 +33,17 @@ loop-moment-preserved-in-Continue-branch-2 g c =
       local = t.local;
       stands = λ before. t.stands (i.stands before);
       caused = λ start before. t.caused start (i.caused start before);
+      few = few-more past c.turn.new.self.ends.past grown.turn (c.in-Ok-Some.moment, plain c.in-Ok-Some.event) (left_contents c.loop-moment.reader) rest read grown.more i.few;
+      kept = t.kept;
+      serve = λ handed start. serves-more _ _ _ handed past c.turn.new.self.ends.past grown.turn (boxes_of c.loop-moment.world) (boxes_of c.turn.new.self) grown.more t.serve (i.serve handed start);
       asks = λ start before. asks-more g.K.Keeper start c.loop-moment.keeper.keeper c.turn.new.keeper.keeper past c.turn.new.self.ends.past grown.turn grown.more (i.asks start before) t.asks;
     }
+
+pub returns-in_err-turn-in-Ok-Some-clause-serve : goal.returns-in_err-turn-in-Ok-Some-clause-serve
+returns-in_err-turn-in-Ok-Some-clause-serve g c handed start =
+    serves-same _ _ handed (λ world. world.ends.past) boxes_of c.loop-moment.world c.turn.new.self c.in_err-turn-in-Ok-Some.ensures.err (c.loop-moment.invariant.serve handed start)
+
+pub returns-in_err-write_turn-clause-serve : goal.returns-in_err-write_turn-clause-serve
+returns-in_err-write_turn-clause-serve g c handed start =
+    let t = c.in_ok-turn-in-Ok-Some.ensures in
+    serves-more _ _ _ handed c.loop-moment.world.ends.past c.turn.new.self.ends.past t.grows.turn (boxes_of c.loop-moment.world) (boxes_of c.turn.new.self) t.grows.more t.serve (c.loop-moment.invariant.serve handed start)

@@ -1,12 +1,12 @@
 -- What comes to a member that has not joined, or that ended, or that is up.
-use Rattle.std.proofs.Common.{◌≡◌, ◌∙◌, Option, Some, List, [], refl, ap, sym, rules}
+use Rattle.std.proofs.Common.{◌≡◌, ◌∙◌, Option, Some, List, ap, sym, rules}
 use Rattle.std.proofs.Math.ListN.{set}
 use Rattle.std.specs.Prelude.{false}
 use Rattle.events.specs.declared.event.Party.TheVariants as parties
 use Rattle.keeper_book.proofs.Asking.{asks_for_none}
 use Rattle.cluster_member.specs.Members.{Holder}
 use Rattle.run_ends.proofs.Acting.{WithRoomFor, absent-plays, brings, down-plays, has-room, up-refusal}
-use Rattle.run_ends.proofs.Plays.{asked-as, not_arrives, takes}
+use Rattle.run_ends.proofs.Plays.{asked-as, if_ok-as, not_arrives, takes}
 use Rattle.run_ends.proofs.Seats.{put_back}
 use Rattle.run_ends.proofs.parties.Parties.deliver_to_member.Goals as goal
 use Rattle.run_ends.specs.Parties.{EndsHeld, has_member, state_of}
@@ -47,14 +47,11 @@ returns-in-Err-clause-delivers g c =
 
 pub returns-in-Ok-clause-delivers : goal.returns-in-Ok-clause-delivers
 returns-in-Ok-clause-delivers g c =
-    let members : List (Option Holder) = c.self.inside.members.items in
-    let members_are : members ≡ c.args.self.now.members = ap (λ (s : EndsHeld). s.members) c.self.view_is in
-    let with_members : List (Option Holder) → EndsHeld = λ ms. record { boxes = c.self.inside.boxes; config = c.self.inside.settings; peer = c.self.inside.peer.held; members = ms } in
-    let back : set members c.in-Some.place (Some c.in-Some-index_mut.member) ≡ members = ap (set members c.in-Some.place) (sym c.in-Some-index_mut.is) ∙ put_back members c.in-Some.place c.index_mut.result.now c.index_mut.ensures.value in
+    let members_are : c.self.inside.members.items ≡ c.args.self.now.members = ap (λ (s : EndsHeld). s.members) c.self.view_is in
     let now = c.member_takes.new.member in
-    let stays = sym (ap (λ (v : EndsHeld). record v { members = set v.members c.in-Some.place (Some c.in-Some-index_mut.member) }) (sym c.self.view_is) ∙ ap with_members back ∙ c.self.view_is) in
-    asked-as
-    (λ calls it. takes c.args.trace.now.past c.args.self.now c.args.now c.args.member c.in-Some.place c.index_mut.result.now c.requires.in_place c.in-Some.ensures (rw members_are at c.index_mut.ensures.value)
+    if_ok-as c.member_takes.result
+    (λ step. asked-as
+    (λ calls. takes c.args.trace.now.past c.args.self.now c.args.now c.args.member c.in-Some.place c.index_mut.result.now c.requires.in_place c.in-Some.ensures (rw members_are at c.index_mut.ensures.value)
     c.in-Some-index_mut.member now c.in-Some-index_mut.is _ (ap (λ (v : EndsHeld). record v { members = set v.members c.in-Some.place (Some now) }) c.self.view_is)
-    c.args.event.now c.requires.to c.requires.room c.in-Ok.arrival (sym c.in_ok-arrival.ensures ∙ c.in-Ok.is) calls c.member_takes.result it stays)
-    c.member_takes.ensures
+    c.args.event.now c.requires.to c.requires.room c.in-Ok.arrival (sym c.in_ok-arrival.ensures ∙ c.in-Ok.is) calls step))
+    c.member_takes.ensures.takes

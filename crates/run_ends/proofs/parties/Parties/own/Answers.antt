@@ -1,5 +1,5 @@
 -- A takeover by a member that has not joined, or that ended, or that is up.
-use Rattle.std.proofs.Common.{◌≡◌, ◌∙◌, Option, Some, List, [], refl, ap, rules}
+use Rattle.std.proofs.Common.{◌≡◌, ◌∙◌, Option, Some, List, refl, ap, rules}
 use Rattle.std.proofs.Math.ListN.{set}
 use Rattle.std.specs.Prelude.{false}
 use Rattle.events.specs.declared.event.Event.TheVariants as event

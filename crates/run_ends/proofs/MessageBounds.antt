@@ -1,0 +1,79 @@
+-- How long the IKE messages are that an end sends.
+use Rattle.std.proofs.Common.{◌≡◌, ℕ, ◌+◌, ◌≤◌, ◌⊎◌, Option, Some, None, Result, Ok, Err, List, [], ◌∷◌, length, option_to_list, ap, sym, ◌∙◌, subst, arith}
+use Rattle.std.proofs.lemmas.List.{length-append}
+use Rattle.std.specs.List.{AllByRecursion}
+use Rattle.std.specs.Option.{option_map}
+use Rattle.aes_gcm.proofs.Seals.{sealing}
+use Rattle.aes_gcm.specs.Gcm.{Sealed}
+use Rattle.events.specs.declared.turn.Step.{Step}
+use Rattle.ike_sas.specs.Answers.{answer_by, answer_payloads, error_of, error_payload, reply_payloads, reply_to, request_payloads}
+use Rattle.ike_sas.specs.Held.{IkeHeld}
+use Rattle.ike_sas.specs.declared.answers.RequestError.{RequestError}
+use Rattle.ike_sas.specs.declared.answers.RequestError.TheVariants as error
+use Rattle.ike_values.specs.Notifications.{first_notify, notify_of}
+use Rattle.ike_values.specs.Values.{PayloadValue, sk}
+use Rattle.ike_values.specs.Writing.{body_written, chain_written}
+use Rattle.ike_values.specs.declared.fault.Bad.{Bad}
+use Rattle.ike_values.specs.declared.header.Header.{Header}
+use Rattle.ike_values.specs.declared.notify_types.TheConstants.{REPLY_DATA, REQUEST_DATA}
+use Rattle.sk_payload.specs.Message.{IsDatagram, associated_data, plain_of}
+use Rattle.sk_payload.specs.declared.open.Opened.{Opened}
+use Rattle.turn_rules.specs.Datagrams.{plain_datagram}
+use Rattle.turn_rules.specs.Messages.{SendsMessage}
+use Rattle.run_ends.specs.Parties.{IsShort}
+
+-- what is given is short
+abbrev pub IsBrief : Step → Type 0
+IsBrief step = AllByRecursion IsShort (option_to_list (option_map plain_datagram step.gives))
+
+-- a message has 57 octets more than its inner payloads
+message_length : (key : List ℕ) → (length key ≡ 20) ⊎ (length key ≡ 36) → (iv : ℕ) (header : Header) (payloads : List PayloadValue) (octets : List ℕ) → IsDatagram key iv header payloads octets → length octets ≡ 57 + length (chain_written payloads)
+message_length key sized iv header payloads octets d =
+    let s = sealing key sized in
+    let plain = plain_of payloads in
+    let text : length d.body.ciphertext ≡ length plain = sym (ap (λ (x : Sealed). length x.ciphertext) d.is.text) ∙ s.ciphertext_length d.body.iv (associated_data octets) plain in
+    let tag : length d.body.icv ≡ 16 = sym (ap (λ (x : Sealed). length x.tag) d.is.text) ∙ s.tag_length d.body.iv (associated_data octets) plain in
+    omega (
+      arith,
+      ap length d.written,
+      text,
+      tag,
+      length-append d.body.ciphertext d.body.icv,
+      length-append (body_written (sk d.body)) [],
+      length-append (chain_written payloads) (0 ∷ []),
+    )
+
+-- a message is sent with few inner payloads
+pub sends_message-brief : (held : IkeHeld) (iv : ℕ) (header : Header) (payloads : List PayloadValue) (step : Step) → (length held.keys.sending.octets ≡ 20) ⊎ (length held.keys.sending.octets ≡ 36) → length (chain_written payloads) ≤ 264
+    → SendsMessage held iv header payloads step → IsBrief step
+sends_message-brief held iv header payloads step sized few s =
+    subst (λ gives. AllByRecursion IsShort (option_to_list (option_map plain_datagram gives))) (sym s.gives)
+    (omega (arith, few, ap length s.sends.same, message_length held.keys.sending.octets sized iv header payloads s.sent.seal.sealed.octets s.sends.sealed), tt)
+
+notify-length : (kind : ℕ) (content : List ℕ) → length (chain_written (notify_of kind content ∷ [])) ≡ 8 + length content
+notify-length kind content = omega (arith, length-append (body_written (notify_of kind content)) [])
+
+-- the payloads of a request
+pub request-few : (request : List ℕ) → length request ≤ 256 → length (chain_written (request_payloads request)) ≤ 264
+request-few request size = omega (arith, size, notify-length REQUEST_DATA request)
+
+-- and of a response
+error-few : (why : RequestError) → length (chain_written (error_payload why ∷ [])) ≤ 264
+error-few (error.UnsupportedCriticalPayload kind) = omega arith
+error-few error.InvalidSyntax = omega arith
+error-few error.NoProposalChosen = omega arith
+
+pub answer-few : (request : Opened) (reply : List ℕ) → length reply ≤ 256 → length (chain_written (answer_payloads request reply)) ≤ 264
+answer-few request reply size = by_error (error_of request)
+  where
+    by_data : (x : Option (List ℕ)) → length (chain_written (reply_to x reply)) ≤ 264
+    by_data None = omega arith
+    by_data (Some octets) = omega (arith, size, notify-length REPLY_DATA reply)
+
+    by_inner : (inner : Result (List PayloadValue) Bad) → length (chain_written (reply_payloads inner reply)) ≤ 264
+    by_inner (Ok payloads) = by_data (first_notify REQUEST_DATA payloads)
+    by_inner (Err bad) = omega arith
+
+    by_error : (x : Option RequestError) → length (chain_written (answer_by x request.inner reply)) ≤ 264
+    by_error None = by_inner request.inner
+    by_error (Some why) = error-few why
