@@ -1,3 +1,4 @@
+pub mod FirstRounds
 pub mod HashTables
 pub mod Hashing
 pub mod HeldKeys

@@ -3,7 +3,7 @@ use Rattle.std.proofs.Common.{◌≡◌, ℕ, suc, ◌+◌, ◌<◌, ◌≤◌, 
 use Rattle.std.proofs.lemmas.List.{ext_get_or, append-nil, take_at, drop_at, drop_all}
 use borrow.Rule.Slice.PartMut.{put_mid}
 use Rattle.std.proofs.lemmas.Simd.{get_or-zip2}
-use Rattle.std.specs.Int.Bits.{bit_or, bit_xor, or_zero_l, xor_assoc, xor_self, xor_zero_l, xor_zero_r}
+use Rattle.std.specs.Int.Bits.{bit_or, bit_xor, or_zero_l, xor_assoc, xor_self, xor_zero_r}
 use Rattle.std.proofs.lemmas.Nat.{le_or_l, le_or_r}
 use Rattle.std.proofs.lemmas.Bool.{cases_eq}
 use lib.Lanes.{zip2}
@@ -46,7 +46,7 @@ pub xored_enough : (xs ks more : List ℕ) → length xs ≤ length ks → xored
 unfolding xored
 xored_enough xs ks more h = enough_zip xs ks more h
 
-xor_twice : (x k : ℕ) → bit_xor (bit_xor x k) k ≡ x
+pub xor_twice : (x k : ℕ) → bit_xor (bit_xor x k) k ≡ x
 xor_twice x k = xor_assoc x k k ∙ ap (bit_xor x) (xor_self k) ∙ xor_zero_r x
 
 xored_twice_zip : (xs ks : List ℕ) → length xs ≤ length ks → zip2 bit_xor (zip2 bit_xor xs ks) ks ≡ xs

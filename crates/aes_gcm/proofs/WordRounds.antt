@@ -10,7 +10,8 @@ use Rattle.std.proofs.lemmas.Simd.{get_or-chunk, length-chunk}
 use lib.Lanes.{chunk}
 use Rattle.aes_gcm.proofs.OctetLaws.{same_below}
 use Rattle.std.proofs.Math.Seq.{take-add}
-use Rattle.aes_gcm.specs.declared.rows.TheConstants.{ROW_0, ROW_1, ROW_2, ROW_3}
+use Rattle.aes_gcm.specs.declared.rows.TheConstants.{ROWS}
+use Rattle.aes_gcm.specs.Columns.{from_row_2, from_row_3}
 use Rattle.aes_gcm.specs.Aes.{times_low, times, inverse_below, inverse, affine, sub_byte, xored, word, round_key, mix_column}
 
 -- a list of n numbers is its places
@@ -70,38 +71,39 @@ from_row_0 s = times 2 s ∷ s ∷ s ∷ times 3 s ∷ []
 from_row_1 : ℕ → List ℕ
 from_row_1 s = times 3 s ∷ times 2 s ∷ s ∷ s ∷ []
 
-from_row_2 : ℕ → List ℕ
-from_row_2 s = s ∷ times 3 s ∷ times 2 s ∷ s ∷ []
-
-from_row_3 : ℕ → List ℕ
-from_row_3 s = s ∷ s ∷ times 3 s ∷ times 2 s ∷ []
-
-all_0 : map (λ a. to_le_bytes w32 (get_or ROW_0 a 0)) (range_with_len 0 256) ≡ map (λ a. from_row_0 (sub_byte a)) (range_with_len 0 256)
+all_0 : map (λ a. to_le_bytes w32 (get_or ROWS a 0)) (range_with_len 0 256) ≡ map (λ a. from_row_0 (sub_byte a)) (range_with_len 0 256)
 unfolding from_row_0 sub_byte affine inverse inverse_below times times_low
 all_0 = refl
 
-all_1 : map (λ a. to_le_bytes w32 (get_or ROW_1 a 0)) (range_with_len 0 256) ≡ map (λ a. from_row_1 (sub_byte a)) (range_with_len 0 256)
+all_1 : map (λ a. to_le_bytes w32 (get_or ROWS (256 + a) 0)) (range_with_len 0 256) ≡ map (λ a. from_row_1 (sub_byte a)) (range_with_len 0 256)
 unfolding from_row_1 sub_byte affine inverse inverse_below times times_low
 all_1 = refl
 
-all_2 : map (λ a. to_le_bytes w32 (get_or ROW_2 a 0)) (range_with_len 0 256) ≡ map (λ a. from_row_2 (sub_byte a)) (range_with_len 0 256)
+all_2 : map (λ a. to_le_bytes w32 (get_or ROWS (512 + a) 0)) (range_with_len 0 256) ≡ map (λ a. from_row_2 (sub_byte a)) (range_with_len 0 256)
 unfolding from_row_2 sub_byte affine inverse inverse_below times times_low
 all_2 = refl
 
-all_3 : map (λ a. to_le_bytes w32 (get_or ROW_3 a 0)) (range_with_len 0 256) ≡ map (λ a. from_row_3 (sub_byte a)) (range_with_len 0 256)
+all_3 : map (λ a. to_le_bytes w32 (get_or ROWS (768 + a) 0)) (range_with_len 0 256) ≡ map (λ a. from_row_3 (sub_byte a)) (range_with_len 0 256)
 unfolding from_row_3 sub_byte affine inverse inverse_below times times_low
 all_3 = refl
 
+-- what one octet adds to a column
+pub row_2_is : (a : ℕ) → a < 256 → to_le_bytes w32 (get_or ROWS (512 + a) 0) ≡ from_row_2 (sub_byte a)
+row_2_is a h = same_below [] (λ a. to_le_bytes w32 (get_or ROWS (512 + a) 0)) (λ a. from_row_2 (sub_byte a)) all_2 a h
+
+pub row_3_is : (a : ℕ) → a < 256 → to_le_bytes w32 (get_or ROWS (768 + a) 0) ≡ from_row_3 (sub_byte a)
+row_3_is a h = same_below [] (λ a. to_le_bytes w32 (get_or ROWS (768 + a) 0)) (λ a. from_row_3 (sub_byte a)) all_3 a h
+
 -- the column that four octets of a state become
-pub mixed_is : (a b c d : ℕ) → a < 256 → b < 256 → c < 256 → d < 256 → to_le_bytes w32 (bit_xor (bit_xor (bit_xor (get_or ROW_0 a 0) (get_or ROW_1 b 0)) (get_or ROW_2 c 0)) (get_or ROW_3 d 0)) ≡ mix_column (sub_byte a) (sub_byte b) (sub_byte c) (sub_byte d)
+pub mixed_is : (a b c d : ℕ) → a < 256 → b < 256 → c < 256 → d < 256 → to_le_bytes w32 (bit_xor (bit_xor (bit_xor (get_or ROWS a 0) (get_or ROWS (256 + b) 0)) (get_or ROWS (512 + c) 0)) (get_or ROWS (768 + d) 0)) ≡ mix_column (sub_byte a) (sub_byte b) (sub_byte c) (sub_byte d)
 unfolding from_row_0 from_row_1 from_row_2 from_row_3 xored mix_column
 mixed_is a b c d a8 b8 c8 d8 =
-    let first = same_below [] (λ a. to_le_bytes w32 (get_or ROW_0 a 0)) (λ a. from_row_0 (sub_byte a)) all_0 a a8 in
-    let second = same_below [] (λ a. to_le_bytes w32 (get_or ROW_1 a 0)) (λ a. from_row_1 (sub_byte a)) all_1 b b8 in
-    let third = same_below [] (λ a. to_le_bytes w32 (get_or ROW_2 a 0)) (λ a. from_row_2 (sub_byte a)) all_2 c c8 in
-    let fourth = same_below [] (λ a. to_le_bytes w32 (get_or ROW_3 a 0)) (λ a. from_row_3 (sub_byte a)) all_3 d d8 in
-    word_of_xor (bit_xor (bit_xor (get_or ROW_0 a 0) (get_or ROW_1 b 0)) (get_or ROW_2 c 0)) (get_or ROW_3 d 0)
-    ∙ ap (λ t. xored t (to_le_bytes w32 (get_or ROW_3 d 0))) (word_of_xor (bit_xor (get_or ROW_0 a 0) (get_or ROW_1 b 0)) (get_or ROW_2 c 0) ∙ ap (λ t. xored t (to_le_bytes w32 (get_or ROW_2 c 0))) (word_of_xor (get_or ROW_0 a 0) (get_or ROW_1 b 0)))
+    let first = same_below [] (λ a. to_le_bytes w32 (get_or ROWS a 0)) (λ a. from_row_0 (sub_byte a)) all_0 a a8 in
+    let second = same_below [] (λ a. to_le_bytes w32 (get_or ROWS (256 + a) 0)) (λ a. from_row_1 (sub_byte a)) all_1 b b8 in
+    let third = same_below [] (λ a. to_le_bytes w32 (get_or ROWS (512 + a) 0)) (λ a. from_row_2 (sub_byte a)) all_2 c c8 in
+    let fourth = same_below [] (λ a. to_le_bytes w32 (get_or ROWS (768 + a) 0)) (λ a. from_row_3 (sub_byte a)) all_3 d d8 in
+    word_of_xor (bit_xor (bit_xor (get_or ROWS a 0) (get_or ROWS (256 + b) 0)) (get_or ROWS (512 + c) 0)) (get_or ROWS (768 + d) 0)
+    ∙ ap (λ t. xored t (to_le_bytes w32 (get_or ROWS (768 + d) 0))) (word_of_xor (bit_xor (get_or ROWS a 0) (get_or ROWS (256 + b) 0)) (get_or ROWS (512 + c) 0) ∙ ap (λ t. xored t (to_le_bytes w32 (get_or ROWS (512 + c) 0))) (word_of_xor (get_or ROWS a 0) (get_or ROWS (256 + b) 0)))
     ∙ (λ i. xored (xored (xored (first i) (second i)) (third i)) (fourth i))
 
 only_0 : ℕ → List ℕ
@@ -116,19 +118,19 @@ only_2 s = 0 ∷ 0 ∷ s ∷ 0 ∷ []
 only_3 : ℕ → List ℕ
 only_3 s = 0 ∷ 0 ∷ 0 ∷ s ∷ []
 
-all_only_0 : map (λ a. to_le_bytes w32 (bit_and (get_or ROW_2 a 0) 0xff)) (range_with_len 0 256) ≡ map (λ a. only_0 (sub_byte a)) (range_with_len 0 256)
+all_only_0 : map (λ a. to_le_bytes w32 (bit_and (get_or ROWS (512 + a) 0) 0xff)) (range_with_len 0 256) ≡ map (λ a. only_0 (sub_byte a)) (range_with_len 0 256)
 unfolding only_0 sub_byte affine inverse inverse_below times times_low
 all_only_0 = refl
 
-all_only_1 : map (λ a. to_le_bytes w32 (bit_and (get_or ROW_3 a 0) 0xff00)) (range_with_len 0 256) ≡ map (λ a. only_1 (sub_byte a)) (range_with_len 0 256)
+all_only_1 : map (λ a. to_le_bytes w32 (bit_and (get_or ROWS (768 + a) 0) 0xff00)) (range_with_len 0 256) ≡ map (λ a. only_1 (sub_byte a)) (range_with_len 0 256)
 unfolding only_1 sub_byte affine inverse inverse_below times times_low
 all_only_1 = refl
 
-all_only_2 : map (λ a. to_le_bytes w32 (bit_and (get_or ROW_0 a 0) 0xff0000)) (range_with_len 0 256) ≡ map (λ a. only_2 (sub_byte a)) (range_with_len 0 256)
+all_only_2 : map (λ a. to_le_bytes w32 (bit_and (get_or ROWS a 0) 0xff0000)) (range_with_len 0 256) ≡ map (λ a. only_2 (sub_byte a)) (range_with_len 0 256)
 unfolding only_2 sub_byte affine inverse inverse_below times times_low
 all_only_2 = refl
 
-all_only_3 : map (λ a. to_le_bytes w32 (bit_and (get_or ROW_1 a 0) 0xff000000)) (range_with_len 0 256) ≡ map (λ a. only_3 (sub_byte a)) (range_with_len 0 256)
+all_only_3 : map (λ a. to_le_bytes w32 (bit_and (get_or ROWS (256 + a) 0) 0xff000000)) (range_with_len 0 256) ≡ map (λ a. only_3 (sub_byte a)) (range_with_len 0 256)
 unfolding only_3 sub_byte affine inverse inverse_below times times_low
 all_only_3 = refl
 
@@ -142,16 +144,16 @@ joined p q r s =
     ∷ xor_zero_l s i ∷ []
 
 -- the column that four octets become in the last round
-pub substituted_is : (a b c d : ℕ) → a < 256 → b < 256 → c < 256 → d < 256 → to_le_bytes w32 (bit_xor (bit_xor (bit_xor (bit_and (get_or ROW_2 a 0) 0xff) (bit_and (get_or ROW_3 b 0) 0xff00)) (bit_and (get_or ROW_0 c 0) 0xff0000)) (bit_and (get_or ROW_1 d 0) 0xff000000)) ≡ sub_byte a ∷ sub_byte b ∷ sub_byte c ∷ sub_byte d ∷ []
+pub substituted_is : (a b c d : ℕ) → a < 256 → b < 256 → c < 256 → d < 256 → to_le_bytes w32 (bit_xor (bit_xor (bit_xor (bit_and (get_or ROWS (512 + a) 0) 0xff) (bit_and (get_or ROWS (768 + b) 0) 0xff00)) (bit_and (get_or ROWS c 0) 0xff0000)) (bit_and (get_or ROWS (256 + d) 0) 0xff000000)) ≡ sub_byte a ∷ sub_byte b ∷ sub_byte c ∷ sub_byte d ∷ []
 substituted_is a b c d a8 b8 c8 d8 =
-    let w = bit_and (get_or ROW_2 a 0) 0xff in
-    let x = bit_and (get_or ROW_3 b 0) 0xff00 in
-    let y = bit_and (get_or ROW_0 c 0) 0xff0000 in
-    let z = bit_and (get_or ROW_1 d 0) 0xff000000 in
-    let first = same_below [] (λ a. to_le_bytes w32 (bit_and (get_or ROW_2 a 0) 0xff)) (λ a. only_0 (sub_byte a)) all_only_0 a a8 in
-    let second = same_below [] (λ a. to_le_bytes w32 (bit_and (get_or ROW_3 a 0) 0xff00)) (λ a. only_1 (sub_byte a)) all_only_1 b b8 in
-    let third = same_below [] (λ a. to_le_bytes w32 (bit_and (get_or ROW_0 a 0) 0xff0000)) (λ a. only_2 (sub_byte a)) all_only_2 c c8 in
-    let fourth = same_below [] (λ a. to_le_bytes w32 (bit_and (get_or ROW_1 a 0) 0xff000000)) (λ a. only_3 (sub_byte a)) all_only_3 d d8 in
+    let w = bit_and (get_or ROWS (512 + a) 0) 0xff in
+    let x = bit_and (get_or ROWS (768 + b) 0) 0xff00 in
+    let y = bit_and (get_or ROWS c 0) 0xff0000 in
+    let z = bit_and (get_or ROWS (256 + d) 0) 0xff000000 in
+    let first = same_below [] (λ a. to_le_bytes w32 (bit_and (get_or ROWS (512 + a) 0) 0xff)) (λ a. only_0 (sub_byte a)) all_only_0 a a8 in
+    let second = same_below [] (λ a. to_le_bytes w32 (bit_and (get_or ROWS (768 + a) 0) 0xff00)) (λ a. only_1 (sub_byte a)) all_only_1 b b8 in
+    let third = same_below [] (λ a. to_le_bytes w32 (bit_and (get_or ROWS a 0) 0xff0000)) (λ a. only_2 (sub_byte a)) all_only_2 c c8 in
+    let fourth = same_below [] (λ a. to_le_bytes w32 (bit_and (get_or ROWS (256 + a) 0) 0xff000000)) (λ a. only_3 (sub_byte a)) all_only_3 d d8 in
     word_of_xor (bit_xor (bit_xor w x) y) z
     ∙ ap (λ t. xored t (to_le_bytes w32 z)) (word_of_xor (bit_xor w x) y ∙ ap (λ t. xored t (to_le_bytes w32 y)) (word_of_xor w x))
     ∙ (λ i. xored (xored (xored (first i) (second i)) (third i)) (fourth i))

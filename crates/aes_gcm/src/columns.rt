@@ -1,16 +1,16 @@
 //! The cipher by tables (FIPS 197, section 5.1). A state is four words, one for each column, with
 //! the octet of row 0 lowest.
 
-ghost use Rattle.std.specs.Prelude.{◌≡◌, ◌*◌, ◌/◌, ◌%◌, ◌^◌, ◌<◌, ◌≤◌, ◌++◌, ◌∷◌, [], slice_index};
+ghost use Rattle.std.specs.Prelude.{◌≡◌, ◌*◌, ◌/◌, ◌%◌, ◌^◌, ◌<◌, ◌≤◌, ◌++◌, ◌∷◌, [], slice_index, List, ℕ};
 ghost use Rattle.std.specs.Int.{w32, to_le_bytes};
-ghost use Rattle.aes_gcm.specs.Aes.{cipher, mix_column, mix_columns, round_key, shift_rows, sub_byte, sub_bytes, word, xored};
+ghost use Rattle.aes_gcm.specs.Aes.{cipher, mix_column, mix_columns, round_key, rounds, shift_rows, sub_byte, sub_bytes, word, xored};
 ghost use Rattle.aes_gcm.specs.Columns.{column_octets};
 
-use crate::rows::{ROW_0, ROW_1, ROW_2, ROW_3};
+use crate::rows::ROWS;
 
 /// The word number `i` of a key schedule.
 #[inline(always)]
-fn key_word(words: &[u8; 240], i: usize) -> u32
+pub(crate) fn key_word(words: &[u8; 240], i: usize) -> u32
     requires { i < 60 }
     ensures { to_le_bytes w32 result ≡ word words.now i }
 {
@@ -24,7 +24,7 @@ fn key_word(words: &[u8; 240], i: usize) -> u32
 
 /// The columns of a block.
 #[inline(always)]
-fn load(block: &[u8; 16]) -> [u32; 4]
+pub(crate) fn load(block: &[u8; 16]) -> [u32; 4]
     ensures { column_octets result ≡ block.now }
 {
     [
@@ -37,7 +37,7 @@ fn load(block: &[u8; 16]) -> [u32; 4]
 
 /// Joins a state with the round key number `round`.
 #[inline(always)]
-fn add_round_key(s: &[u32; 4], round_keys: &[u8; 240], round: usize) -> [u32; 4]
+pub(crate) fn add_round_key(s: &[u32; 4], round_keys: &[u8; 240], round: usize) -> [u32; 4]
     requires { round ≤ 14 }
     ensures { column_octets result ≡ xored (column_octets s.now) (round_key round_keys.now round) }
 {
@@ -56,14 +56,14 @@ fn mixed_column(a: u32, b: u32, c: u32, d: u32) -> u32
     ensures { to_le_bytes w32 result ≡ mix_column (sub_byte (a % 256)) (sub_byte (b / 2 ^ 8 % 256))
         (sub_byte (c / 2 ^ 16 % 256)) (sub_byte (d / 2 ^ 24 % 256)) }
 {
-    ROW_0[a as usize % 256]
-        ^ ROW_1[(b >> 8) as usize % 256]
-        ^ ROW_2[(c >> 16) as usize % 256]
-        ^ ROW_3[(d >> 24) as usize % 256]
+    ROWS[a as usize % 256]
+        ^ ROWS[256 + (b >> 8) as usize % 256]
+        ^ ROWS[512 + (c >> 16) as usize % 256]
+        ^ ROWS[768 + (d >> 24) as usize % 256]
 }
 
 #[inline(always)]
-fn middle_round(s: &[u32; 4], round_keys: &[u8; 240], round: usize) -> [u32; 4]
+pub(crate) fn middle_round(s: &[u32; 4], round_keys: &[u8; 240], round: usize) -> [u32; 4]
     requires { round ≤ 14 }
     ensures { column_octets result ≡ xored (mix_columns
         (shift_rows (sub_bytes (column_octets s.now)))) (round_key round_keys.now round) }
@@ -84,10 +84,10 @@ fn column(a: u32, b: u32, c: u32, d: u32) -> u32
     ensures { to_le_bytes w32 result ≡ sub_byte (a % 256) ∷ sub_byte (b / 2 ^ 8 % 256)
         ∷ sub_byte (c / 2 ^ 16 % 256) ∷ sub_byte (d / 2 ^ 24 % 256) ∷ [] }
 {
-    (ROW_2[a as usize % 256] & 0xff)
-        ^ (ROW_3[(b >> 8) as usize % 256] & 0xff00)
-        ^ (ROW_0[(c >> 16) as usize % 256] & 0xff0000)
-        ^ (ROW_1[(d >> 24) as usize % 256] & 0xff000000)
+    (ROWS[512 + a as usize % 256] & 0xff)
+        ^ (ROWS[768 + (b >> 8) as usize % 256] & 0xff00)
+        ^ (ROWS[(c >> 16) as usize % 256] & 0xff0000)
+        ^ (ROWS[256 + (d >> 24) as usize % 256] & 0xff000000)
 }
 
 #[inline(always)]
@@ -118,6 +118,32 @@ fn store(s: &[u32; 4]) -> [u8; 16]
     ]
 }
 
+/// Enciphers a block whose state after its first `from` rounds is `state`.
+#[inline(always)]
+pub(crate) fn remaining_rounds(
+    state: [u32; 4],
+    round_keys: &[u8; 240],
+    from: usize,
+    middle_rounds: usize,
+) -> [u8; 16]
+    requires from { from ≤ middle_rounds }
+    requires rounds { middle_rounds ≤ 13 }
+    ensures { (block : List ℕ) → column_octets state ≡ rounds round_keys.now block from
+        → result ≡ cipher round_keys.now middle_rounds block }
+{
+    let mut state = state;
+    for pair in 0..(middle_rounds - from) / 2 {
+        let first = middle_round(&state, round_keys, from + 2 * pair + 1);
+        let second = middle_round(&first, round_keys, from + 2 * pair + 2);
+        state = second;
+    }
+    if (middle_rounds - from) % 2 == 1 {
+        let mixed = middle_round(&state, round_keys, middle_rounds);
+        return store(&last_round(&mixed, round_keys, middle_rounds + 1));
+    }
+    store(&last_round(&state, round_keys, middle_rounds + 1))
+}
+
 /// Enciphers a block in `middle_rounds` rounds that mix columns and one that does not.
 pub(crate) fn encrypt_block(
     round_keys: &[u8; 240],
@@ -127,10 +153,6 @@ pub(crate) fn encrypt_block(
     requires { middle_rounds ≤ 13 }
     ensures { result ≡ cipher round_keys.now middle_rounds block.now }
 {
-    let mut state = add_round_key(&load(block), round_keys, 0);
-    for round in 0..middle_rounds {
-        let next = middle_round(&state, round_keys, round + 1);
-        state = next;
-    }
-    store(&last_round(&state, round_keys, middle_rounds + 1))
+    let state = add_round_key(&load(block), round_keys, 0);
+    remaining_rounds(state, round_keys, 0, middle_rounds)
 }

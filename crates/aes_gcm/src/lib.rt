@@ -16,13 +16,12 @@ mod cipher;
 mod columns;
 mod counter;
 mod expansion;
+mod first_round;
 mod ghash;
 pub mod known_answers;
 mod octets;
 mod rows;
 mod tag;
-#[cfg(test)]
-mod tests;
 
 use crate::cipher::encrypt;
 use crate::columns::encrypt_block;

@@ -1,11 +1,10 @@
-use Rattle.std.proofs.Common.{◌∙◌, ◌++◌, ap, refl}
+use Rattle.std.proofs.Common.{◌∙◌, ◌++◌, refl}
 use Rattle.std.specs.Prelude.{replicate}
-use Rattle.aes_gcm.specs.Aes.{cipher}
 use Rattle.aes_gcm.proofs.Lists.{two_parts}
 use Rattle.aes_gcm.proofs.counter.two_blocks.Goals as goal
 
 pub returns : goal.returns
 returns c =
-    let f = cipher c.args.round_keys.now c.args.middle_rounds in
+    λ nonce begun.
     two_parts 16 16 c.copy_from_slice.new.self (replicate 16 0) c.copy_from_slice-2.new.self c.copy_from_slice.ensures.len refl
-    ∙ (λ i. (c.copy_from_slice.ensures.after ∙ c.encrypt_block.ensures ∙ ap f c.counter_block-first.ensures) i ++ (c.copy_from_slice-2.ensures.after ∙ c.encrypt_block-2.ensures ∙ ap f c.counter_block-second.ensures) i)
+    ∙ (λ i. (c.copy_from_slice.ensures.after ∙ c.encrypt_counter-first.ensures nonce begun) i ++ (c.copy_from_slice-2.ensures.after ∙ c.encrypt_counter-second.ensures nonce begun) i)
