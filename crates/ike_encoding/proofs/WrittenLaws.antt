@@ -3,12 +3,13 @@ use Rattle.std.proofs.Common.{◌≡◌, ℕ, ◌+◌, ◌<◌, ◌^◌, Bool, t
 use Rattle.std.specs.Prelude.{IfOk}
 use Rattle.ha_base.specs.Octets.{WithRoom}
 use Rattle.ike_values.specs.Values.{PayloadValue}
-use Rattle.ike_values.specs.Spelling.{Spells}
+use Rattle.ike_values.specs.Writing.{first_type_of, chain_written}
+use Rattle.ike_values.specs.Validity.{AreValid}
+use Rattle.ike_values.specs.Chains.{Spells}
 use Rattle.ike_values.specs.declared.header.Message.{Message}
-use Rattle.ike_values.specs.Writing.{first_type_of, chain_written, AreValid}
-use Rattle.ike_values.specs.Headers.{has_flag, IsMessage}
+use Rattle.ike_values.specs.Headers.{has_flag, FitsHeader, IsMessage}
 use Rattle.ike_values.proofs.SpellingLaws.{chain_spelled}
-use Rattle.ike_encoding.specs.Messages.{flags_of, FitsHeader, message_written}
+use Rattle.ike_encoding.specs.Messages.{flags_of, message_written}
 
 initiator_again : (i r : Bool) → i ≡ has_flag (cond i 8 0 + cond r 32 0) 8
 initiator_again true true = refl
@@ -27,9 +28,7 @@ message_spelled m fits valid short = (
   record { first = first_type_of m.payloads; version = 32; flags = flags_of m.header; rest = chain_written m.payloads },
   record {
     bytes_are = refl;
-    spii_fits = fits.spii;
-    spir_fits = fits.spir;
-    id_fits = fits.id;
+    fits = fits;
     length_fits = short;
     version_is = refl;
     initiator_is = initiator_again m.header.initiator m.header.response;

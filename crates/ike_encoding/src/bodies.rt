@@ -4,7 +4,8 @@ ghost use Rattle.std.specs.Prelude.{◌≡◌, ◌+◌, ◌++◌, ◌∷◌, ◌
 ghost use Rattle.std.specs.Int.{w64, to_be_bytes};
 ghost use Rattle.ike_values.specs.PayloadView.{payload_value};
 ghost use Rattle.ike_values.specs.Spelling.{two};
-ghost use Rattle.ike_values.specs.Writing.{numbered_written, body_written, FitsBody};
+ghost use Rattle.ike_values.specs.Writing.{numbered_written, body_written};
+ghost use Rattle.ike_values.specs.Validity.{FitsBody};
 
 use crate::octets::put_two;
 use crate::proposals::put_proposals;

@@ -2,8 +2,10 @@
 
 ghost use Rattle.std.specs.Prelude.{◌≡◌, ◌+◌, ◌++◌, ◌∷◌, false, true, length, map, IfOk, OnOk};
 ghost use Rattle.ike_values.specs.PayloadView.{payload_value};
-ghost use Rattle.ike_values.specs.Spelling.{two, type_of, HasSpelling, Spells};
-ghost use Rattle.ike_values.specs.Writing.{first_type_of, next_type_of, body_written, FitsPayload, chain_written, AreValid};
+ghost use Rattle.ike_values.specs.Spelling.{two, type_of};
+ghost use Rattle.ike_values.specs.Writing.{first_type_of, next_type_of, body_written, chain_written};
+ghost use Rattle.ike_values.specs.Validity.{FitsPayload, AreValid};
+ghost use Rattle.ike_values.specs.Chains.{HasSpelling, Spells};
 
 use crate::bodies::encode_body;
 use crate::octets::put_two;

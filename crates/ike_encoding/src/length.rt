@@ -1,7 +1,8 @@
 ghost use Rattle.std.specs.Prelude.{◌≡◌, ◌+◌, ◌<◌, ◌^◌, ◌↔◌, IsTrue, false, length, map, min};
 ghost use Rattle.ike_values.specs.PayloadView.{payload_value};
-ghost use Rattle.ike_values.specs.Spelling.{HasSpelling};
-ghost use Rattle.ike_values.specs.Writing.{chain_written, AreValid};
+ghost use Rattle.ike_values.specs.Writing.{chain_written};
+ghost use Rattle.ike_values.specs.Validity.{AreValid};
+ghost use Rattle.ike_values.specs.Chains.{HasSpelling};
 
 use ike_values::{HEADER_OCTETS, Payload, Payloads, body_len};
 

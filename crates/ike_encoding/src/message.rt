@@ -1,10 +1,10 @@
 //! Whole messages.
 
 ghost use Rattle.std.specs.Prelude.{◌≡◌, ◌+◌, ◌<◌, ◌^◌, length, IfOk, OnOk};
-ghost use Rattle.ike_values.specs.Spelling.{HasSpelling};
 ghost use Rattle.ike_values.specs.Writing.{chain_written};
-ghost use Rattle.ike_values.specs.Headers.{IsMessage};
-ghost use Rattle.ike_encoding.specs.Messages.{flags_of, FitsHeader, header_written, message_written};
+ghost use Rattle.ike_values.specs.Chains.{HasSpelling};
+ghost use Rattle.ike_values.specs.Headers.{FitsHeader, IsMessage};
+ghost use Rattle.ike_encoding.specs.Messages.{flags_of, header_written, message_written};
 
 use crate::chain::encode_chain;
 use ha_base::{Memory, Octets};

@@ -5,8 +5,9 @@ ghost use Rattle.std.specs.List.{AllByRecursion};
 ghost use Rattle.ike_values.specs.AttributeView.{attribute_value};
 ghost use Rattle.ike_values.specs.TransformView.{transform_value};
 ghost use Rattle.ike_values.specs.ProposalView.{proposal_value};
-ghost use Rattle.ike_values.specs.Spelling.{last_mark, attribute_spelling, attributes_spelling, FitsAttribute};
-ghost use Rattle.ike_values.specs.Writing.{transform_written, transforms_written, FitsTransform, proposal_written, proposals_written, FitsProposal};
+ghost use Rattle.ike_values.specs.Spelling.{last_mark, attribute_spelling, attributes_spelling};
+ghost use Rattle.ike_values.specs.Writing.{transform_written, transforms_written, proposal_written, proposals_written};
+ghost use Rattle.ike_values.specs.Validity.{FitsAttribute, FitsTransform, FitsProposal};
 
 use crate::octets::put_two;
 use ha_base::{Memory, Octets};

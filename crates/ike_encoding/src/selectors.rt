@@ -3,8 +3,9 @@
 ghost use Rattle.std.specs.Prelude.{◌≡◌, ◌+◌, ◌++◌, ◌≤◌, length, map, IsOk, OnOk};
 ghost use Rattle.std.specs.List.{AllByRecursion};
 ghost use Rattle.ike_values.specs.SelectorView.{selector_value};
-ghost use Rattle.ike_values.specs.Spelling.{FitsSelector, selector_spelling, selectors_spelling};
-ghost use Rattle.ike_values.specs.Writing.{FitsSelectors, numbered_written};
+ghost use Rattle.ike_values.specs.Spelling.{selector_spelling, selectors_spelling};
+ghost use Rattle.ike_values.specs.Writing.{numbered_written};
+ghost use Rattle.ike_values.specs.Validity.{FitsSelector, FitsSelectors};
 
 use crate::octets::put_two;
 use ha_base::{Memory, Octets};

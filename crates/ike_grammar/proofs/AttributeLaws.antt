@@ -5,7 +5,8 @@ use Rattle.std.specs.List.{AllByRecursion}
 use Rattle.std.proofs.lemmas.Bool.{ltb-true, ltb-false, le-ltb, lt-ltb}
 use Rattle.std.proofs.lemmas.List.{take-append-drop, take_at, drop_at, length-take}
 use Rattle.ike_values.specs.Values.{AttributeValue, fixed, free}
-use Rattle.ike_values.specs.Spelling.{two, attribute_spelling, FitsAttribute, attributes_spelling}
+use Rattle.ike_values.specs.Spelling.{two, attribute_spelling, attributes_spelling}
+use Rattle.ike_values.specs.Validity.{FitsAttribute}
 use Rattle.ike_grammar.specs.OctetRange.{IsOctets}
 use Rattle.ike_grammar.specs.Faults.{unless, Passes, two_at, many}
 use Rattle.ike_grammar.specs.Proposals.{fixed_read, free_tests, free_read, attribute_tests, formed_at, attribute_at}

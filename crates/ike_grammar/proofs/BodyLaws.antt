@@ -6,7 +6,8 @@ use Rattle.std.proofs.lemmas.Bool.{ltb-false, le-ltb, eqb-true, not-false, not_f
 use Rattle.std.proofs.lemmas.List.{take-append-drop, take_at, drop_at, length-take, length-drop}
 use Rattle.std.proofs.lemmas.Nat.{be_bytes_8, from_be_bytes-to_be_bytes_8}
 use Rattle.ike_values.specs.Values.{IdValue, AuthValue, NotifyValue, DeleteValue, SkValue}
-use Rattle.ike_values.specs.Spelling.{two, SpellsNumbered, SpellsNonce, SpellsNotify, SpellsDelete, SpellsSk}
+use Rattle.ike_values.specs.Spelling.{two}
+use Rattle.ike_grammar.proofs.Steps.{SpellsNumbered, SpellsNonce, SpellsNotify, SpellsDelete, SpellsSk}
 use Rattle.ike_grammar.specs.OctetRange.{IsOctets}
 use Rattle.ike_grammar.specs.Faults.{Passes}
 use Rattle.ike_grammar.specs.Bodies.{numbered_tests, id_at, auth_at, nonce_tests, nonce_at, notify_tests, notify_read, notify_at, delete_tests, delete_read, delete_at, sk_tests, sk_read, sk_at}

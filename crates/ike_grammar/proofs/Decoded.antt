@@ -3,7 +3,7 @@ use Rattle.std.proofs.Common.{◌≡◌, ℕ, Bool, List, length, Result, Ok, Er
 use Rattle.std.specs.Prelude.{IfOk, IfErr}
 use Rattle.ha_base.specs.Octets.{WithRoom}
 use Rattle.ike_values.specs.Values.{PayloadValue}
-use Rattle.ike_values.specs.Spelling.{Spells}
+use Rattle.ike_values.specs.Chains.{Spells}
 use Rattle.ike_values.specs.Headers.{IsHeader, IsMessage}
 use Rattle.ike_values.specs.declared.header.Header.{Header}
 use Rattle.ike_values.specs.declared.header.Message.{Message}

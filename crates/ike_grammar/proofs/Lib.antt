@@ -11,6 +11,7 @@ pub mod ItemLaws
 pub mod TransformLaws
 pub mod ProposalLaws
 pub mod SelectorLaws
+pub mod Steps
 pub mod KindLaws
 pub mod PayloadLaws
 pub mod ChainLaws

@@ -97,9 +97,7 @@ header_found bytes h fits e =
     subst (λ (y : Header). SpellsHeader y bytes (parts_of bytes)) (ok_is (header_read bytes) h u.1)
     (record {
       bytes_are = header_parts bytes long ∙ (λ i. header_octets (spii_back i) (spir_back i) marks (id_back i) (size_back i) rest);
-      spii_fits = eight_below spii spii_fit;
-      spir_fits = eight_below spir spir_fit;
-      id_fits = four_below id id_fit;
+      fits = record { spii = eight_below spii spii_fit; spir = eight_below spir spir_fit; id = four_below id id_fit };
       length_fits = (let below = four_below size size_fit in omega (arith, whole, below));
       version_is = version;
       initiator_is = refl;
@@ -121,7 +119,7 @@ header_again bytes h p s =
     let whole : length octets ≡ 28 + length p.rest = omega arith in
     ap header_at s.bytes_are ∙
     unless_passes (header_tests octets) (Ok (header_read octets)) (le-ltb (length octets) 28 (omega arith), (not_from_true _ (eq-eqb _ _ s.version_is), (not_from_true _ (eq-eqb _ _ (len ∙ sym whole)), tt))) ∙
-    header_same _ h.spii _ h.spir h.exchange _ h.id _ h.initiator _ h.response (from_be_bytes-to_be_bytes_8 h.spii s.spii_fits) (from_be_bytes-to_be_bytes_8 h.spir s.spir_fits) (from_be_bytes-to_be_bytes_4 h.id s.id_fits) (sym s.initiator_is) (sym s.response_is)
+    header_same _ h.spii _ h.spir h.exchange _ h.id _ h.initiator _ h.response (from_be_bytes-to_be_bytes_8 h.spii s.fits.spii) (from_be_bytes-to_be_bytes_8 h.spir s.fits.spir) (from_be_bytes-to_be_bytes_4 h.id s.fits.id) (sym s.initiator_is) (sym s.response_is)
 
 -- ---- messages
 

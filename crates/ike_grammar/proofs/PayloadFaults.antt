@@ -4,7 +4,8 @@ use Rattle.std.specs.Prelude.{slice_index, nat_le, IsTrue}
 use Rattle.std.proofs.lemmas.Bool.{ltb-true, ltb-false, leb-true, and_parts, or_parts}
 use Rattle.std.proofs.lemmas.List.{length-drop}
 use Rattle.ike_values.specs.Values.{PayloadValue, sa, idi, idr, auth, nonce, notify, delete, tsi, tsr, sk, ke, cert, certreq, vendor, cp, eap, other}
-use Rattle.ike_values.specs.Spelling.{Front, SpellsFront, GoesOn, is_unknown}
+use Rattle.ike_values.specs.Validity.{is_unknown}
+use Rattle.ike_grammar.proofs.Steps.{Front, SpellsFront, GoesOn, MayLead, NoSteps}
 use Rattle.ike_values.specs.declared.payload_types.TheConstants.{SK}
 use Rattle.ike_values.specs.declared.fault.Bad.{Bad}
 use Rattle.ike_values.specs.declared.fault.Reason.{Reason}
@@ -18,7 +19,7 @@ use Rattle.ike_grammar.specs.Bodies.{id_at, auth_at, nonce_at, notify_at, delete
 use Rattle.ike_grammar.specs.Proposals.{proposals_at}
 use Rattle.ike_grammar.specs.Selectors.{traffic_at}
 use Rattle.ike_grammar.specs.Chain.{made, body_at, payload_tests, body_of, behind_payload, last_tests, leads_to, payload_at}
-use Rattle.ike_grammar.specs.Places.{MayLead, NoneBegins, IsWrong}
+use Rattle.ike_grammar.specs.Places.{IsWrong}
 use Rattle.ike_grammar.proofs.Binds.{differ}
 use Rattle.ike_grammar.proofs.Cells.{IsOctets-drop, IsOctets-take, length-within}
 use Rattle.ike_grammar.proofs.KindLaws.{KindIs, kind_is}
@@ -229,7 +230,7 @@ stands_alone : (item : PayloadValue) (inner : Bool) (f : Front) → GoesOn item 
 stands_alone (sk x) inner f g = (g.0, g.2, g.3)
 stands_alone item inner f g = tt
 
-pub none_begins : (end number : ℕ) (inner : Bool) (bytes : List ℕ) (b : Bad) → payload_at end number inner bytes ≡ Err b → NoneBegins number inner bytes
+pub none_begins : (end number : ℕ) (inner : Bool) (bytes : List ℕ) (b : Bad) → payload_at end number inner bytes ≡ Err b → NoSteps number inner bytes
 none_begins end number inner bytes b e item f s g =
     differ (item, goes_to item f, f.rest) b (payload_at end number inner bytes) (payload_again end number inner bytes item f s (stands_alone item inner f g)) e
 

@@ -4,7 +4,9 @@ use Rattle.std.specs.Prelude.{slice_index, nat_le, ◌&&◌}
 use Rattle.std.proofs.lemmas.Bool.{ltb-false, le-ltb, leb-false, lt-leb, or_parts, or_from, and_left, and_right}
 use Rattle.std.proofs.lemmas.List.{take_at, drop_at, nil_from_length}
 use Rattle.ike_values.specs.Values.{PayloadValue, OtherValue, sa, ke, idi, idr, cert, certreq, auth, nonce, notify, delete, vendor, tsi, tsr, sk, cp, eap, other}
-use Rattle.ike_values.specs.Spelling.{two, type_of, SpellsBody, MayHave, Front, SpellsFront}
+use Rattle.ike_values.specs.Spelling.{two, type_of}
+use Rattle.ike_values.specs.Chains.{MayHave}
+use Rattle.ike_grammar.proofs.Steps.{SpellsBody, Front, SpellsFront}
 use Rattle.ike_values.specs.declared.fault.Bad.{Bad}
 use Rattle.ike_grammar.specs.declared.kind.Kind.{Kind}
 use Rattle.ike_grammar.specs.declared.kind.Kind.TheVariants.{Sa, Ke, IdI, IdR, Cert, CertReq, Auth, Nonce, Notify, Delete, Vendor, TsI, TsR, Sk, Cp, Eap, Other}

@@ -1,14 +1,15 @@
 -- What the place of a refusal means.
-use Rattle.std.proofs.Common.{◌≡◌, ℕ, zero, suc, ◌+◌, ◌-◌, ◌≤◌, ◌<◌, Bool, List, [], ◌∷◌, ◌++◌, length, Result, Ok, Err, refl, sym, ap, subst, ◌∙◌, append_assoc, arith, inl, inr, length-append}
+use Rattle.std.proofs.Common.{◌≡◌, ℕ, zero, suc, ◌+◌, ◌-◌, ◌≤◌, ◌<◌, Bool, true, List, [], ◌∷◌, ◌++◌, length, Result, Ok, Err, refl, sym, ap, subst, ◌∙◌, append_assoc, arith, inl, inr, length-append}
 use Rattle.std.proofs.lemmas.Bool.{ltb-true}
 use Rattle.ike_values.specs.Values.{PayloadValue, sk}
-use Rattle.ike_values.specs.Spelling.{two, Front, SpellsFront}
+use Rattle.ike_values.specs.Spelling.{two}
+use Rattle.ike_grammar.proofs.Steps.{Front, SpellsFront, MayLead, lead_next, lead_stands, NoSteps, none_spelled, nothing_spelled, cons_spelled}
 use Rattle.ike_values.specs.declared.fault.Bad.{Bad}
 use Rattle.ike_values.specs.declared.fault.Reason.{Reason}
 use Rattle.ike_grammar.specs.OctetRange.{IsOctets}
 use Rattle.ike_grammar.specs.Faults.{◌>>=◌, unless}
 use Rattle.ike_grammar.specs.Chain.{payload_at, end_tests, chain_by, Refused}
-use Rattle.ike_grammar.specs.Places.{MayLead, NoneBegins, IsWrong, IsFirstFault, fixed_len, BeginAlike}
+use Rattle.ike_grammar.specs.Places.{IsWrong, IsFirstFault, fixed_len, BeginAlike}
 use Rattle.ike_grammar.proofs.Chains.{payload_shortens}
 use Rattle.ike_grammar.proofs.ChainLaws.{some_first}
 use Rattle.ike_grammar.proofs.PayloadLaws.{Leads, payload_found}
@@ -23,7 +24,7 @@ pub record ChainFault (n end : ℕ) (inner : Bool) (number : ℕ) (bytes : List 
   pub found : IsFirstFault number inner bytes place b.reason
   pub stays : (k : ℕ) (others : List ℕ) → Alike k bytes others → b.place + 8 + length bytes ≤ end + k → chain_by n end inner number others ≡ Err b
 
-no_type : (inner : Bool) (bytes : List ℕ) → NoneBegins 0 inner bytes
+no_type : (inner : Bool) (bytes : List ℕ) → NoSteps 0 inner bytes
 no_type inner bytes item f s g = absurd (omega (arith, s.first_is, some_first item f.body s.body_is))
 
 -- where the chain is to end
@@ -47,10 +48,10 @@ end_fault n end inner bytes b l e =
         front = [];
         left = bytes;
         parts = refl;
-        before = (refl, refl);
+        before = nothing_spelled 0 true;
         offset = 0;
         place_is = refl;
-        none = no_type inner bytes;
+        none = none_spelled 0 inner bytes (no_type inner bytes);
         some_left = λ _. some_at_end end bytes b e;
         within_payload = λ least most. omega arith;
         wrong = met (λ c. IsWrong c.reason 0 bytes 0) (end_tests end bytes) (Ok []) b (λ t. ltb-true 0 (length bytes) t, λ f. tt) (λ _ f. no_fault [] b f) e;
@@ -83,8 +84,8 @@ first_payload n end number inner bytes b fits l e =
         front = [];
         left = bytes;
         parts = refl;
-        before = (refl, refl);
-        none = none_begins end (suc number) inner bytes b e;
+        before = nothing_spelled (suc number) true;
+        none = none_spelled (suc number) inner bytes (none_begins end (suc number) inner bytes b e);
         some_left = λ none. absurd (omega arith);
         offset = f.wrong.offset;
         place_is = omega arith;
@@ -112,12 +113,8 @@ behind_payload_fault n end number inner bytes b item f l leads s c =
         front = whole ++ i.front;
         left = i.left;
         parts = s.bytes_are ∙ ap (λ (r : List ℕ). whole ++ r) i.parts ∙ sym (append_assoc whole i.front i.left);
-        before = (
-          record { next = f.next; flags = f.flags; body = f.body; rest = i.front },
-          record { first_is = s.first_is; bytes_are = refl; length_fits = s.length_fits; flags_fit = s.flags_fit; body_is = s.body_is },
-          leads,
-          i.before,
-        );
+        before = cons_spelled i.number item i.items (suc number) f.next true (whole ++ i.front) (record { next = f.next; flags = f.flags; body = f.body; rest = i.front })
+            (record { first_is = s.first_is; bytes_are = refl; length_fits = s.length_fits; flags_fit = s.flags_fit; body_is = s.body_is }) (lead_next item i.number f.next i.items leads i.before.1.first_is) (lead_stands item i.items leads) i.before;
         none = i.none;
         some_left = i.some_left;
         offset = i.offset;

@@ -4,7 +4,8 @@ use Rattle.std.specs.Prelude.{slice_index, ◌==◌}
 use Rattle.std.proofs.lemmas.Bool.{ltb-false}
 use Rattle.std.proofs.lemmas.List.{take-append-drop, take_at, drop_at, length-take}
 use Rattle.ike_values.specs.Values.{TransformValue, ProposalValue}
-use Rattle.ike_values.specs.Spelling.{is_last, ProposalParts, SpellsProposal, SpellsProposals}
+use Rattle.ike_values.specs.Spelling.{is_last}
+use Rattle.ike_grammar.proofs.Steps.{ProposalParts, SpellsProposal, SpellsProposals}
 use Rattle.ike_values.specs.declared.fault.Bad.{Bad}
 use Rattle.ike_grammar.specs.OctetRange.{IsOctets}
 use Rattle.ike_grammar.specs.Faults.{◌>>=◌, Passes, two_at, many}

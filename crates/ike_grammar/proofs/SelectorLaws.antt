@@ -5,7 +5,9 @@ use Rattle.std.specs.List.{AllByRecursion}
 use Rattle.std.proofs.lemmas.Bool.{ltb-false, le-ltb, eqb-true, not-false, not_from_true}
 use Rattle.std.proofs.lemmas.List.{take-append-drop, take_at, drop_at, length-take, length-drop, nil_from_length, append-nil}
 use Rattle.ike_values.specs.Values.{SelectorValue}
-use Rattle.ike_values.specs.Spelling.{address_len, selector_spelling, FitsSelector, selectors_spelling, SpellsTraffic}
+use Rattle.ike_values.specs.Spelling.{address_len, selector_spelling, selectors_spelling}
+use Rattle.ike_values.specs.Validity.{FitsSelector}
+use Rattle.ike_grammar.proofs.Steps.{SpellsTraffic}
 use Rattle.ike_values.specs.declared.fault.Bad.{Bad}
 use Rattle.ike_grammar.specs.OctetRange.{IsOctets}
 use Rattle.ike_grammar.specs.Faults.{◌>>=◌, two_at, so_many}

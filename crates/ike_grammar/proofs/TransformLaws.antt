@@ -3,7 +3,8 @@ use Rattle.std.proofs.Common.{◌≡◌, ℕ, zero, suc, ◌+◌, ◌-◌, ◌/�
 use Rattle.std.specs.Prelude.{slice_index, ◌==◌}
 use Rattle.std.proofs.lemmas.List.{nil_from_length}
 use Rattle.ike_values.specs.Values.{AttributeValue, TransformValue}
-use Rattle.ike_values.specs.Spelling.{two, is_last, last_mark, attributes_spelling, TransformParts, SpellsTransform, SpellsTransforms}
+use Rattle.ike_values.specs.Spelling.{two, is_last, last_mark, attributes_spelling}
+use Rattle.ike_grammar.proofs.Steps.{TransformParts, SpellsTransform, SpellsTransforms}
 use Rattle.ike_values.specs.declared.fault.Bad.{Bad}
 use Rattle.ike_grammar.specs.OctetRange.{IsOctets}
 use Rattle.ike_grammar.specs.Faults.{◌>>=◌, two_at, many}

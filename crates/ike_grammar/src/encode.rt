@@ -1,6 +1,6 @@
 ghost use Rattle.std.specs.Prelude.{◌≡◌, ◌+◌, ◌<◌, ◌^◌, length, IfOk, Ok};
-ghost use Rattle.ike_values.specs.Spelling.{HasSpelling};
 ghost use Rattle.ike_values.specs.Writing.{chain_written};
+ghost use Rattle.ike_values.specs.Chains.{HasSpelling};
 ghost use Rattle.ike_values.specs.Headers.{IsMessage};
 ghost use Rattle.ike_encoding.specs.Messages.{message_written};
 ghost use Rattle.ike_grammar.specs.Messages.{message_at};

@@ -2,7 +2,7 @@
 
 ghost use Rattle.std.specs.Prelude.{◌≡◌, ℕ, ◌+◌, ◌⊎◌, Bool, List};
 ghost use Rattle.ike_values.specs.Values.{PayloadValue};
-ghost use Rattle.ike_values.specs.Spelling.{Spells};
+ghost use Rattle.ike_values.specs.Chains.{Spells};
 ghost use Rattle.ike_values.specs.Headers.{IsMessage};
 ghost use Rattle.ike_values.specs.declared.header.Message.{Message};
 ghost use Rattle.ike_values.specs.declared.fault.Reason.{Reason};

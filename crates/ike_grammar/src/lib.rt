@@ -20,6 +20,3 @@ pub use fault::Unread;
 pub use ike_encoding::{encode_body, encode_chain, fits_message};
 pub use ike_values::{Bad, Reason};
 pub use laws::{first_fault, first_fault_of_message, one_message, one_reading};
-
-#[cfg(test)]
-mod tests;

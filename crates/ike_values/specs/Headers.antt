@@ -4,11 +4,24 @@ use Rattle.std.specs.Prelude.{◌≡◌, ℕ, ◌+◌, ◌/◌, ◌<◌, ◌^◌
 use Rattle.std.specs.Int.{w32, w64, to_be_bytes}
 use Rattle.ike_values.specs.declared.header.Header.{Header}
 use Rattle.ike_values.specs.declared.header.Message.{Message}
-use Rattle.ike_values.specs.Spelling.{Spells}
+use Rattle.ike_values.specs.Chains.{Spells}
 
 -- whether a flag is set: 8 is Initiator, 32 is Response
 abbrev pub has_flag : ℕ → ℕ → Bool
 has_flag flags flag = not (bit_and flags flag == 0)
+
+-- the ranges of a header's fields
+pub record FitsHeader (h : Header) : Type 0 where
+  pub spii : h.spii < 2 ^ 64
+  pub spir : h.spir < 2 ^ 64
+  pub id : h.id < 2 ^ 32
+
+-- two SPIs, next payload, version, exchange, flags, Message ID, and the length of the whole message
+abbrev pub header_spelling : Header → ℕ → ℕ → ℕ → ℕ → List ℕ
+header_spelling h first version flags len =
+    to_be_bytes w64 h.spii ++ to_be_bytes w64 h.spir
+    ++ (first ∷ version ∷ h.exchange ∷ flags ∷ [])
+    ++ to_be_bytes w32 h.id ++ to_be_bytes w32 len
 
 -- the type of the first payload, what is free in a header, and what stands behind it
 pub record HeaderParts : Type 0 where
@@ -17,14 +30,9 @@ pub record HeaderParts : Type 0 where
   pub flags : ℕ
   pub rest : List ℕ
 
--- two SPIs, next payload, version, exchange, flags, Message ID, and the length of the whole message
 pub record SpellsHeader (h : Header) (bytes : List ℕ) (p : HeaderParts) : Type 0 where
-  pub bytes_are : bytes ≡ to_be_bytes w64 h.spii ++ to_be_bytes w64 h.spir
-      ++ (p.first ∷ p.version ∷ h.exchange ∷ p.flags ∷ []) ++ to_be_bytes w32 h.id
-      ++ to_be_bytes w32 (28 + length p.rest) ++ p.rest
-  pub spii_fits : h.spii < 2 ^ 64
-  pub spir_fits : h.spir < 2 ^ 64
-  pub id_fits : h.id < 2 ^ 32
+  pub bytes_are : bytes ≡ header_spelling h p.first p.version p.flags (28 + length p.rest) ++ p.rest
+  pub fits : FitsHeader h
   pub length_fits : 28 + length p.rest < 2 ^ 32
   pub version_is : p.version / 16 ≡ 2
   pub initiator_is : h.initiator ≡ has_flag p.flags 8

@@ -6,5 +6,7 @@ pub mod SelectorView
 pub mod PayloadView
 pub mod Spelling
 pub mod Writing
+pub mod Validity
+pub mod Chains
 pub mod Notifications
 pub mod Headers

@@ -8,8 +8,8 @@ ghost use Rattle.ike_values.specs.ProposalView.{proposal_value};
 ghost use Rattle.ike_values.specs.SelectorView.{selector_value};
 ghost use Rattle.ike_values.specs.PayloadView.{payload_value};
 ghost use Rattle.ike_values.specs.Spelling.{attribute_spelling, attributes_spelling, selectors_spelling};
-ghost use Rattle.ike_values.specs.declared.lengths.TheConstants.{LENGTH_END};
 ghost use Rattle.ike_values.specs.Writing.{transforms_written, proposals_written, body_written};
+ghost use Rattle.ike_values.specs.declared.lengths.TheConstants.{LENGTH_END};
 
 use crate::attribute::Attribute;
 use crate::payload::{Payload, SkBody};

@@ -24,6 +24,3 @@ pub use payload::{AuthBody, DeleteBody, IdBody, NotifyBody, OtherBody, Payload, 
 pub use proposal::{Proposal, Proposals};
 pub use selector::{IPV4_RANGE, IPV6_RANGE, Selector, Selectors};
 pub use transform::{Transform, Transforms};
-
-#[cfg(test)]
-mod tests;

@@ -118,7 +118,7 @@ impl Payloads {
     ghost use Rattle.std.specs.Prelude.{◌↔◌, IsTrue, MatchOption, None, Some};
     ghost use Rattle.ike_values.specs.Notifications.{first_notify};
     ghost use Rattle.ike_values.specs.PayloadView.{payload_value};
-    ghost use Rattle.ike_values.specs.Spelling.{HasSpelling};
+    ghost use Rattle.ike_values.specs.Chains.{HasSpelling};
 
     /// No payloads.
     pub fn new(alloc: Global) -> Payloads

@@ -5,8 +5,9 @@ ghost use Rattle.ike_values.specs.TransformView.{transform_value};
 ghost use Rattle.ike_values.specs.ProposalView.{proposal_value};
 ghost use Rattle.ike_values.specs.SelectorView.{selector_value};
 ghost use Rattle.ike_values.specs.PayloadView.{payload_value, sk_value};
-ghost use Rattle.ike_values.specs.Spelling.{attribute_spelling, attributes_spelling, FitsAttribute, FitsSelector, selectors_spelling, is_unknown};
-ghost use Rattle.ike_values.specs.Writing.{transforms_written, proposals_written, FitsTransform, FitsProposal, FitsSelectors, FitsSk, FitsPayload, FitsBody, body_written, MayStand, AreValid};
+ghost use Rattle.ike_values.specs.Spelling.{attribute_spelling, attributes_spelling, selectors_spelling};
+ghost use Rattle.ike_values.specs.Writing.{transforms_written, proposals_written, body_written};
+ghost use Rattle.ike_values.specs.Validity.{FitsAttribute, FitsSelector, is_unknown, FitsTransform, FitsProposal, FitsSelectors, FitsSk, FitsPayload, FitsBody, MayStand, AreValid};
 
 use crate::attribute::Attribute;
 use crate::lengths::{LENGTH_END, attributes_len, body_len, capped, sk_len, transforms_len};

@@ -12,8 +12,8 @@ use Rattle.ike_grammar.specs.Messages.{message_at}
 use Rattle.ike_values.specs.declared.fault.Bad.{Bad}
 use Rattle.ike_values.specs.declared.fault.Reason.{Reason}
 use Rattle.ike_values.specs.Spelling.{type_of}
-use Rattle.ike_values.specs.Values.{NotifyValue, PayloadValue, SkValue, notify, sk}
 use Rattle.ike_values.specs.Writing.{body_written}
+use Rattle.ike_values.specs.Values.{NotifyValue, PayloadValue, SkValue, notify, sk}
 use Rattle.ike_values.specs.declared.header.Header.{Header}
 use Rattle.ike_values.specs.declared.header.Message.{Message}
 

@@ -6,7 +6,7 @@ ghost use Rattle.line_fields.specs.Writing.{line_text};
 ghost use Rattle.line_fields.specs.Writing.{with_words};
 ghost use Rattle.ike_values.specs.Headers.{IsMessage};
 ghost use Rattle.ike_values.specs.PayloadView.{payload_value};
-ghost use Rattle.ike_values.specs.Writing.{AreValid};
+ghost use Rattle.ike_values.specs.Validity.{AreValid};
 ghost use Rattle.ike_values.specs.declared.header.Message.{Message};
 ghost use Rattle.ike_values.specs.declared.fault.Reason.{Reason};
 ghost use Rattle.ike_grammar.specs.Messages.{MessageRefused};

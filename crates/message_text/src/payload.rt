@@ -7,7 +7,8 @@ ghost use Rattle.line_fields.specs.Writing.{line_text};
 ghost use Rattle.line_fields.specs.Writing.{with_words};
 ghost use Rattle.ike_values.specs.PayloadView.{notify_value, payload_value, sk_value};
 ghost use Rattle.ike_values.specs.Values.{sk};
-ghost use Rattle.ike_values.specs.Writing.{body_written, FitsBody};
+ghost use Rattle.ike_values.specs.Writing.{body_written};
+ghost use Rattle.ike_values.specs.Validity.{FitsBody};
 ghost use Rattle.message_text.specs.Shown.{body_words, notify_words, payload_text, sk_words};
 
 use ha_base::{Memory, Octets};

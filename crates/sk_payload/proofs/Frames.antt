@@ -2,34 +2,26 @@
 use Rattle.std.proofs.Common.{◌≡◌, ℕ, ◌+◌, ◌-◌, ◌<◌, ◌≤◌, true, List, [], ◌∷◌, ◌++◌, length, take, drop, set, replicate, get_or, refl, sym, ap, subst, ◌∙◌, append_assoc, append-nil, length-append, length-set, length-drop, take_at, take_all, true≢false, arith}
 use Rattle.std.proofs.lemmas.List.{set-append_right}
 use Rattle.ike_values.specs.Values.{PayloadValue, sk}
-use Rattle.ike_values.specs.Spelling.{two, type_of}
-use Rattle.ike_values.specs.Writing.{body_written, first_type_of, chain_written, AreValid}
+use Rattle.ike_values.specs.Spelling.{two, type_of, leading_type, next_field, payload_spelling, chain_spelling}
+use Rattle.ike_values.specs.Writing.{body_written, first_type_of, chain_written}
+use Rattle.ike_values.specs.Validity.{AreValid}
 use Rattle.ike_values.proofs.SpellingLaws.{chain_spelled}
 use Rattle.ike_grammar.specs.Chain.{chain_at}
 use Rattle.ike_grammar.proofs.ChainLaws.{chain_again}
-use Rattle.sk_payload.specs.HeldFrame.{read_or_none, payloads_in, first_or, chain_before, octets_before, IsFrame}
+use Rattle.sk_payload.specs.HeldFrame.{read_or_none, payloads_in, octets_before, IsFrame}
 use Rattle.ike_values.specs.Notifications.{notify_of}
 use Rattle.sk_payload.specs.Message.{plain_of}
 use Rattle.sk_payload.specs.declared.frame.Frame.TheInside.{Inside}
 
 -- ---- what a message in the making holds
 
-first_is : (xs : List PayloadValue) → first_or 0 xs ≡ first_type_of xs
-first_is [] = refl
-first_is (x ∷ xs) = refl
-
-pub chain_is : (xs : List PayloadValue) → AreValid true xs → chain_before 0 xs ≡ chain_written xs
-chain_is [] valid = refl
-chain_is (sk x ∷ xs) valid = absurd (true≢false valid.1.0)
-chain_is (item ∷ xs) valid = λ i. first_is xs i ∷ 0 ∷ two (4 + length (body_written item)) ++ body_written item ++ chain_is xs valid.2 i
-
 pub held_is : (xs : List PayloadValue) → AreValid true xs → payloads_in (octets_before 0 xs) ≡ xs
 unfolding payloads_in
 held_is xs valid =
-    let long : length (octets_before 0 xs) - 41 ≡ length (chain_before 0 xs) = omega (arith, length-append (chain_before 0 xs) (0 ∷ [])) in
-    let chain : take (length (octets_before 0 xs) - 41) (chain_before 0 xs ++ 0 ∷ []) ≡ chain_written xs =
-    take_at (chain_before 0 xs) (0 ∷ []) (length (octets_before 0 xs) - 41) (sym long) ∙ chain_is xs valid in
-    (λ i. read_or_none (chain_at (length (octets_before 0 xs) - 41) true (first_is xs i) (chain i)))
+    let long : length (octets_before 0 xs) - 41 ≡ length (chain_written xs) = omega (arith, length-append (chain_written xs) (0 ∷ [])) in
+    let chain : take (length (octets_before 0 xs) - 41) (chain_written xs ++ 0 ∷ []) ≡ chain_written xs =
+    take_at (chain_written xs) (0 ∷ []) (length (octets_before 0 xs) - 41) (sym long) in
+    (λ i. read_or_none (chain_at (length (octets_before 0 xs) - 41) true (first_type_of xs) (chain i)))
     ∙ ap read_or_none (chain_again (length (octets_before 0 xs) - 41) true xs (first_type_of xs) (chain_written xs) (chain_spelled true xs valid))
 
 -- ---- one payload more
@@ -39,23 +31,31 @@ valid_more [] y valid one = one
 valid_more (sk x ∷ xs) y valid one = absurd (true≢false valid.1.0)
 valid_more (item ∷ xs) y valid one = (valid.0, tt, valid_more xs y valid.2 one)
 
-first_more : (next : ℕ) (xs : List PayloadValue) (y : PayloadValue) → first_or next (xs ++ y ∷ []) ≡ first_or (type_of y) xs
+first_more : (next : ℕ) (xs : List PayloadValue) (y : PayloadValue) → leading_type next (xs ++ y ∷ []) ≡ leading_type (type_of y) xs
 first_more next [] y = refl
 first_more next (x ∷ xs) y = refl
 
+next_more : (next : ℕ) (x : PayloadValue) (xs : List PayloadValue) (y : PayloadValue) → next_field next x (xs ++ y ∷ []) ≡ next_field (type_of y) x xs
+next_more next (sk x) xs y = refl
+next_more next item xs y = first_more next xs y
+
 -- a payload that has this next payload
 abbrev one : ℕ → PayloadValue → List ℕ
-one next y = next ∷ 0 ∷ two (4 + length (body_written y)) ++ body_written y
+one next y = payload_spelling next 0 (body_written y)
 
-chain_more : (next : ℕ) (xs : List PayloadValue) (y : PayloadValue) → chain_before next (xs ++ y ∷ []) ≡ chain_before (type_of y) xs ++ one next y
-chain_more next [] y = append-nil (one next y)
-chain_more next (x ∷ xs) y =
-    (λ i. first_more next xs y i ∷ 0 ∷ two (4 + length (body_written x)) ++ body_written x ++ chain_more next xs y i)
-    ∙ sym (append_assoc (first_or (type_of y) xs ∷ 0 ∷ two (4 + length (body_written x)) ++ body_written x) (chain_before (type_of y) xs) (one next y))
+one_is : (next : ℕ) (y : PayloadValue) → AreValid true (y ∷ []) → next_field next y [] ≡ next
+one_is next (sk x) fits = absurd (true≢false fits.1.0)
+one_is next item fits = refl
+
+chain_more : (next : ℕ) (xs : List PayloadValue) (y : PayloadValue) → AreValid true (y ∷ []) → chain_spelling next [] (xs ++ y ∷ []) ≡ chain_spelling (type_of y) [] xs ++ one next y
+chain_more next [] y fits = append-nil (one (next_field next y []) y) ∙ ap (λ n. one n y) (one_is next y fits)
+chain_more next (x ∷ xs) y fits =
+    (λ i. payload_spelling (next_more next x xs y i) 0 (body_written x) ++ chain_more next xs y fits i)
+    ∙ sym (append_assoc (payload_spelling (next_field (type_of y) x xs) 0 (body_written x)) (chain_spelling (type_of y) [] xs) (one next y))
 
 -- what stands before the last octet once the payload is named, and what comes behind it
 abbrev pub named : List PayloadValue → PayloadValue → List ℕ
-named xs y = replicate 28 0 ++ (first_or (type_of y) xs ∷ replicate 11 0 ++ chain_before (type_of y) xs)
+named xs y = replicate 28 0 ++ (leading_type (type_of y) xs ∷ replicate 11 0 ++ chain_spelling (type_of y) [] xs)
 
 abbrev pub behind : PayloadValue → List ℕ
 behind y = 0 ∷ two (4 + length (body_written y)) ++ body_written y ++ 0 ∷ []
@@ -63,10 +63,10 @@ behind y = 0 ∷ two (4 + length (body_written y)) ++ body_written y ++ 0 ∷ []
 octets_named : (xs : List PayloadValue) (y : PayloadValue) → octets_before (type_of y) xs ≡ named xs y ++ 0 ∷ []
 octets_named xs y = refl
 
-octets_more : (next : ℕ) (xs : List PayloadValue) (y : PayloadValue) → octets_before next (xs ++ y ∷ []) ≡ named xs y ++ next ∷ behind y
-octets_more next xs y =
-    (λ i. replicate 28 0 ++ (first_more next xs y i ∷ replicate 11 0 ++ (chain_more next xs y i ++ 0 ∷ [])))
-    ∙ ap (λ ys. replicate 28 0 ++ (first_or (type_of y) xs ∷ replicate 11 0 ++ ys)) (append_assoc (chain_before (type_of y) xs) (one next y) (0 ∷ []))
+octets_more : (next : ℕ) (xs : List PayloadValue) (y : PayloadValue) → AreValid true (y ∷ []) → octets_before next (xs ++ y ∷ []) ≡ named xs y ++ next ∷ behind y
+octets_more next xs y fits =
+    (λ i. replicate 28 0 ++ (first_more next xs y i ∷ replicate 11 0 ++ (chain_more next xs y fits i ++ 0 ∷ [])))
+    ∙ ap (λ ys. replicate 28 0 ++ (leading_type (type_of y) xs ∷ replicate 11 0 ++ ys)) (append_assoc (chain_spelling (type_of y) [] xs) (one next y) (0 ∷ []))
 
 module _ (items : List ℕ) (link : ℕ) (xs : List PayloadValue) (y : PayloadValue) (after : List ℕ) (link' : ℕ)
     (links : (next : ℕ) → set items link next ≡ octets_before next xs) (valid : AreValid true xs) (fits : AreValid true (y ∷ []))
@@ -81,7 +81,7 @@ module _ (items : List ℕ) (link : ℕ) (xs : List PayloadValue) (y : PayloadVa
       omega (arith, lengths, link_is)
 
   pub octets_after : after ≡ octets_before 0 (xs ++ y ∷ [])
-  octets_after = whole ∙ sym (octets_more 0 xs y)
+  octets_after = whole ∙ sym (octets_more 0 xs y fits)
 
   pub valid_after : AreValid true (xs ++ y ∷ [])
   valid_after = valid_more xs y valid fits
@@ -95,7 +95,7 @@ module _ (items : List ℕ) (link : ℕ) (xs : List PayloadValue) (y : PayloadVa
       ap (λ ys. set ys link' next) whole
       ∙ set-append_right (named xs y) (0 ∷ behind y) link' link' next front (omega arith)
       ∙ ap (λ k. named xs y ++ set (0 ∷ behind y) k next) none
-      ∙ sym (octets_more next xs y)
+      ∙ sym (octets_more next xs y fits)
 
 -- ---- frames
 
@@ -157,7 +157,7 @@ pub plain_is : (shown items : List ℕ) (payloads : List PayloadValue) → shown
     take (length shown - 40) (drop 40 shown) ≡ plain_of payloads
 plain_is shown items payloads same is valid =
     let whole : shown ≡ octets_before 0 payloads = same ∙ is in
-    let text : drop 40 shown ≡ plain_of payloads = ap (drop 40) whole ∙ ap (λ ys. ys ++ 0 ∷ []) (chain_is payloads valid) in
+    let text : drop 40 shown ≡ plain_of payloads = ap (drop 40) whole in
     ap (take (length shown - 40)) text
     ∙ take_all (length shown - 40) (plain_of payloads) (omega (arith, sym (ap length text), length-drop 40 shown))
 
@@ -168,12 +168,11 @@ notify_valid kind content small = (record { body = omega arith; length_fits = om
 -- ---- what is sealed
 
 pub text_is : (items : List ℕ) (payloads : List PayloadValue) → items ≡ octets_before 0 payloads → AreValid true payloads → drop 40 items ≡ plain_of payloads
-text_is items payloads is valid = ap (drop 40) is ∙ ap (λ ys. ys ++ 0 ∷ []) (chain_is payloads valid)
+text_is items payloads is valid = ap (drop 40) is
 
 pub front_is : (items : List ℕ) (payloads : List PayloadValue) (other : ℕ) → items ≡ octets_before 0 payloads → get_or items 28 other ≡ first_type_of payloads
-front_is items payloads other is = ap (λ ys. get_or ys 28 other) is ∙ first_is payloads
+front_is items payloads other is = ap (λ ys. get_or ys 28 other) is
 
 pub octets_long : (items : List ℕ) (payloads : List PayloadValue) → items ≡ octets_before 0 payloads → AreValid true payloads → length items ≡ 40 + length (plain_of payloads)
 octets_long items payloads is valid =
-    let text : length (chain_before 0 payloads ++ 0 ∷ []) ≡ length (plain_of payloads) = ap (λ ys. length (ys ++ 0 ∷ [])) (chain_is payloads valid) in
-    omega (arith, ap length is, text)
+    omega (arith, ap length is)

@@ -4,9 +4,9 @@ use Rattle.std.proofs.lemmas.List.{get_or-append_right}
 use Rattle.ike_values.specs.declared.header.Header.{Header}
 use Rattle.ike_values.specs.declared.header.Message.{Message}
 use Rattle.ike_values.specs.Values.{SkValue, PayloadValue, sk}
-use Rattle.ike_values.specs.Spelling.{Spells}
-use Rattle.ike_values.specs.Headers.{IsMessage}
 use Rattle.ike_values.specs.Writing.{first_type_of, chain_written}
+use Rattle.ike_values.specs.Chains.{Spells}
+use Rattle.ike_values.specs.Headers.{IsMessage}
 use Rattle.ike_values.specs.declared.fault.Bad.{Bad as Fault}
 use Rattle.ike_values.specs.declared.fault.Reason.{Reason}
 use Rattle.ike_grammar.specs.Chain.{Refused}
@@ -25,15 +25,11 @@ use Rattle.sk_payload.specs.Answers.{IsAnswer, IsOpening, IsText, IsTextOpened, 
 pub sk_fits : (header : Header) (body : SkValue) (octets : List ℕ) → IsMessage (only_sk header body) octets →
     (32 ≤ length octets) × (length body.ciphertext ≤ 65536) × (0 < length body.ciphertext)
 sk_fits header body octets s =
-    let p = s.0 in
-    let f = s.2.0 in
-    let front = s.2.1 in
-    let whole = ap length s.1.bytes_are in
-    let chain = ap length front.bytes_are in
-    let inside = ap length front.body_is.bytes_are in (
-      omega (arith, whole, chain),
-      omega (arith, inside, front.length_fits, length-append body.ciphertext body.icv),
-      front.body_is.some,
+    let chain = s.2.1 in
+    let fits = chain.valid.0 in (
+      omega (arith, ap length s.1.bytes_are, ap length chain.bytes_are),
+      omega (arith, fits.length_fits, length-append body.ciphertext body.icv),
+      fits.body.some,
     )
 
 -- the body of the first payload, if it is SK

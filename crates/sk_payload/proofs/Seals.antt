@@ -6,10 +6,11 @@ use Rattle.aes_gcm.specs.Sealing.{IsSealing}
 use Rattle.ike_values.specs.declared.header.Header.{Header}
 use Rattle.ike_values.specs.Values.{SkValue, PayloadValue, sk}
 use Rattle.ike_values.specs.Spelling.{two}
-use Rattle.ike_values.specs.Headers.{IsMessage}
-use Rattle.ike_values.specs.Writing.{body_written, first_type_of, chain_written, AreValid}
+use Rattle.ike_values.specs.Writing.{body_written, first_type_of, chain_written}
+use Rattle.ike_values.specs.Validity.{AreValid}
+use Rattle.ike_values.specs.Headers.{FitsHeader, IsMessage}
 use Rattle.ike_values.proofs.SpellingLaws.{chain_spelled}
-use Rattle.ike_encoding.specs.Messages.{FitsHeader, header_written, message_written}
+use Rattle.ike_encoding.specs.Messages.{header_written, message_written}
 use Rattle.ike_encoding.proofs.WrittenLaws.{message_spelled}
 use Rattle.sk_payload.specs.Front.{sk_front}
 use Rattle.sk_payload.specs.Message.{only_sk, plain_of, IsDatagram}

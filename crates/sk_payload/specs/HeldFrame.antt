@@ -2,8 +2,8 @@
 use Rattle.std.specs.Prelude.{◌≡◌, ℕ, ◌+◌, ◌-◌, ◌<◌, ◌≤◌, true, List, [], ◌∷◌, ◌++◌, length, take, drop, replicate, slice_index, slice_set, Result, Ok, Err}
 use Rattle.ha_base.specs.declared.limits.TheConstants.{DATAGRAM_OCTETS}
 use Rattle.ike_values.specs.Values.{PayloadValue}
-use Rattle.ike_values.specs.Spelling.{two, type_of}
-use Rattle.ike_values.specs.Writing.{body_written, AreValid}
+use Rattle.ike_values.specs.Spelling.{leading_type, chain_spelling}
+use Rattle.ike_values.specs.Validity.{AreValid}
 use Rattle.ike_values.specs.declared.fault.Bad.{Bad}
 use Rattle.ike_grammar.specs.Chain.{chain_at}
 use Rattle.sk_payload.specs.Framed.{Framed}
@@ -22,24 +22,12 @@ payloads_in octets =
     (chain_at (length octets - 41) true (slice_index octets 28)
     (take (length octets - 41) (drop 40 octets)))
 
--- the type of the first payload, or this one where there is none
-abbrev pub first_or : ℕ → List PayloadValue → ℕ
-first_or next [] = next
-first_or next (x ∷ xs) = type_of x
-
--- the spelling of inner payloads, the last of which has this next payload
-abbrev pub chain_before : ℕ → List PayloadValue → List ℕ
-chain_before next [] = []
-chain_before next (x ∷ xs) =
-    first_or next xs ∷ 0 ∷ two (4 + length (body_written x))
-    ++ body_written x ++ chain_before next xs
-
--- a message in the making: before the plaintext there is nothing yet but the type of the first
--- payload
+-- A message in the making, whose last payload has this next payload: before the plaintext there is
+-- nothing yet but the type of the first payload.
 abbrev pub octets_before : ℕ → List PayloadValue → List ℕ
 octets_before next payloads =
     replicate 28 0
-    ++ (first_or next payloads ∷ replicate 11 0 ++ (chain_before next payloads ++ 0 ∷ []))
+    ++ (leading_type next payloads ∷ replicate 11 0 ++ (chain_spelling next [] payloads ++ 0 ∷ []))
 
 abbrev pub frame_of : Inside → Framed
 frame_of f = record {

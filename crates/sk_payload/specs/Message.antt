@@ -4,9 +4,9 @@ use Rattle.aes_gcm.specs.Gcm.{sealed}
 use Rattle.ike_values.specs.declared.header.Header.{Header}
 use Rattle.ike_values.specs.declared.header.Message.{Message}
 use Rattle.ike_values.specs.Values.{SkValue, PayloadValue, sk}
-use Rattle.ike_values.specs.Spelling.{Spells}
-use Rattle.ike_values.specs.Headers.{IsMessage}
 use Rattle.ike_values.specs.Writing.{first_type_of, chain_written}
+use Rattle.ike_values.specs.Chains.{Spells}
+use Rattle.ike_values.specs.Headers.{IsMessage}
 use Rattle.ike_encoding.specs.Messages.{message_written}
 use Rattle.ike_values.specs.declared.fault.Bad.{Bad}
 use Rattle.ike_values.specs.declared.fault.Reason.TheVariants.{Length}

@@ -1,6 +1,7 @@
 ghost use Rattle.std.specs.Prelude.{◌≡◌, ◌+◌, ◌≤◌, ◌∷◌, [], ◌++◌, length, vec_len, vec_capacity, true, IfOk};
 ghost use Rattle.ike_values.specs.PayloadView.{payload_value};
-ghost use Rattle.ike_values.specs.Writing.{AreValid, body_written};
+ghost use Rattle.ike_values.specs.Writing.{body_written};
+ghost use Rattle.ike_values.specs.Validity.{AreValid};
 ghost use Rattle.ike_values.specs.Notifications.{notify_of};
 ghost use Rattle.sk_payload.specs.Message.{plain_of};
 

@@ -1,5 +1,6 @@
 ghost use Rattle.std.specs.Prelude.{◌≡◌, ◌-◌, ◌<◌, ◌≤◌, ◌++◌};
-ghost use Rattle.ike_encoding.specs.Messages.{FitsHeader, header_written};
+ghost use Rattle.ike_values.specs.Headers.{FitsHeader};
+ghost use Rattle.ike_encoding.specs.Messages.{header_written};
 ghost use Rattle.sk_payload.specs.Front.{sk_front};
 
 use ike_encoding::header_octets;

@@ -19,6 +19,3 @@ pub use laws::sealed_messages_open;
 pub use not_read::{NotRead, OpenFault};
 pub use open::{Opened, open_decoded, open_message};
 pub use seal::seal_message;
-
-#[cfg(test)]
-mod tests;

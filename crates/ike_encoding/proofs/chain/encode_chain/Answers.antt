@@ -1,6 +1,7 @@
 use Rattle.std.proofs.Common.{◌≡◌, false, true, sym, subst}
 use Rattle.std.specs.Prelude.{IfOk}
-use Rattle.ike_values.specs.Writing.{first_type_of, AreValid}
+use Rattle.ike_values.specs.Writing.{first_type_of}
+use Rattle.ike_values.specs.Validity.{AreValid}
 use Rattle.ike_values.proofs.SpellingLaws.{spelled_is_valid}
 use Rattle.ike_encoding.proofs.WrittenLaws.{chain_spells}
 use Rattle.ike_encoding.proofs.chain.encode_chain.Goals as goal

@@ -1,6 +1,7 @@
 use Rattle.std.proofs.Common.{◌≡◌, ◌+◌, ◌≤◌, false, min, length, map}
 use Rattle.ike_values.specs.PayloadView.{payload_value}
-use Rattle.ike_values.specs.Writing.{chain_written, AreValid}
+use Rattle.ike_values.specs.Writing.{chain_written}
+use Rattle.ike_values.specs.Validity.{AreValid}
 use Rattle.ike_encoding.proofs.length.chain_len.Given as goal
 
 abbrev pub invariant-loop-rest : goal.invariant-loop-rest

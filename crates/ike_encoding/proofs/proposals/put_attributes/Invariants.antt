@@ -1,7 +1,8 @@
 use Rattle.std.proofs.Common.{◌≡◌, ◌+◌, ◌≤◌, ◌++◌, length, map}
 use Rattle.std.specs.List.{AllByRecursion}
 use Rattle.ike_values.specs.AttributeView.{attribute_value}
-use Rattle.ike_values.specs.Spelling.{FitsAttribute, attributes_spelling}
+use Rattle.ike_values.specs.Spelling.{attributes_spelling}
+use Rattle.ike_values.specs.Validity.{FitsAttribute}
 use Rattle.ike_encoding.proofs.proposals.put_attributes.Given as goal
 
 abbrev pub invariant-loop-rest : goal.invariant-loop-rest

@@ -1,7 +1,8 @@
 use Rattle.std.proofs.Common.{◌≡◌, ◌+◌, ◌≤◌, ◌++◌, length, map}
 use Rattle.std.specs.List.{AllByRecursion}
 use Rattle.ike_values.specs.ProposalView.{proposal_value}
-use Rattle.ike_values.specs.Writing.{FitsProposal, proposals_written}
+use Rattle.ike_values.specs.Writing.{proposals_written}
+use Rattle.ike_values.specs.Validity.{FitsProposal}
 use Rattle.ike_encoding.proofs.proposals.put_proposals.Given as goal
 
 abbrev pub invariant-loop-rest : goal.invariant-loop-rest

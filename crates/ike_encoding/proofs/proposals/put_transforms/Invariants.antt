@@ -1,7 +1,8 @@
 use Rattle.std.proofs.Common.{◌≡◌, ◌+◌, ◌≤◌, ◌++◌, length, map}
 use Rattle.std.specs.List.{AllByRecursion}
 use Rattle.ike_values.specs.TransformView.{transform_value}
-use Rattle.ike_values.specs.Writing.{FitsTransform, transforms_written}
+use Rattle.ike_values.specs.Writing.{transforms_written}
+use Rattle.ike_values.specs.Validity.{FitsTransform}
 use Rattle.ike_encoding.proofs.proposals.put_transforms.Given as goal
 
 abbrev pub invariant-loop-rest : goal.invariant-loop-rest

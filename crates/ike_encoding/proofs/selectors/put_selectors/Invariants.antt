@@ -1,7 +1,8 @@
 use Rattle.std.proofs.Common.{◌≡◌, ◌+◌, ◌≤◌, ◌++◌, length, map}
 use Rattle.std.specs.List.{AllByRecursion}
 use Rattle.ike_values.specs.SelectorView.{selector_value}
-use Rattle.ike_values.specs.Spelling.{FitsSelector, selectors_spelling}
+use Rattle.ike_values.specs.Spelling.{selectors_spelling}
+use Rattle.ike_values.specs.Validity.{FitsSelector}
 use Rattle.ike_encoding.proofs.selectors.put_selectors.Given as goal
 
 abbrev pub invariant-loop-rest : goal.invariant-loop-rest

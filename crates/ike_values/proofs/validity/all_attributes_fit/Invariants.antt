@@ -2,7 +2,7 @@ use Rattle.std.proofs.Common.{map, length}
 use Rattle.std.specs.Prelude.{◌↔◌}
 use Rattle.std.specs.List.{AllByRecursion}
 use Rattle.ike_values.specs.AttributeView.{attribute_value}
-use Rattle.ike_values.specs.Spelling.{FitsAttribute}
+use Rattle.ike_values.specs.Validity.{FitsAttribute}
 use Rattle.ike_values.proofs.validity.all_attributes_fit.Given as goal
 
 abbrev pub invariant-loop-rest : goal.invariant-loop-rest

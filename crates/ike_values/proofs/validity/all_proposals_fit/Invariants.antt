@@ -2,7 +2,7 @@ use Rattle.std.proofs.Common.{map, length}
 use Rattle.std.specs.Prelude.{◌↔◌}
 use Rattle.std.specs.List.{AllByRecursion}
 use Rattle.ike_values.specs.ProposalView.{proposal_value}
-use Rattle.ike_values.specs.Writing.{FitsProposal}
+use Rattle.ike_values.specs.Validity.{FitsProposal}
 use Rattle.ike_values.proofs.validity.all_proposals_fit.Given as goal
 
 abbrev pub invariant-loop-rest : goal.invariant-loop-rest

@@ -2,7 +2,7 @@ use Rattle.std.proofs.Common.{map, length}
 use Rattle.std.specs.Prelude.{◌↔◌}
 use Rattle.std.specs.List.{AllByRecursion}
 use Rattle.ike_values.specs.TransformView.{transform_value}
-use Rattle.ike_values.specs.Writing.{FitsTransform}
+use Rattle.ike_values.specs.Validity.{FitsTransform}
 use Rattle.ike_values.proofs.validity.all_transforms_fit.Given as goal
 
 abbrev pub invariant-loop-rest : goal.invariant-loop-rest

@@ -1,7 +1,7 @@
 use Rattle.std.proofs.Common.{map, false, length}
 use Rattle.std.specs.Prelude.{◌↔◌}
 use Rattle.ike_values.specs.PayloadView.{payload_value}
-use Rattle.ike_values.specs.Writing.{AreValid}
+use Rattle.ike_values.specs.Validity.{AreValid}
 use Rattle.ike_values.proofs.validity.fits_chain.Given as goal
 
 abbrev pub invariant-loop-rest : goal.invariant-loop-rest

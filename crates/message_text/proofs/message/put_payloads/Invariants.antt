@@ -1,7 +1,7 @@
 use Rattle.std.proofs.Common.{◌≡◌, false, ◌++◌, length, map}
 use Rattle.std.specs.List.{flat_map}
 use Rattle.ike_values.specs.PayloadView.{payload_value}
-use Rattle.ike_values.specs.Writing.{AreValid}
+use Rattle.ike_values.specs.Validity.{AreValid}
 use Rattle.message_text.specs.Shown.{payload_text}
 use Rattle.message_text.proofs.message.put_payloads.Given as goal
 

@@ -1,5 +1,5 @@
 use Rattle.std.proofs.Common.{false, sym, subst}
-use Rattle.ike_values.specs.Writing.{AreValid}
+use Rattle.ike_values.specs.Validity.{AreValid}
 use Rattle.ike_values.proofs.SpellingLaws.{valid_has_spelling, spelled_is_valid}
 use Rattle.ike_values.proofs.payload.Payloads.is_valid.Goals as goal
 

@@ -1,7 +1,8 @@
 use Rattle.std.proofs.Common.{◌≡◌, ◌+◌, ◌-◌, ◌≤◌, ◌∷◌, [], ◌++◌, length, set, ap, ◌∙◌, append_assoc, true, arith}
 use Rattle.ike_values.specs.Notifications.{notify_of}
 use Rattle.ike_values.specs.Spelling.{two}
-use Rattle.ike_values.specs.Writing.{body_written, AreValid}
+use Rattle.ike_values.specs.Writing.{body_written}
+use Rattle.ike_values.specs.Validity.{AreValid}
 use Rattle.sk_payload.proofs.Frames.{behind, frame_after, payloads_after, notify_valid, put_together}
 use Rattle.sk_payload.specs.declared.frame.Frame.TheInside.{Inside}
 use Rattle.sk_payload.proofs.frame.Frame.put_notify.Goals as goal
