@@ -6,7 +6,7 @@ use Rattle.ike_sas.specs.declared.exchanges.TheConstants.{INFORMATIONAL}
 use Rattle.ike_sas.specs.declared.keys.IkeKeys.{IkeKeys}
 use Rattle.ike_values.specs.declared.header.Header.{Header}
 use Rattle.ike_window.specs.Kept.{KeptMessage}
-use Rattle.ike_window.specs.Stored.{with_response}
+use Rattle.ike_window.specs.Stored.{raised_to, with_response}
 use Rattle.ike_window.specs.Windows.{ResponseWindow}
 
 -- the keys; the requests that are outstanding, in ascending order of Message ID; the least Message
@@ -64,4 +64,27 @@ without_asked id held = record held {
 abbrev pub with_answered : ℕ → List ℕ → IkeHeld → IkeHeld
 with_answered id octets held = record held {
   answered = with_response (record { id = id; octets = octets }) held.answered;
+}
+
+-- a member asked to synchronise, with this as the Message ID of its next request (RFC 6311, section
+-- 5.1): those below are given up
+abbrev pub with_sync_begun : ℕ → IkeHeld → IkeHeld
+with_sync_begun m1 held = record held { next = m1 }
+
+-- the peer accepted a synchronisation: none of its requests is outstanding, its next one has the
+-- first of these Message IDs, and requests below the second are given up
+abbrev pub with_sync_accepted : ℕ → ℕ → IkeHeld → IkeHeld
+with_sync_accepted p2 m2 held = record held {
+  asked = [];
+  next = p2;
+  answered = raised_to m2 held.answered;
+}
+
+-- a member is synchronised: its next request has the first of these Message IDs, and requests below
+-- the second are given up
+abbrev pub with_synced : ℕ → ℕ → IkeHeld → IkeHeld
+with_synced next floor held = record held {
+  next = next;
+  answered = raised_to floor held.answered;
+  synced = true;
 }

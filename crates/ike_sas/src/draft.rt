@@ -21,6 +21,7 @@ pub struct SentMessage {
 }
 
 /// A message that was sealed, and its octets once more, to be kept.
+#[derive(Drop)]
 pub(crate) struct Sealed {
     pub(crate) sent: SentMessage,
     pub(crate) kept: Octets,

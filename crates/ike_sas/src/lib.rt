@@ -18,6 +18,7 @@ mod requests;
 mod responses;
 mod sa;
 mod synchronisation;
+mod synchronising;
 
 pub use answers::{ANSWER_OCTETS, LONGEST_REPLY, RequestError, data_of, error_of, execute};
 pub use arrival::Arrival;
@@ -28,6 +29,4 @@ pub use exchanges::{CREATE_CHILD_SA, IKE_AUTH, IKE_SESSION_RESUME, INFORMATIONAL
 pub use keys::IkeKeys;
 pub use receiving::{Associations, receive};
 pub use sa::IkeSa;
-
-#[cfg(test)]
-mod tests;
+pub use synchronising::{AcceptedSync, SYNC_DELTA, SYNC_RESPONSE_OCTETS};

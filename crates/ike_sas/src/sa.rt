@@ -74,4 +74,18 @@ impl IkeSa {
     {
         self.next
     }
+
+    /// The Message ID below which every request is old.
+    pub fn floor(&self) -> u32
+        ensures { result ≡ self.now.answered.floor }
+    {
+        self.answering.floor()
+    }
+
+    /// Whether this end answers requests: a member that took over has to synchronise first.
+    pub fn synced(&self) -> bool
+        ensures { result ≡ self.now.synced }
+    {
+        self.synced
+    }
 }

@@ -6,7 +6,7 @@ use Rattle.std.specs.List.{Contains}
 use Rattle.ike_window.specs.Kept.{AllBelow, KeptMessage, RiseFrom, message_ids_of, has_message_id, with_kept}
 use Rattle.ike_window.specs.Requests.{IsLeastFree, IsNewRequest, IsRepeat}
 use Rattle.ike_window.specs.Slots.{SlidingRing}
-use Rattle.ike_window.specs.Stored.{least_free, with_response}
+use Rattle.ike_window.specs.Stored.{least_free, raised_to, with_response}
 use Rattle.ike_window.specs.Windows.{IsAnswered, IsWindow, Jumps, ResponseWindow, is_repeatable}
 use Rattle.ike_window.proofs.Lows.{among_from, from_among, one_least_free}
 use Rattle.ike_window.proofs.Orders.{NotFalling, all_other, among_inserted, inserted_not_falling}
@@ -130,6 +130,18 @@ module _ (floor low to new_low : ℕ) (old ring : SlidingRing) (is : IsWindow fl
     };
     responses = kept;
   }
+
+  pub jumped_as : seen (max floor to) new_low ring ≡ raised_to to (seen floor low old)
+  jumped_as = λ i. record {
+    floor = max floor to;
+    low = lows i;
+    responses = (kept ∙ ap (λ n. filter (is_repeatable (max floor to) n) old.kept) lows) i;
+  }
+    where
+      lows : new_low ≡ least_free (max low to) old.kept
+      lows =
+          one_least_free (max low to) new_low (least_free (max low to) old.kept) (Contains (message_ids_of old.kept)) least
+          (least_free_is (max low to) 0 old.kept (rising_not_falling 0 old.kept is.rising))
 
 -- the two tests of a response are one
 pub one_test : (floor low : ℕ) (kept : List KeptMessage) →

@@ -4,10 +4,10 @@ use Rattle.std.proofs.lemmas.Bool.{cases_lt, or_right}
 use Rattle.std.proofs.lemmas.Bool.Decides.{nat_tests}
 use Rattle.std.specs.List.{Contains}
 use Rattle.ike_window.specs.Kept.{KeptMessage, by_message_id, message_ids_of, has_message_id, kept_octets, with_kept}
-use Rattle.ike_window.specs.Laws.{AnsweredAreStored, AnsweredHaveAResponse, IsWindowOf, JumpingRaisesTheFloor, NewHaveNoResponse, NothingIsStored, RepeatsAreTheResponses, ResponsesGiveOneWindow, ResponsesHaveAWindow, StoringAddsTheResponse}
+use Rattle.ike_window.specs.Laws.{AnsweredAreStored, AnsweredHaveAResponse, IsWindowOf, JumpingRaisesTheFloor, JumpsAreRaised, NewAreFromTheFloorOn, NewHaveNoResponse, NothingIsStored, RaisingByNoMoreKeepsAll, RaisingGivesOneWindow, RepeatsAreTheResponses, ResponsesGiveOneWindow, ResponsesHaveAWindow, StoringAddsTheResponse}
 use Rattle.ike_window.specs.Requests.{IsLeastFree}
-use Rattle.ike_window.specs.Stored.{least_free, window_of_responses, with_response}
-use Rattle.ike_window.specs.Windows.{IsAnswered, ResponseWindow, is_repeatable}
+use Rattle.ike_window.specs.Stored.{least_free, raised_to, window_of_responses, with_response}
+use Rattle.ike_window.specs.Windows.{IsAnswered, Jumps, ResponseWindow, is_repeatable}
 use Rattle.ike_window.proofs.Lows.{Contains-cases, Contains-more, among_from, free_alike, from_among, one_least_free}
 use Rattle.ike_window.proofs.Orders.{NotFalling, among_ascending, among_filter, ascending_not_falling, filter_again, filter_not_falling, inserted_filter, inserted_not_falling, octets_ascending, octets_filter}
 use Rattle.ike_window.proofs.Stored.{inserted_among, inserted_cases, least_free_is}
@@ -177,3 +177,48 @@ pub new_have_none : NewHaveNoResponse
 new_have_none floor stored id new among =
     new.unanswered ((answered_have floor stored id (let up : floor ≤ (window_of_responses floor stored).low = (made_window floor stored).low.from in
     let more = new.from in omega arith)).1 among)
+
+-- a window of some responses, and how it is raised
+not_falling : (floor : ℕ) (stored : List KeptMessage) (old : ResponseWindow) → IsWindowOf floor stored old → NotFalling 0 old.responses
+not_falling floor stored old is = rw is.responses (filter_not_falling (is_repeatable floor old.low) 0 (by_message_id stored) (ascending_not_falling stored))
+
+raised_jumps : (to : ℕ) (old : ResponseWindow) → old.floor ≤ old.low → NotFalling 0 old.responses → Jumps to old (raised_to to old)
+raised_jumps to old up falls = record {
+  floor = refl;
+  low = record {
+    from = let more = least.from in omega arith;
+    taken = λ m from below. ⊎_elim (λ less. inl (omega arith, less)) (λ more. inr (least.taken m (omega arith) below)) (cases_lt m old.low);
+    free = λ either. ⊎_elim (λ below. let more = least.from in absurd (omega (arith, below.1))) least.free either;
+  };
+  responses = refl;
+}
+  where
+    low : ℕ
+    low = least_free (max old.low to) old.responses
+
+    least : IsLeastFree (max old.low to) (Contains (message_ids_of old.responses)) low
+    least = least_free_is (max old.low to) 0 old.responses falls
+
+raised_window : (floor to : ℕ) (stored : List KeptMessage) (old : ResponseWindow) → IsWindowOf floor stored old → IsWindowOf (max floor to) stored (raised_to to old)
+raised_window floor to stored old is =
+    jumping_raises floor to stored old (raised_to to old) is
+    (raised_jumps to old (let from = is.low.from in omega (arith, is.same_floor)) (not_falling floor stored old is))
+
+pub raising_gives : RaisingGivesOneWindow
+raising_gives floor to stored =
+    one_window (max floor to) stored (raised_to to (window_of_responses floor stored)) (window_of_responses (max floor to) stored)
+    (raised_window floor to stored (window_of_responses floor stored) (made_window floor stored)) (made_window (max floor to) stored)
+
+pub jumps_raise : JumpsAreRaised
+jumps_raise floor to stored old new is jumps =
+    one_window (max floor to) stored new (raised_to to old) (jumping_raises floor to stored old new is jumps) (raised_window floor to stored old is)
+
+pub raising_no_more : RaisingByNoMoreKeepsAll
+raising_no_more floor to stored up = raising_gives floor to stored ∙ ap (λ n. window_of_responses n stored) same
+  where
+    same : max floor to ≡ floor
+    same = omega arith
+
+pub new_from_floor : NewAreFromTheFloorOn
+new_from_floor floor stored id new =
+    let up : floor ≤ (window_of_responses floor stored).low = (made_window floor stored).low.from in let more = new.from in omega arith

@@ -3,7 +3,7 @@ use Rattle.std.specs.Prelude.{◌≡◌, ℕ, ◌+◌, ◌≤◌, ◌↔◌, max
 use Rattle.ike_window.specs.declared.TheConstants.{WINDOW}
 use Rattle.ike_window.specs.Kept.{KeptMessage, by_message_id, message_ids_of, kept_octets}
 use Rattle.ike_window.specs.Requests.{IsLeastFree, IsNewRequest}
-use Rattle.ike_window.specs.Stored.{no_responses, window_of_responses, with_response}
+use Rattle.ike_window.specs.Stored.{no_responses, raised_to, window_of_responses, with_response}
 use Rattle.ike_window.specs.Windows.{IsAnswered, Jumps, ResponseWindow, is_repeatable}
 
 -- what is kept of all responses that were stored, the newest first, where this is the floor
@@ -65,3 +65,28 @@ NewHaveNoResponse =
     IsNewRequest (window_of_responses floor stored).low
     (IsAnswered (window_of_responses floor stored)) id →
     ¬ Contains (message_ids_of stored) id
+
+-- what is kept of some responses, with the floor raised, is what is kept of them from there on
+abbrev pub RaisingGivesOneWindow : Type 0
+RaisingGivesOneWindow =
+    (floor to : ℕ) (stored : List KeptMessage) →
+    raised_to to (window_of_responses floor stored) ≡ window_of_responses (max floor to) stored
+
+-- a window that jumped has its floor raised
+abbrev pub JumpsAreRaised : Type 0
+JumpsAreRaised =
+    (floor to : ℕ) (stored : List KeptMessage) (old new : ResponseWindow) →
+    IsWindowOf floor stored old → Jumps to old new → new ≡ raised_to to old
+
+-- a Message ID at or below the floor raises nothing
+abbrev pub RaisingByNoMoreKeepsAll : Type 0
+RaisingByNoMoreKeepsAll =
+    (floor to : ℕ) (stored : List KeptMessage) → to ≤ floor →
+    raised_to to (window_of_responses floor stored) ≡ window_of_responses floor stored
+
+-- no request below the floor is new
+abbrev pub NewAreFromTheFloorOn : Type 0
+NewAreFromTheFloorOn =
+    (floor : ℕ) (stored : List KeptMessage) (id : ℕ) →
+    IsNewRequest (window_of_responses floor stored).low
+    (IsAnswered (window_of_responses floor stored)) id → floor ≤ id

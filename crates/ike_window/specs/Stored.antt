@@ -1,5 +1,5 @@
 -- What is kept of responses, as they are stored one after another.
-use Rattle.std.specs.Prelude.{ℕ, ◌+◌, ◌==◌, List, [], ◌∷◌, filter, if◌then◌else◌}
+use Rattle.std.specs.Prelude.{ℕ, ◌+◌, ◌==◌, max, List, [], ◌∷◌, filter, if◌then◌else◌}
 use Rattle.ike_window.specs.Kept.{KeptMessage, by_message_id, with_kept}
 use Rattle.ike_window.specs.Windows.{ResponseWindow, is_repeatable}
 
@@ -25,6 +25,10 @@ no_responses floor = record { floor = floor; low = floor; responses = [] }
 -- a response is stored beside what is kept
 abbrev pub with_response : KeptMessage → ResponseWindow → ResponseWindow
 with_response response old = window_from old.floor old.low (with_kept response old.responses)
+
+-- the floor is raised to this Message ID, where it is above it: the requests below are given up
+abbrev pub raised_to : ℕ → ResponseWindow → ResponseWindow
+raised_to to old = window_from (max old.floor to) (max old.low to) old.responses
 
 -- what is kept of all responses that were stored, the newest first, where this is the floor
 abbrev pub window_of_responses : ℕ → List KeptMessage → ResponseWindow

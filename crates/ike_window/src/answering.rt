@@ -2,7 +2,7 @@ ghost use Rattle.std.specs.Prelude.{◌≡◌, ◌↔◌, ◌≤◌, ◌+◌, �
 ghost use Rattle.ike_window.specs.declared.TheConstants.{LAST_ID, WINDOW};
 ghost use Rattle.ike_window.specs.Kept.{AllBelow, message_ids_of, kept_octets};
 ghost use Rattle.ike_window.specs.Requests.{IsRequestJudgedBy, IsLeastFree, IsNewRequest, IsRepeat};
-ghost use Rattle.ike_window.specs.Stored.{no_responses, with_response};
+ghost use Rattle.ike_window.specs.Stored.{no_responses, raised_to, with_response};
 ghost use Rattle.ike_window.specs.Windows.{IsAnswered, Jumps, is_repeatable};
 
 use crate::judged::Judged;
@@ -95,7 +95,8 @@ impl Answering {
 
     /// Raises the floor to a Message ID, where it is above it, and drops the responses below.
     pub fn jump(&mut self, floor: u32)
-        ensures { Jumps floor self.old self.new }
+        ensures jumps { Jumps floor self.old self.new }
+        ensures raised { self.new ≡ raised_to floor self.old }
     {
         self.floor = self.floor.max(floor);
         self.low = settle(&mut self.ring, self.floor, self.low.max(floor));

@@ -1,4 +1,4 @@
-ghost use Rattle.ike_window.specs.Laws.{AnsweredAreStored, AnsweredHaveAResponse, JumpingRaisesTheFloor, NewHaveNoResponse, NothingIsStored, RepeatsAreTheResponses, ResponsesGiveOneWindow, ResponsesHaveAWindow, StoringAddsTheResponse};
+ghost use Rattle.ike_window.specs.Laws.{AnsweredAreStored, AnsweredHaveAResponse, JumpingRaisesTheFloor, JumpsAreRaised, NewAreFromTheFloorOn, NewHaveNoResponse, NothingIsStored, RaisingByNoMoreKeepsAll, RaisingGivesOneWindow, RepeatsAreTheResponses, ResponsesGiveOneWindow, ResponsesHaveAWindow, StoringAddsTheResponse};
 
 /// What is kept of no responses is a new window.
 pub fn nothing_is_stored()
@@ -43,4 +43,24 @@ pub fn answered_have_a_response()
 /// No request that is new in the window of some responses is one of theirs: none is taken twice.
 pub fn new_have_no_response()
     ensures { NewHaveNoResponse }
+{}
+
+/// What is kept of some responses, with the floor raised, is what is kept of them from there on.
+pub fn raising_gives_one_window()
+    ensures { RaisingGivesOneWindow }
+{}
+
+/// A window that jumped is the one with its floor raised, and no other.
+pub fn jumps_are_raised()
+    ensures { JumpsAreRaised }
+{}
+
+/// To raise the floor to no more than it is changes nothing.
+pub fn raising_by_no_more_keeps_all()
+    ensures { RaisingByNoMoreKeepsAll }
+{}
+
+/// No request below the floor is new.
+pub fn new_are_from_the_floor_on()
+    ensures { NewAreFromTheFloorOn }
 {}

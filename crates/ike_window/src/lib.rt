@@ -18,9 +18,10 @@ pub use answering::Answering;
 pub use asking::Asking;
 pub use judged::Judged;
 pub use laws::{
-    answered_are_stored, answered_have_a_response, jumping_raises_the_floor, new_have_no_response,
-    nothing_is_stored, repeats_are_the_responses, responses_give_one_window,
-    responses_have_a_window, storing_adds_the_response,
+    answered_are_stored, answered_have_a_response, jumping_raises_the_floor, jumps_are_raised,
+    new_are_from_the_floor_on, new_have_no_response, nothing_is_stored,
+    raising_by_no_more_keeps_all, raising_gives_one_window, repeats_are_the_responses,
+    responses_give_one_window, responses_have_a_window, storing_adds_the_response,
 };
 
 /// How many requests an end may send before the least of them is answered (RFC 7296, section 2.3).
@@ -35,6 +36,3 @@ const ANSWERED: usize = 16;
 
 /// The last Message ID, which no request has: Message IDs don't wrap (RFC 7296, section 2.2).
 pub const LAST_ID: u32 = u32::MAX;
-
-#[cfg(test)]
-mod tests;
