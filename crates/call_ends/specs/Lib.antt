@@ -3,3 +3,4 @@ pub mod Endings
 pub mod Jobs
 pub mod Outside
 pub mod Statuses
+pub mod Streaming

@@ -5,7 +5,9 @@
 mod closing;
 mod input;
 mod status;
+mod streaming;
 
 pub use closing::{complain, name_line, put_output};
 pub use input::input_of;
 pub use status::Status;
+pub use streaming::{Stop, say_end};

@@ -1,6 +1,5 @@
 -- Each kind of field is read as it is written, and none of its words has a space.
-use Rattle.std.proofs.Common.{◌≡◌, ℕ, ◌-◌, ◌^◌, ◌<◌, ◌≤◌, true, List, Result, refl, lit≤}
-use Rattle.std.specs.Fmt.{decimal}
+use Rattle.std.proofs.Common.{◌≡◌, ℕ, ◌-◌, ◌^◌, true, List, Result, refl, lit≤}
 use Rattle.std.specs.List.{list_all}
 use Rattle.ha_base.specs.declared.key_material.KeySize.{KeySize}
 use Rattle.line_fields.specs.declared.fault.LineReason.{LineReason}

@@ -6,3 +6,5 @@ pub mod LineLaws
 pub mod InputLaws
 pub mod FrontLaws
 pub mod FileLaws
+pub mod PieceLaws
+pub mod WholeReads

@@ -43,13 +43,17 @@ abbrev pub some_event : Result (Moment × PlainEvent) LineFault
 some_event (Ok x) = Ok (Some x)
 some_event (Err f) = Err f
 
+-- the event of a line behind as many and behind a moment, if the line is not passed over
+abbrev pub event_behind : ℕ → Moment → List ℕ → Result (Option (Moment × PlainEvent)) LineFault
+event_behind count last line =
+    if is_passed line then Ok None
+    else if count == MAX_EVENTS then Err (fault_at 1 reasons.TooMany)
+    else some_event (line_at last.0 line)
+
 -- the event of a line at a place, if the line is not passed over
 unfoldable pub event_in : Place → ℕ → List ℕ → Result (Option (Moment × PlainEvent)) LineFault
 event_in p octets line =
-    unless_fault (overlong p.before octets (length line))
-    (if is_passed line then Ok None
-    else if p.count == MAX_EVENTS then Err (fault_at 1 reasons.TooMany)
-    else some_event (line_at p.last.0 line))
+    unless_fault (overlong p.before octets (length line)) (event_behind p.count p.last line)
 
 abbrev pub events_counted : ℕ → Option (Moment × PlainEvent) → ℕ
 events_counted count None = count
@@ -86,10 +90,11 @@ contents_at (line ∷ lines) p =
     (λ event. contents_at lines (behind_line p (length line) event))
 
 -- the version line, which is first
+abbrev pub version_of : List ℕ → Result Unit LineFault
+version_of line = if bytes_eq line (codes "ha 1") then Ok tt else Err (fault_at 1 reasons.Word)
+
 unfoldable pub version_in : ℕ → List ℕ → Result Unit LineFault
-version_in octets line =
-    unless_fault (overlong 0 octets (length line))
-    (if bytes_eq line (codes "ha 1") then Ok tt else Err (fault_at 1 reasons.Word))
+version_in octets line = unless_fault (overlong 0 octets (length line)) (version_of line)
 
 abbrev pub on_version : Result Unit LineFault → Contents → Contents
 on_version (Err f) rest = faulty_contents 1 f

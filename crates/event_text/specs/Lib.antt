@@ -3,3 +3,4 @@ pub mod Reading
 pub mod Input
 pub mod InMemory
 pub mod EventFile
+pub mod Pieces

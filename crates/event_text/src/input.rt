@@ -85,7 +85,7 @@ fn event(
     }
 }
 
-fn in_line(line: u32, fault: LineFault) -> InputFault
+pub(crate) fn in_line(line: u32, fault: LineFault) -> InputFault
     ensures { result ≡ record { line = line; column = fault.column; reason = fault.reason } }
 {
     InputFault {
@@ -224,31 +224,5 @@ impl<'a> EventReader<'a> {
         let next = ahead.take_event(alloc)?;
         *self = ahead;
         Ok(next)
-    }
-}
-
-#[cfg(test)]
-mod tests {
-    use super::*;
-
-    #[test]
-    fn one_event_too_many(rt: HostRuntime) {
-        let full = Place {
-            line: 100_002,
-            before: 5,
-            count: 100_000,
-            last: Moment(0),
-        };
-        let fault = match event(rt.alloc(), full, 2, b"x") {
-            Err(ReadFault::Line(fault)) => Some(fault),
-            _ => None,
-        };
-        assert_eq!(rt;
-            fault,
-            Some(LineFault {
-                column: 1,
-                reason: LineReason::TooMany,
-            })
-        );
     }
 }

@@ -40,3 +40,14 @@ pub enum EventFault {
     /// The input is faulty there.
     Input(InputFault),
 }
+
+/// Why no line of an event file was taken that comes in pieces.
+#[derive(Drop)]
+pub enum TakeFault {
+    /// Memory ran out while a line was read, which says nothing of the file.
+    Memory,
+    /// The file is faulty there.
+    Input(InputFault),
+    /// The source of the file failed.
+    Source,
+}

@@ -1,7 +1,9 @@
 -- Whether octets begin with a whole line, whatever follows them.
-use Rattle.std.proofs.Common.{◌≡◌, ℕ, ◌<◌, ◌≤◌, false, eqb, List, [], ◌∷◌, ◌++◌, length, refl, ap, arith, inl, inr, ◌⊎◌}
+use Rattle.std.proofs.Common.{◌≡◌, ℕ, ◌<◌, ◌≤◌, true, false, not, eqb, List, [], ◌∷◌, ◌++◌, length, refl, ap, arith, inl, inr, ◌⊎◌}
 use Rattle.std.proofs.lemmas.Bool.Decides.{eqb_tells}
-use Rattle.input_lines.specs.Lines.{lines_of, without_line_feed}
+use Rattle.std.specs.List.{list_all}
+use Rattle.std.proofs.lemmas.Bool.{and_parts}
+use Rattle.input_lines.specs.Lines.{lines_of, no_feed, without_line_feed}
 
 -- the octets begin with a whole line
 pub record HasLine (a : List ℕ) : Type 0 where
@@ -49,3 +51,46 @@ first_line c (d ∷ ds) =
             | inr h ↦ inr (λ b. begins_more c (d ∷ ds) b other.0 (h b))
           ]
     ]
+
+pub other_feed : (c : ℕ) → no_feed c ≡ true → eqb c 10 ≡ false
+other_feed c h =
+    elim (eqb_tells c 10) [
+      | inl feed ↦ absurd (let k : not true ≡ true = rw feed.0 at h in cc)
+      | inr other ↦ other.0
+    ]
+
+-- octets without a line feed are the beginning of a line, whatever follows them
+pub begins_all : (c : ℕ) (a b : List ℕ) → list_all no_feed (c ∷ a) ≡ true → BeginsLine (c ∷ a) b
+begins_all c [] b h = begins c b (other_feed c (and_parts (no_feed c) true h).0)
+begins_all c (d ∷ ds) b h =
+    let parts = and_parts (no_feed c) (list_all no_feed (d ∷ ds)) h in
+    begins_more c (d ∷ ds) b (other_feed c parts.0) (begins_all d ds b parts.1)
+
+-- a line and its line feed, whatever follows them
+pub lines_before : (l rest : List ℕ) → list_all no_feed l ≡ true → lines_of (l ++ (10 ∷ rest)) ≡ (l ++ 10 ∷ []) ∷ lines_of rest
+unfolding lines_of
+lines_before [] rest h = refl
+lines_before (c ∷ cs) rest h =
+    let parts = and_parts (no_feed c) (list_all no_feed cs) h in
+    rw (other_feed c parts.0, lines_before cs rest parts.1) refl
+
+-- a last line without its line feed
+pub lines_alone : (l : List ℕ) → 0 < length l → list_all no_feed l ≡ true → lines_of l ≡ l ∷ []
+unfolding lines_of
+lines_alone [] some h = absurd (omega arith)
+lines_alone (c ∷ []) some h = rw (other_feed c (and_parts (no_feed c) true h).0) refl
+lines_alone (c ∷ d ∷ cs) some h =
+    let parts = and_parts (no_feed c) (list_all no_feed (d ∷ cs)) h in
+    rw (other_feed c parts.0, lines_alone (d ∷ cs) (omega arith) parts.1) refl
+
+pub unfed_fed : (l : List ℕ) → list_all no_feed l ≡ true → without_line_feed (l ++ 10 ∷ []) ≡ l
+unfed_fed [] h = refl
+unfed_fed (c ∷ cs) h =
+    let parts = and_parts (no_feed c) (list_all no_feed cs) h in
+    rw (other_feed c parts.0, unfed_fed cs parts.1) refl
+
+pub unfed_alone : (l : List ℕ) → list_all no_feed l ≡ true → without_line_feed l ≡ l
+unfed_alone [] h = refl
+unfed_alone (c ∷ cs) h =
+    let parts = and_parts (no_feed c) (list_all no_feed cs) h in
+    rw (other_feed c parts.0, unfed_alone cs parts.1) refl

@@ -1,6 +1,6 @@
 -- Lines that pass the end of an input, and lines that pass.
-use Rattle.std.proofs.Common.{◌≡◌, ℕ, ◌+◌, ◌-◌, ◌≤◌, Bool, true, false, ◌&&◌, cond, ltb, leb, Option, Some, None, Result, Ok, refl, arith, inl, inr}
-use Rattle.std.proofs.lemmas.Bool.{cases_lt, le-leb, lt-leb, lt-ltb}
+use Rattle.std.proofs.Common.{◌≡◌, ℕ, ◌+◌, ◌-◌, ◌<◌, ◌≤◌, Bool, true, false, ◌&&◌, cond, ltb, leb, Option, Some, None, Result, Ok, refl, arith, inl, inr}
+use Rattle.std.proofs.lemmas.Bool.{cases_lt, le-leb, le-ltb, lt-leb, lt-ltb}
 use Rattle.line_fields.specs.declared.fault.LineFault.{LineFault}
 use Rattle.line_fields.specs.declared.fault.LineReason.TheVariants as reasons
 use Rattle.line_fields.specs.Fields.{fault_at}
@@ -73,3 +73,19 @@ short_line before octets size with_line_feeds e =
 
     is_long : {f : LineFault} → Some f ≡ None → ⊥
     is_long h = absurd cc
+
+-- a line within both limits
+pub none_overlong : (before octets size : ℕ) → size ≤ 16384 → before + octets ≤ 67108864 → overlong before octets size ≡ None
+none_overlong before octets size short within = rw (le-ltb 16384 size short, le-ltb 67108864 (before + octets) within) refl
+
+-- a line that is too long, within the file
+pub line_overlong : (before octets size : ℕ) → 16385 ≤ size → before + 16384 ≤ 67108864 → overlong before octets size ≡ Some (fault_at 16385 reasons.LineTooLong)
+line_overlong before octets size long within = rw (lt-ltb 16384 size long, le-leb (before + 16385) 67108865 (omega (arith, within))) refl
+
+-- a line that passes the end of the file, and is not too long
+pub file_overlong : (before octets size : ℕ) → 67108865 ≤ before + octets → size ≤ 16384 → overlong before octets size ≡ Some (fault_at (67108865 - before) reasons.FileTooLong)
+file_overlong before octets size past short = rw (le-ltb 16384 size short, lt-ltb 67108864 (before + octets) past) refl
+
+-- a line that passes the end of the file before it is too long
+pub end_overlong : (before octets size : ℕ) → 67108865 ≤ before + octets → 67108865 < before + 16385 → overlong before octets size ≡ Some (fault_at (67108865 - before) reasons.FileTooLong)
+end_overlong before octets size past far = rw (false_right (ltb 16384 size) (leb (before + 16385) 67108865) (lt-leb (before + 16385) 67108865 far), lt-ltb 67108864 (before + octets) past) refl

@@ -47,7 +47,7 @@ abbrev pub TakesAs : Reading → Reading → (left still_left : Option (List ℕ
 TakesAs old new left still_left faults now_faults took.Line =
     (TakesLine old new left still_left ⊎ TakesLast old new left still_left) × (now_faults ≡ faults)
 TakesAs old new left still_left faults now_faults took.End =
-    (new.kept ≡ []) × (now_faults ≡ faults) × ((IsAtEnd still_left
+    (new.kept ≡ []) × (new.before ≡ old.before) × (now_faults ≡ faults) × ((IsAtEnd still_left
     × TakesFrom old.limits old.before old.kept [] [] left still_left)
     ⊎ ((old.unfed ≡ true) × (still_left ≡ left)))
 TakesAs old new left still_left faults now_faults took.LineTooLong =

@@ -14,6 +14,3 @@ pub use front::{Front, front_of, is_passed};
 pub use limits::overlong;
 pub use reader::{LineReader, Took};
 pub use taking::Limits;
-
-#[cfg(test)]
-mod tests;

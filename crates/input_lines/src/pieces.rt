@@ -77,6 +77,7 @@ impl Piece {
     pub(crate) fn fill<S: Source>(&mut self, source: &mut S) -> Result<usize, Failed>
         requires { self.old ≡ [] }
         ensures read { Consumes (S.left source.old) (S.left source.new) self.new }
+        ensures short { length self.new ≤ PIECE_OCTETS }
         ensures count { IfOk result (λ n. n ≡ length self.new) }
         ensures end { result ≡ Ok 0 → IsAtEnd (S.left source.new) }
         ensures none { OnOk result (S.faults source.new ≡ S.faults source.old) }

@@ -37,6 +37,7 @@ pub struct LineReader {
 }
 
 impl Model for LineReader {
+    ghost use Rattle.ha_base.specs.declared.limits.TheConstants.{PIECE_OCTETS};
     ghost use Rattle.std.specs.Prelude.{◌≡◌, ◌≤◌, [], length, true, vec_capacity};
     ghost use Rattle.input_lines.specs.Readers.{Reading};
 
@@ -51,7 +52,8 @@ impl Model for LineReader {
     } };
 
     ghost invariant = { λ r. (r.before ≤ r.limits.file) × (length r.line.items ≤ r.limits.line)
-        × (r.limits.line ≤ vec_capacity r.line) × (r.unfed ≡ true → r.piece ≡ []) };
+        × (r.limits.line ≤ vec_capacity r.line) × (length r.piece ≤ PIECE_OCTETS)
+        × (r.unfed ≡ true → r.piece ≡ []) };
 }
 
 impl LineReader {
@@ -97,6 +99,7 @@ impl LineReader {
         ensures takes { TakesAs self.old self.new (S.left source.old) (S.left source.new)
             (S.faults source.old) (S.faults source.new) result }
         ensures limits { self.new.limits ≡ self.old.limits }
+        ensures piece { length self.new.kept ≤ PIECE_OCTETS }
     {
         self.line.clear();
         if self.unfed {

@@ -1,5 +1,6 @@
 //! Octets up to a line feed, to the end of the input, or to a limit.
 
+ghost use Rattle.ha_base.specs.declared.limits.TheConstants.{PIECE_OCTETS};
 ghost use Rattle.std.specs.Prelude.{◌≡◌, ◌≢◌, ◌+◌, ◌≤◌, ◌<◌, ◌++◌, [], length, true, vec_capacity, IfNone, IfSome};
 ghost use Rattle.std.specs.List.{list_all};
 ghost use Rattle.input_lines.specs.Lines.{no_feed};
@@ -42,6 +43,7 @@ fn take_front(limits: Limits, before: usize, line: &mut Vec<u8>, piece: &mut Pie
     ensures short { length line.new.items ≤ limits.line }
     ensures within { before + length line.new.items ≤ limits.file }
     ensures room { limits.line ≤ vec_capacity line.new }
+    ensures fewer { length piece.new ≤ length piece.old }
     ensures longer { 0 < length piece.old → piece.new ≡ []
         → length line.old.items < length line.new.items }
     ensures stops { EndsFront limits before (length line.new.items) piece.new }
@@ -62,6 +64,7 @@ fn ending(limits: Limits, before: usize, len: usize, piece: &mut Piece) -> Optio
     requires within { before + len ≤ limits.file }
     requires short { len ≤ limits.line }
     ensures none { IfNone result (piece.new ≡ []) }
+    ensures fewer { length piece.new ≤ length piece.old }
     ensures stays { IfNone result (piece.new ≡ piece.old) }
     ensures found { IfSome result (IsEnding limits before len piece.old piece.new) }
 {
@@ -93,7 +96,9 @@ pub(crate) fn take_line<S: Source>(
     requires none { line.old.items ≡ [] }
     requires within { before ≤ limits.file }
     requires room { limits.line ≤ vec_capacity line.old }
+    requires piece { length piece.old ≤ PIECE_OCTETS }
     ensures room { limits.line ≤ vec_capacity line.new }
+    ensures piece { length piece.new ≤ PIECE_OCTETS }
     ensures finds { Finds limits before piece.old line.new.items piece.new (S.left source.old)
         (S.left source.new) (S.faults source.old) (S.faults source.new) result }
 {
