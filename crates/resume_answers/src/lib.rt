@@ -15,6 +15,3 @@ mod unspent;
 pub use octets::{LONGEST_ANSWER, NONCE_ANSWER};
 pub use parts::{MemberAnswer, OwnParts, Presented, Resumptions};
 pub use unspent::draw_unless_spent;
-
-#[cfg(test)]
-mod tests;

@@ -5,8 +5,8 @@ use Rattle.ha_base.specs.declared.identities.GatewayId.{GatewayId}
 use Rattle.ike_sas.specs.declared.exchanges.TheConstants.{IKE_SESSION_RESUME}
 use Rattle.ike_values.specs.Notifications.{notify_of}
 use Rattle.ike_values.specs.Spelling.{two}
-use Rattle.ike_values.specs.Values.{PayloadValue, nonce}
 use Rattle.ike_values.specs.Writing.{body_written}
+use Rattle.ike_values.specs.Values.{PayloadValue, nonce}
 use Rattle.ike_values.specs.declared.header.Header.{Header}
 use Rattle.ike_values.specs.declared.header.Message.{Message}
 use Rattle.ike_values.specs.declared.notify_types.TheConstants.{REDIRECT_SUPPORTED, REDIRECTED_FROM, TICKET_OPAQUE}

@@ -2,7 +2,7 @@ ghost use Rattle.std.specs.Prelude.{◌≡◌, ◌+◌, ◌≤◌, [], ◌∷◌
 ghost use Rattle.std.specs.Int.{w32, to_be_bytes};
 ghost use Rattle.ike_values.specs.Notifications.{notify_of};
 ghost use Rattle.ike_values.specs.SelectorView.{selector_value};
-ghost use Rattle.ike_values.specs.Spelling.{FitsSelector};
+ghost use Rattle.ike_values.specs.Validity.{FitsSelector};
 ghost use Rattle.ike_values.specs.Values.{auth, sa, tsi, tsr};
 ghost use Rattle.resume_exchange.specs.AuthMessages.{all_addresses, auth_header, auth_payloads};
 ghost use Rattle.resume_exchange.specs.AuthMessages.{identity_payload, offered};

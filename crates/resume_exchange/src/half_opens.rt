@@ -1,4 +1,5 @@
-ghost use Rattle.std.specs.Prelude.{◌≡◌, ◌≢◌, ◌<◌, ◌≤◌, [], ◌∷◌, ◌++◌, length, filter, IfOk};
+ghost use Rattle.std.specs.Prelude.{◌≡◌, ◌≢◌, ◌<◌, ◌≤◌, [], ◌∷◌, ◌++◌, length, filter, slice_get, Some, IfOk};
+ghost use Rattle.std.specs.List.{remove};
 ghost use Rattle.keeper_book.specs.declared.pools.TheConstants.{NONCE_NUMBERS_END};
 
 use ha_base::{Derivation, Memory, Moment, Octets};
@@ -34,7 +35,7 @@ impl HalfOpen {
     ghost use Rattle.resume_exchange.specs.HalfOpens.{is_live};
 
     /// Whether it was begun less than 60 seconds ago.
-    fn is_live(&self, now: Moment) -> bool
+    pub fn is_live(&self, now: Moment) -> bool
         ensures { result ≡ is_live now.0 self.now }
     {
         now.0.saturating_sub(self.begun.0) < HALF_OPEN_AGE
@@ -89,6 +90,23 @@ impl HalfOpens {
         ensures limit { length self.now ≤ MAX_HALF_OPENS }
     {
         self.kept.len()
+    }
+
+    /// The half-open associations, the one begun last at the end.
+    pub fn as_slice(&self) -> &[HalfOpen]
+        ensures { result.now ≡ self.now }
+    {
+        self.kept.as_slice()
+    }
+
+    /// Removes the one at this place, and gives it.
+    #[tactic(auto, using(std::proofs::lemmas::Option::slice_get_read))]
+    pub fn remove(&mut self, place: usize) -> HalfOpen
+        requires { place < length self.old }
+        ensures removed { slice_get self.old place ≡ Some result }
+        ensures left { self.new ≡ remove self.old place }
+    {
+        self.kept.remove(place)
     }
 
     /// Keeps one more, for which there is room.

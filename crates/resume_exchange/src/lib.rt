@@ -40,15 +40,12 @@ pub use half_opens::{HALF_OPEN_AGE, HalfOpen, HalfOpens, MAX_HALF_OPENS};
 pub use judging::Judged;
 pub use lots::{LEASED_NUMBERS, draw_pooled};
 pub use offers::{ESP, LEAST_CHILD_SPI, first_fit};
-pub use parts::{SHARED_KEY, first_initiator_selectors, first_responder_selectors};
+pub use parts::{
+    SHARED_KEY, first_initiator_selectors, first_proposals, first_responder_selectors,
+};
 pub use peer_answers::PeerAnswer;
 pub use peer_auth::PeerAuth;
 pub use records::resumed_record;
 pub use request::{NONCE_OCTETS, presented};
 pub use sealing::{FIRST_IV, Ready, sa_keys, sealing_key};
 pub use usable::usable_ticket;
-
-#[cfg(test)]
-mod peer_tests;
-#[cfg(test)]
-mod tests;

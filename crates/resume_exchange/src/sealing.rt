@@ -59,6 +59,7 @@ pub fn sealing_key(sk_d: &[u8; 32], size: KeySize, from: &Derivation, end: End) 
 /// A message that is ready to be sealed, and room for what is noted and given of it.
 ///
 /// Contracts see its inner payloads.
+#[derive(Drop)]
 pub struct Ready {
     frame: Frame,
     plain: Octets,

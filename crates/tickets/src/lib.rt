@@ -21,6 +21,3 @@ pub use form::{LONGEST_TICKET, SHORTEST_TICKET, TICKET_VERSION};
 pub use issuing::{issue, spell_content};
 pub use laws::issued_tickets_open;
 pub use opening::open_ticket;
-
-#[cfg(test)]
-mod tests;
