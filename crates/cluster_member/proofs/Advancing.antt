@@ -27,13 +27,8 @@ use Rattle.turn_rules.specs.Packets.{IsVerdictOf, SendsEsp}
 use Rattle.turn_rules.specs.Steps.{IsQuiet, Says}
 use Rattle.turn_rules.specs.Tasks as task
 use Rattle.turn_rules.specs.Tasks.{Task}
-use Rattle.cluster_member.specs.Uses.{DrawsNext, Notes, SendsNext, received_below, sent_below}
-
--- its association is held as the turn makes it, and the turn makes nothing of others
-pub record Advances (old : Held) (asked : Task) (calls : List Call) (step : Step) (new : Held) : Type 0 where
-  pub no_grant : (spir : ℕ) → grant_in spir calls ≡ None
-  pub now : new ≡ advanced old.sa.spir asked calls step old
-  pub elsewhere : (spir : ℕ) → (old.sa.spir == spir) ≡ false → (held : Held) → advanced spir asked calls step held ≡ held
+use Rattle.cluster_member.proofs.Uses.{DrawsNext, Notes, SendsNext, received_below, sent_below}
+use Rattle.cluster_member.specs.Advances.{Advances, AdvancesByPacket}
 
 -- a turn by which no request was sent or answered, and none had its response
 pub record IsOfNoMessage (asked : Task) (step : Step) : Type 0 where
@@ -160,13 +155,13 @@ module _ (held now : Held) (calls : List Call) (step : Step) where
   abbrev Draws_it : ℕ → List Call → Type 0
   Draws_it high rest = (rest ≡ []) × Says (out.Number next) step × (now ≡ sent_below high held)
 
-  pub draws-rule : DrawsNext held calls step now → Quietly (Draws held) calls step
+  draws-rule : DrawsNext held calls step now → Quietly (Draws held) calls step
   draws-rule draws = record {
     follows = ready-map {P = Stops} {G = Draws_it} (λ why rest s. record { no_more = s.0; said = s.1.said }) (λ high rest g. record { no_more = g.0; said = g.1.said }) _ _ calls draws;
     quiet = ready-elim held counter.EspOut next Stops Draws_it (λ why rest s. s.0) (λ high rest g. g.0) calls (λ why rest vain s. s.1.quiet) (λ high rest covers g. g.1.quiet) draws;
   }
 
-  pub draws-advances : DrawsNext held calls step now → Advances held (task.Draw held.sa.spir) calls step now
+  draws-advances : DrawsNext held calls step now → Advances held (task.Draw held.sa.spir) calls step now
   draws-advances draws = ready-elim held counter.EspOut next Stops Draws_it (λ why rest s. s.0) (λ high rest g. g.0) calls
       (λ why rest vain s. refused-advances (task.Draw held.sa.spir) calls step held now (refusal_of_stop why) vain s.1 s.2)
       (λ high rest covers g. number-advances (task.Draw held.sa.spir) calls step held now high covers
@@ -174,20 +169,26 @@ module _ (held now : Held) (calls : List Call) (step : Step) where
       (record { unsent = λ spir. refl; unreplied = λ spir. refl; unanswered = λ spir. refl }) g.2)
       draws
 
+  pub draws-are : DrawsNext held calls step now → Quietly (Draws held) calls step × Advances held (task.Draw held.sa.spir) calls step now
+  draws-are draws = (draws-rule draws, draws-advances draws)
+
   module _ (payload : List ℕ) where
     abbrev Sends_it : ℕ → List Call → Type 0
     Sends_it high rest = (rest ≡ []) × SendsEsp (outbound_of held) next payload step × (now ≡ sent_below high held)
 
-    pub sends-rule : SendsNext held payload calls step now → SendsData held payload calls step
+    sends-rule : SendsNext held payload calls step now → SendsData held payload calls step
     sends-rule sends = ready-map {P = Stops} {G = Sends_it} (λ why rest s. (s.0, s.1)) (λ high rest g. (g.0, g.1)) _ _ calls sends
 
-    pub sends-advances : SendsNext held payload calls step now → Advances held (task.Send held.sa.spir payload) calls step now
+    sends-advances : SendsNext held payload calls step now → Advances held (task.Send held.sa.spir payload) calls step now
     sends-advances sends = ready-elim held counter.EspOut next Stops Sends_it (λ why rest s. s.0) (λ high rest g. g.0) calls
         (λ why rest vain s. refused-advances (task.Send held.sa.spir payload) calls step held now (refusal_of_stop why) vain s.1 s.2)
         (λ high rest covers g. number-advances (task.Send held.sa.spir payload) calls step held now high covers
         (λ spir. ap (said_in spir counter.EspOut (task.Send held.sa.spir payload)) g.1.said) (λ spir. refl) (sent-unsealed held payload next step g.1) (λ spir. refl)
         (record { unsent = λ spir. refl; unreplied = λ spir. refl; unanswered = λ spir. refl }) g.2)
         sends
+
+    pub sends-are : SendsNext held payload calls step now → SendsData held payload calls step × Advances held (task.Send held.sa.spir payload) calls step now
+    sends-are sends = (sends-rule sends, sends-advances sends)
 
 module _ (held now : Held) (calls : List Call) (answer : EspVerdict) where
   abbrev Halts : Stop → List Call → Type 0
@@ -197,7 +198,7 @@ module _ (held now : Held) (calls : List Call) (answer : EspVerdict) where
   Takes_it packet high rest = (rest ≡ []) × (answer ≡ esp.Accepted (counter_name held.sa counter.EspIn) packet) × (now ≡ received_below packet.number high held)
 
   -- a packet is taken by the rule
-  pub notes-rule : (opened : Result EspOpened EspDrop) → Notes held opened calls answer now → TakesPacket held opened calls answer
+  notes-rule : (opened : Result EspOpened EspDrop) → Notes held opened calls answer now → TakesPacket held opened calls answer
   notes-rule (Err why) notes = (notes.0, notes.1)
   notes-rule (Ok packet) notes = ready-map {P = Halts} {G = Takes_it packet} (λ why rest s. (s.0, s.1)) (λ high rest g. (g.0, g.1)) _ _ calls notes
 
@@ -210,7 +211,7 @@ module _ (held now : Held) (calls : List Call) (answer : EspVerdict) where
         ap (accepted spir) (as_said (esp.Accepted (counter_name held.sa counter.EspIn) packet) e).2
         ∙ ap (λ (x : Option ℕ). if is_of_spir spir x then Some packet.number else None) held.sa.origin_is_own
 
-    pub notes-advances : (opened : Result EspOpened EspDrop) → Notes held opened calls answer now → Advances held task.Receive calls step now
+    notes-advances : (opened : Result EspOpened EspDrop) → Notes held opened calls answer now → Advances held task.Receive calls step now
     notes-advances (Err why) notes =
         let said : step.verdict ≡ out.DroppedEsp why = as_said (esp.Dropped why) notes.1 in
         let vain : AreVain calls = none-vain calls notes.0 in
@@ -226,3 +227,6 @@ module _ (held now : Held) (calls : List Call) (answer : EspVerdict) where
         (received-no-message step (out.Accepted (counter_name held.sa counter.EspIn) packet.number packet.next_header is.0) is.2 (λ spir. refl) (λ spir. refl))
         (takes_number packet g.1) g.2)
         notes
+
+  pub notes-are : (opened : Result EspOpened EspDrop) → Notes held opened calls answer now → TakesPacket held opened calls answer × ((after : List ℕ) → AdvancesByPacket held calls answer after now)
+  notes-are opened notes = (notes-rule opened notes, λ after step worded quiet. notes-advances after step worded quiet opened notes)

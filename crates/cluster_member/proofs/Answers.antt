@@ -27,13 +27,14 @@ use Rattle.turn_rules.specs.Held.{Held, accepted, after_number, first_some, five
 use Rattle.turn_rules.specs.IkeState.{answered_after, is_of_spir, is_same_end, kept_under, number_under, outstanding_after, replied_in, request_in, response_in, response_to, sealed_iv, taken_id, without_replied}
 use Rattle.turn_rules.specs.MemberMessages.{HeldAnswers, held_ike}
 use Rattle.turn_rules.specs.Messages.{AnswersRequest, ExecutesRequest, RefusesRequest, TakesInner}
+use Rattle.turn_rules.specs.Steps.{IsQuiet}
 use Rattle.turn_rules.specs.Tasks as task
-use Rattle.cluster_member.proofs.Advancing.{Advances}
 use Rattle.cluster_member.proofs.Covering.{AreCoversTo, IsOf, message-advances, vain-covers}
 use Rattle.cluster_member.proofs.Requests.{raised-refused}
 use Rattle.cluster_member.proofs.UsingIv.{with-iv-elim, with-iv-rule}
-use Rattle.cluster_member.specs.Answering.{AnswersNext, EndsRequest, answered_below}
+use Rattle.cluster_member.proofs.Uses.{AnswersNext, answered_below}
 use Rattle.cluster_member.specs.Holdings.{IsHorizon}
+use Rattle.cluster_member.specs.Advances.{Advances}
 
 -- ---- the window rises
 
@@ -168,19 +169,26 @@ module _ (held now : Held) (request : Opened) (calls : List Call) (step : Step) 
       (now ≡ answered_below high above request.header.id step held)
 
   -- a request is answered by the rule
-  pub answers-rule : AnswersNext held request calls step now → HeldAnswers held request calls step
+  answers-rule : AnswersNext held request calls step now → HeldAnswers held request calls step
   answers-rule = with-iv-rule held now counter.Answer request.header.id Done calls step
       (AnswersRequest (counter_name held.sa counter.Answer) (held_ike held) held.nexts.iv request step) (λ high above d. d.0)
 
-  pub answers-advances : AnswersNext held request calls step now → Advances held task.Receive calls step now
+  answers-advances : AnswersNext held request calls step now → Advances held task.Receive calls step now
   answers-advances = with-iv-elim held now counter.Answer request.header.id Done calls step (Advances held task.Receive calls step now) (λ high. refl)
       (λ why highs covers says same. raised-refused task.Receive calls step held now highs (refusal_of_stop why) covers says same)
       (λ high above covers d. answered-advances held now request.header.id step
       (answered-by held request step (error_of request) d.0) calls high above covers d.1)
 
+  pub answers-are : AnswersNext held request calls step now → HeldAnswers held request calls step × Advances held task.Receive calls step now
+  answers-are it = (answers-rule it, answers-advances it)
+
 -- ---- a response is taken
 
-taken-advances : (held now : Held) (id : ℕ) (step : Step) (inner : Result (List PayloadValue) Bad)
+pub taken-quiet : (name : CounterName) (id : ℕ) (inner : Result (List PayloadValue) Bad) (step : Step) → TakesInner name id inner step → IsQuiet step
+taken-quiet name id (Err bad) step takes = absurd takes
+taken-quiet name id (Ok payloads) step takes = takes.says.quiet
+
+pub taken-advances : (held now : Held) (id : ℕ) (step : Step) (inner : Result (List PayloadValue) Bad)
     → TakesInner (counter_name held.sa counter.Ask) id inner step → now ≡ record held { asked = without_replied (Some id) held.asked }
     → Advances held task.Receive [] step now
 taken-advances held now id step (Err bad) takes same = absurd takes
@@ -201,6 +209,3 @@ taken-advances held now id step (Ok payloads) takes same = message-advances held
   where
     replies : (spir : ℕ) → replied_in spir task.Receive step.verdict ≡ (if held.sa.spir == spir then Some id else None)
     replies spir = ap (replied_in spir task.Receive) takes.says.said ∙ own-number held counter.Ask spir id
-
-pub ends-advances : (held now : Held) (response : Opened) (step : Step) → EndsRequest held response step now → Advances held task.Receive [] step now
-ends-advances held now response step ends = taken-advances held now response.header.id step response.inner ends.takes ends.ended

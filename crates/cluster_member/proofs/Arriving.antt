@@ -20,11 +20,11 @@ use Rattle.ike_window.specs.Kept.{kept_octets}
 use Rattle.ike_window.specs.declared.judged.Judged.{Judged}
 use Rattle.ike_window.specs.declared.judged.Judged.TheVariants as judged
 use Rattle.keeper_book.specs.declared.counters.Counter.{Counter}
-use Rattle.keeper_book.specs.declared.counters.Counter.TheVariants as counter
 use Rattle.sk_payload.specs.declared.open.Opened.{Opened}
+use Rattle.turn_rules.proofs.Cases.{by_bool, by_option}
 use Rattle.turn_rules.proofs.Readies.{none-vain}
-use Rattle.turn_rules.proofs.Ties.{used-unsealed}
-use Rattle.turn_rules.specs.Held.{Held, accepted, held_at, said_in}
+use Rattle.turn_rules.proofs.Ties.{said-receiving, used-unsealed}
+use Rattle.turn_rules.specs.Held.{Held, accepted, held_at}
 use Rattle.turn_rules.specs.IkeState.{replied_in, taken_id}
 use Rattle.turn_rules.specs.MemberMessages.{held_ike, of_spii}
 use Rattle.turn_rules.specs.Steps.{Says}
@@ -55,14 +55,6 @@ nothing-there held_by spii spir ike none found =
 
 -- ---- no member is asked to synchronise
 
-by_bool : {X Y Z : Type 0} (b : Bool) → (X → Z) → (Y → Z) → MatchBool b X Y → Z
-by_bool true left right is = left is
-by_bool false left right is = right is
-
-by_option : {A X Z : Type 0} {Y : A → Type 0} (o : Option A) → (X → Z) → ((a : A) → o ≡ Some a → Y a → Z) → MatchOption o X Y → Z
-by_option None none some is = none is
-by_option (Some a) none some is = some a refl is
-
 dropped : (answer : Arrival) (why : IkeDrop) → answer ≡ arrival.Dropped why → IsNoSynchronisation answer
 dropped answer why is = rw is tt
 
@@ -89,8 +81,8 @@ sync_response end.Peer opened answer is = rw is tt
 
 response : (held : IkeHeld) (opened : Opened) (answer : Arrival) → IsResponseArrival held opened answer → IsNoSynchronisation answer
 response held opened answer is = by_option (bad_in opened.inner)
-    (by_bool (is_synchronisation opened) (sync_response held.keys.end opened answer)
-    (by_option (kept_octets opened.header.id held.asked) (dropped answer drop.NotAsked) (λ octets kept awaited. rw awaited tt)))
+    (λ _. by_bool (is_synchronisation opened) (sync_response held.keys.end opened answer)
+    (by_option (kept_octets opened.header.id held.asked) (λ _. dropped answer drop.NotAsked) (λ octets kept awaited. rw awaited tt)))
     (λ bad _. dropped answer (drop.Bad bad)) is
 
 at_association : (held : IkeHeld) (octets : List ℕ) (message : Message) (answer : Arrival) → held.keys.end ≡ end.Cluster
@@ -106,7 +98,7 @@ message_here held_under octets message answer cluster is =
     by_bool (is_own_flag end.Cluster message.header.initiator) (dropped answer drop.Direction)
     (by_bool (message.header.exchange == IKE_SESSION_RESUME) (λ resumes. rw resumes tt)
     (by_bool (is_sealed message)
-    (by_option (held_under message.header.spii message.header.spir) (dropped answer drop.UnknownSpi)
+    (by_option (held_under message.header.spii message.header.spir) (λ _. dropped answer drop.UnknownSpi)
     (λ held found. at_association held octets message answer (cluster message.header.spii message.header.spir held found)))
     (dropped answer (drop.Exchange message.header.exchange)))) is
 
@@ -124,25 +116,14 @@ no-synchronisation held_by octets answer (inr good) = message_here (ike_under he
 
 -- ---- what moves nothing
 
-said-none : (spir : ℕ) (c : Counter) (verdict : Verdict) → said_in spir c task.Receive verdict ≡ None
-said-none spir counter.EspOut verdict = refl
-said-none spir counter.EspIn verdict = refl
-said-none spir counter.Iv verdict = refl
-said-none spir counter.Ask verdict = refl
-said-none spir counter.Answer verdict = refl
-
 -- a message by which nothing was sealed, answered or ended leaves what is held
 pub unmoved-holds : (step : Step) (verdict : Verdict) (held : List Held) → step.seals ≡ [] → step.verdict ≡ verdict
     → ((spir : ℕ) → accepted spir verdict ≡ None) → ((spir : ℕ) → replied_in spir task.Receive verdict ≡ None)
     → ((spir : ℕ) → taken_id spir verdict ≡ None) → HoldsOn task.Receive [] step held held
 unmoved-holds step verdict held sealed said unaccepted unreplied untaken size s =
     sym (stays-held size task.Receive [] step s refl
-    (unmoved task.Receive [] step (none-vain [] refl) (λ spir c. used-unsealed end.Cluster spir c task.Receive step sealed (said-none spir c step.verdict))
+    (unmoved task.Receive [] step (none-vain [] refl) (λ spir c. used-unsealed end.Cluster spir c task.Receive step sealed (said-receiving spir c step.verdict))
     (λ spir. ap (accepted spir) said ∙ unaccepted spir) (received-no-message step verdict said unreplied untaken) s) (held_at held s))
-
-pub ok-map : {X E : Type 0} {P Q : X → Type 0} → ((x : X) → P x → Q x) → (result : Result X E) → IfOk result P → IfOk result Q
-ok-map more (Ok x) holds = more x holds
-ok-map more (Err e) holds = tt
 
 -- what is found of messages by the place where an association is held
 pub find-there : {X : Type 0} (ike_of : X → IkeHeld) (held_by : ℕ → Option Held) (spii spir : ℕ) (held : Held) → held_by spir ≡ Some held → (result : Option X)

@@ -20,15 +20,18 @@ use Rattle.turn_rules.proofs.Readies.{ready-map}
 use Rattle.turn_rules.specs.Draws.{reach_of, refusal_of_stop}
 use Rattle.turn_rules.specs.Held.{Held}
 use Rattle.turn_rules.specs.IkeState.{kept_under, outstanding_after}
-use Rattle.turn_rules.specs.MemberMessages.{held_ike}
+use Rattle.turn_rules.specs.MemberMessages.{HeldSendsRequest, held_ike}
 use Rattle.turn_rules.specs.Messages.{SendsRequest}
 use Rattle.turn_rules.specs.Packets.{Inbound, Outbound}
 use Rattle.turn_rules.specs.Steps.{Says}
+use Rattle.turn_rules.specs.Tasks as task
 use Rattle.cluster_member.proofs.HeldMessages.{held_ike-is}
+use Rattle.cluster_member.proofs.Requests.{next-is}
 use Rattle.cluster_member.proofs.UsingIv.{uses-given, uses-stopped}
 use Rattle.cluster_member.specs.Holdings.{IsHolding, IsHorizon}
 use Rattle.cluster_member.specs.Numbers.{LeavesBoth, ReadiesBoth}
-use Rattle.cluster_member.specs.Requests.{AsksNext, asked_below}
+use Rattle.cluster_member.proofs.Uses.{AsksNext, asked_below}
+use Rattle.cluster_member.specs.Advances.{Advances}
 
 -- ---- the first of two horizons goes on at the same number
 
@@ -133,10 +136,11 @@ module _ (sa : Record) (epoch : ℕ) (esp_out esp_in iv ask answer : Reach) (out
       answered_from = is.answered_from;
     }
 
-    pub asks-stopped : (was : Held) → held ≡ was → (request : List ℕ) (step : Step) (why : Stop) → result ≡ Err why → Says (out.Refused (refusal_of_stop why)) step → AsksNext was request calls step (holding_of iv_now ask_now ike)
-    asks-stopped was view request step why stopped says = subst (λ h. AsksNext h request calls step (holding_of iv_now ask_now ike)) view (uses-stopped held (holding_of iv_now ask_now ike) counter.Ask ask.next
+    pub asks-stopped : (was : Held) → held ≡ was → (request : List ℕ) (step : Step) (why : Stop) → result ≡ Err why → Says (out.Refused (refusal_of_stop why)) step
+        → HeldSendsRequest was request calls step × Advances was (task.Ask was.sa.spir request) calls step (holding_of iv_now ask_now ike)
+    asks-stopped was view request step why stopped says = next-is was (holding_of iv_now ask_now ike) request calls step (subst (λ h. AsksNext h request calls step (holding_of iv_now ask_now ike)) view (uses-stopped held (holding_of iv_now ask_now ike) counter.Ask ask.next
         (λ high above. SendsRequest (held_ike held) ask.next iv.next request step × (holding_of iv_now ask_now ike ≡ asked_below high above step held)) calls step ask iv ask_now iv_now result ask_reach iv_reach both
-        why stopped says (λ a v i. holding_of (v i) (a i) ike) (λ high a v i. holding_of (v i) (a i) ike))
+        why stopped says (λ a v i. holding_of (v i) (a i) ike) (λ high a v i. holding_of (v i) (a i) ike)))
 
     -- the Message ID is used then
     module _ (jumped : Reach) (ike_now : IkeHeld) (step : Step) (jumps : jumped ≡ record ask_now { next = max ask_now.next (ask.next + 1) })
@@ -173,10 +177,11 @@ module _ (sa : Record) (epoch : ℕ) (esp_out esp_in iv ask answer : Reach) (out
             answered_from = subst (λ (m : IkeHeld). answer.base ≤ m.answered.low) (sym messages) is.answered_from;
           }
 
-      pub asks-next : (was : Held) → held ≡ was → (request : List ℕ) (number : Drawn) → result ≡ Ok number → SendsRequest ike ask.next iv.next request step → AsksNext was request calls step (holding_of iv_now jumped ike_now)
-      asks-next was view request number given sends = subst (λ h. AsksNext h request calls step (holding_of iv_now jumped ike_now)) view (uses-given held (holding_of iv_now jumped ike_now) counter.Ask ask.next
+      pub asks-next : (was : Held) → held ≡ was → (request : List ℕ) (number : Drawn) → result ≡ Ok number → SendsRequest ike ask.next iv.next request step
+          → HeldSendsRequest was request calls step × Advances was (task.Ask was.sa.spir request) calls step (holding_of iv_now jumped ike_now)
+      asks-next was view request number given sends = next-is was (holding_of iv_now jumped ike_now) request calls step (subst (λ h. AsksNext h request calls step (holding_of iv_now jumped ike_now)) view (uses-given held (holding_of iv_now jumped ike_now) counter.Ask ask.next
           (λ high above. SendsRequest (held_ike held) ask.next iv.next request step × (holding_of iv_now jumped ike_now ≡ asked_below high above step held)) calls step ask iv ask_now iv_now result ask_reach iv_reach both
           number given
           (λ high above a v.
           let now : jumped ≡ record ask { next = ask.next + 1; high = high } = jumps ∙ (λ i. record (a i) { next = jumped_next i }) in
-          (subst (λ m. SendsRequest m ask.next iv.next request step) (sym (held_ike-is held ask ike is.messages)) sends, λ i. holding_of (v i) (now i) (messages i))))
+          (subst (λ m. SendsRequest m ask.next iv.next request step) (sym (held_ike-is held ask ike is.messages)) sends, λ i. holding_of (v i) (now i) (messages i)))))

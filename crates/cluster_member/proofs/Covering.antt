@@ -10,11 +10,11 @@ use Rattle.keeper_book.specs.declared.counters.Counter.{Counter}
 use Rattle.keeper_book.specs.declared.counters.Five.{Five}
 use Rattle.keeper_book.specs.declared.records.Taken.{Taken}
 use Rattle.turn_rules.proofs.Readies.{AreCovers, AreVain}
-use Rattle.turn_rules.proofs.Ties.{five_at-five_of}
+use Rattle.turn_rules.proofs.Ties.{five_at-five_of, greatest-max}
 use Rattle.turn_rules.specs.Held.{Held, after_number, after_received, covered, covers_in, first_some, five_of, grant_in, granted, greatest, received_in, used_in}
 use Rattle.turn_rules.specs.IkeState.{answered_after, outstanding_after, replied_in, request_in, response_in}
 use Rattle.turn_rules.specs.Tasks.{Task}
-use Rattle.cluster_member.proofs.Advancing.{Advances}
+use Rattle.cluster_member.specs.Advances.{Advances}
 
 -- calls that granted nothing, by which the highs of what is held became these, and that covered nothing else
 pub record AreCoversTo (held : Held) (calls : List Call) (highs : Five) : Type 0 where
@@ -32,16 +32,9 @@ vain-covers held calls vain = record {
 pub one-covers : (held : Held) (c : Counter) (high : ℕ) (calls : List Call) → AreCovers held c calls high → AreCoversTo held calls (with_five c high held.highs)
 one-covers held c high calls covers = record { no_grant = covers.no_grant; elsewhere = covers.elsewhere; here = covers.here }
 
-max-greatest : (n least : ℕ) (ns : List ℕ) → greatest (max n least) ns ≡ max n (greatest least ns)
-max-greatest n least [] = refl
-max-greatest n least (m ∷ ns) = ap (max m) (max-greatest n least ns) ∙ swapped m n (greatest least ns)
-  where
-    swapped : (a b c : ℕ) → max a (max b c) ≡ max b (max a c)
-    swapped a b c = omega arith
-
 greatest-then : (least : ℕ) (xs ys : List ℕ) → greatest least (xs ++ ys) ≡ greatest (greatest least xs) ys
 greatest-then least [] ys = refl
-greatest-then least (x ∷ xs) ys = ap (max x) (greatest-then least xs ys) ∙ sym (max-greatest x (greatest least xs) ys)
+greatest-then least (x ∷ xs) ys = ap (max x) (greatest-then least xs ys) ∙ sym (greatest-max x (greatest least xs) ys)
 
 grant-then : (spir : ℕ) (xs ys : List Call) → grant_in spir xs ≡ None → grant_in spir ys ≡ None → grant_in spir (xs ++ ys) ≡ None
 grant-then spir [] ys first second = second

@@ -2,6 +2,7 @@ pub mod Advancing
 pub mod Answers
 pub mod Arriving
 pub mod Asked
+pub mod AtPlace
 pub mod Covering
 pub mod GenuineLaws
 pub mod HeldMessages
@@ -13,4 +14,5 @@ pub mod ReceiverLemmas
 pub mod Requests
 pub mod Sending
 pub mod Taking
+pub mod Uses
 pub mod UsingIv

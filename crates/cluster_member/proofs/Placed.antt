@@ -16,9 +16,10 @@ use Rattle.turn_rules.specs.Packets.{IsVerdictOf}
 use Rattle.turn_rules.specs.Steps.{IsQuiet, Says}
 use Rattle.turn_rules.specs.Tasks as task
 use Rattle.turn_rules.specs.Tasks.{Task}
-use Rattle.cluster_member.proofs.Advancing.{Advances, received-no-message, refused-unmoved, unmoved}
+use Rattle.cluster_member.proofs.Advancing.{received-no-message, refused-unmoved, unmoved}
 use Rattle.cluster_member.specs.Members.{HoldsAfter, HoldsOn}
 use Rattle.cluster_member.specs.Places.{KeepsOthers}
+use Rattle.cluster_member.specs.Advances.{Advances}
 
 module _ (size : ℕ) (asked : Task) (calls : List Call) (step : Step) where
   -- a turn that grants nothing of an association, and makes nothing of it

@@ -50,7 +50,7 @@ module _ {P Q : Stop → List Call → Type 0} {G H : ℕ → List Call → Type
       covers [] c = absurd c
       covers (call ∷ rest) c = (c.0, answered-onto (λ why. stops why rest) (goes (cover_of h at) rest) (seen call) c.1)
 
-no-stop : (admitted : Result (Unit {0}) Stop) (why : Stop) → admitted ≡ Ok tt → admitted ≡ Err why → ⊥
+pub no-stop : (admitted : Result (Unit {0}) Stop) (why : Stop) → admitted ≡ Ok tt → admitted ≡ Err why → ⊥
 no-stop admitted why is other = cc
 
 pub no-number : (number : Drawn) (result : Result Drawn Stop) (why : Stop) → result ≡ Ok number → result ≡ Err why → ⊥

@@ -7,7 +7,7 @@ use Rattle.events.specs.declared.verdict.Refusal.TheVariants as refusal
 use Rattle.events.specs.declared.verdict.Verdict.TheVariants as out
 use Rattle.ha_base.specs.declared.counter_names.CounterName.{CounterName}
 use Rattle.ha_base.specs.declared.counter_names.End.TheVariants as end
-use Rattle.ike_window.specs.Asking.{IsLeast}
+use Rattle.ike_window.specs.Asking.{FitsBeside, IsLeast}
 use Rattle.ike_window.specs.Kept.{message_ids_of}
 use Rattle.ike_window.specs.declared.TheConstants.{WINDOW}
 use Rattle.keeper_book.specs.Counters.{five_at, with_five}
@@ -25,10 +25,11 @@ use Rattle.turn_rules.specs.Messages.{SendsRequest, Windowed}
 use Rattle.turn_rules.specs.Steps.{Says}
 use Rattle.turn_rules.specs.Tasks as task
 use Rattle.turn_rules.specs.Tasks.{Task}
-use Rattle.cluster_member.proofs.Advancing.{Advances, refused-advances}
+use Rattle.cluster_member.proofs.Advancing.{refused-advances}
 use Rattle.cluster_member.proofs.Covering.{AreCoversTo, message-advances}
 use Rattle.cluster_member.proofs.UsingIv.{with-iv-elim, with-iv-rule}
-use Rattle.cluster_member.specs.Requests.{AsksNext, AsksRequest, asked_below}
+use Rattle.cluster_member.proofs.Uses.{AsksNext, asked_below}
+use Rattle.cluster_member.specs.Advances.{Advances}
 
 first-only : (b : Bool) (n : ℕ) → first_some (if b then Some n else None) None ≡ (if b then Some n else None)
 first-only true n = refl
@@ -128,40 +129,29 @@ module _ (held now : Held) (request : List ℕ) (calls : List Call) (step : Step
       (λ why highs covers says same. raised-refused (task.Ask held.sa.spir request) calls step held now highs (refusal_of_stop why) covers says same)
       (λ high above covers s. request-advances request calls step held now s.0 high above covers s.1)
 
-  pub asks-rule : AsksRequest held request calls step now → HeldAsks held request calls step
-  asks-rule = by_test held.synced
-    where
-      by_test : (b : Bool) → MatchBool b
-          (Windowed (held_ike held) held.nexts.ask (λ least. RefusesThen (refusal.WindowFull least) calls step × (now ≡ held)) (AsksNext held request calls step now))
-          (RefusesThen refusal.NotSynced calls step × (now ≡ held))
-          → MatchBool b
-          (Windowed (held_ike held) held.nexts.ask (λ least. RefusesThen (refusal.WindowFull least) calls step) (HeldSendsRequest held request calls step))
-          (RefusesThen refusal.NotSynced calls step)
-      by_test true w = ⊎_elim (λ f. inl (f.0, next-rule f.1)) (λ r. inr (r.0, r.1, r.2, r.3.0)) w
-      by_test false s = s.0
+  pub next-is : AsksNext held request calls step now → HeldSendsRequest held request calls step × Advances held (task.Ask held.sa.spir request) calls step now
+  next-is it = (next-rule it, next-advances it)
 
-  pub asks-advances : AsksRequest held request calls step now → Advances held (task.Ask held.sa.spir request) calls step now
-  asks-advances = by_test held.synced
-    where
-      refused : (why : Refusal) → RefusesThen why calls step × (now ≡ held) → Advances held (task.Ask held.sa.spir request) calls step now
-      refused why s = refused-advances (task.Ask held.sa.spir request) calls step held now why (none-vain calls s.0.0) s.0.1 s.1
+-- what the tests of the epoch and of the window leave
+module _ (held : Held) (request : List ℕ) (calls : List Call) (step : Step) where
+  abbrev Tested : Bool → Type 0
+  Tested b = MatchBool b
+      (Windowed (held_ike held) held.nexts.ask (λ least. RefusesThen (refusal.WindowFull least) calls step) (HeldSendsRequest held request calls step))
+      (RefusesThen refusal.NotSynced calls step)
 
-      by_test : (b : Bool) → MatchBool b
-          (Windowed (held_ike held) held.nexts.ask (λ least. RefusesThen (refusal.WindowFull least) calls step × (now ≡ held)) (AsksNext held request calls step now))
-          (RefusesThen refusal.NotSynced calls step × (now ≡ held))
-          → Advances held (task.Ask held.sa.spir request) calls step now
-      by_test true w = ⊎_elim (λ f. next-advances f.1) (λ r. refused (refusal.WindowFull r.0) r.3) w
-      by_test false s = refused refusal.NotSynced s
+  pub asks-fitting : held.synced ≡ true → FitsBeside held.nexts.ask held.asked → HeldSendsRequest held request calls step → HeldAsks held request calls step
+  asks-fitting synced fits sends = subst Tested (sym synced) (inl (fits, sends))
 
 -- ---- a request that is refused before a call
 
 module _ (held now : Held) (request : List ℕ) (step : Step) (same : now ≡ held) where
-  pub asks-unsynced : held.synced ≡ false → Says (out.Refused refusal.NotSynced) step → AsksRequest held request [] step now
-  asks-unsynced synced says = subst (λ b. MatchBool b
-      (Windowed (held_ike held) held.nexts.ask (λ least. RefusesThen (refusal.WindowFull least) [] step × (now ≡ held)) (AsksNext held request [] step now))
-      (RefusesThen refusal.NotSynced [] step × (now ≡ held))) (sym synced) ((refl, says), same)
+  refused : (why : Refusal) → Says (out.Refused why) step → Advances held (task.Ask held.sa.spir request) [] step now
+  refused why says = refused-advances (task.Ask held.sa.spir request) [] step held now why (none-vain [] refl) says same
 
-  pub asks-full : (least : ℕ) → held.synced ≡ true → IsLeast (message_ids_of held.asked) least → least + WINDOW ≤ held.nexts.ask → Says (out.Refused (refusal.WindowFull least)) step → AsksRequest held request [] step now
-  asks-full least synced is full says = subst (λ b. MatchBool b
-      (Windowed (held_ike held) held.nexts.ask (λ least. RefusesThen (refusal.WindowFull least) [] step × (now ≡ held)) (AsksNext held request [] step now))
-      (RefusesThen refusal.NotSynced [] step × (now ≡ held))) (sym synced) (inr (least, is, full, ((refl, says), same)))
+  pub asks-unsynced : held.synced ≡ false → Says (out.Refused refusal.NotSynced) step
+      → HeldAsks held request [] step × Advances held (task.Ask held.sa.spir request) [] step now
+  asks-unsynced synced says = (subst (Tested held request [] step) (sym synced) (refl, says), refused refusal.NotSynced says)
+
+  pub asks-full : (least : ℕ) → held.synced ≡ true → IsLeast (message_ids_of held.asked) least → least + WINDOW ≤ held.nexts.ask → Says (out.Refused (refusal.WindowFull least)) step
+      → HeldAsks held request [] step × Advances held (task.Ask held.sa.spir request) [] step now
+  asks-full least synced is full says = (subst (Tested held request [] step) (sym synced) (inr (least, is, full, (refl, says))), refused (refusal.WindowFull least) says)

@@ -18,7 +18,8 @@ use Rattle.turn_rules.specs.MemberMessages.{ReadiesWithIv, RefusesThen}
 use Rattle.turn_rules.specs.Steps.{Says}
 use Rattle.cluster_member.proofs.Covering.{AreCoversTo, one-covers, then-covers, vain-covers}
 use Rattle.cluster_member.proofs.Readying.{no-number, ready-first, same-refusal}
-use Rattle.cluster_member.specs.Numbers.{LeavesBoth, ReadiesBoth, UsesWithIv, covered_below}
+use Rattle.cluster_member.proofs.Uses.{UsesWithIv, covered_below}
+use Rattle.cluster_member.specs.Numbers.{LeavesBoth, ReadiesBoth}
 
 -- two horizons are those of what is held
 module _ (held now : Held) (c : Counter) (at : ℕ) (done : ℕ → ℕ → Type 0) (calls : List Call) (step : Step) where

@@ -1,9 +1,7 @@
-pub mod Answering
+pub mod Advances
 pub mod Arriving
 pub mod Genuine
 pub mod Holdings
 pub mod Members
 pub mod Numbers
 pub mod Places
-pub mod Requests
-pub mod Uses

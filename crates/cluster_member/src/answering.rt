@@ -1,11 +1,15 @@
-ghost use Rattle.std.specs.Prelude.{◌≡◌, ◌≢◌, ◌<◌, IfOk, IsOk, MatchOption, OnErr};
-ghost use Rattle.cluster_member.specs.Answering.{AnswersNext, EndsRequest};
+ghost use Rattle.std.specs.Prelude.{◌≡◌, ◌≢◌, ◌<◌, [], IfOk, IsOk, MatchOption, OnErr};
+ghost use Rattle.cluster_member.specs.Advances.{Advances};
 ghost use Rattle.ha_base.specs.declared.services.TheConstants.{MOST_REQUESTS};
 ghost use Rattle.ike_window.specs.Requests.{IsNewRequest};
 ghost use Rattle.ike_window.specs.Windows.{IsAnswered};
 ghost use Rattle.keeper_book.specs.Asks.{AsksFor};
-ghost use Rattle.turn_rules.specs.MemberMessages.{held_ike};
+ghost use Rattle.keeper_book.specs.declared.counters.Counter.TheVariants as counter;
+ghost use Rattle.turn_rules.specs.Draws.{counter_name};
+ghost use Rattle.turn_rules.specs.MemberMessages.{HeldAnswers, held_ike};
+ghost use Rattle.turn_rules.specs.Messages.{TakesInner};
 ghost use Rattle.turn_rules.specs.Services.{Serves};
+ghost use Rattle.turn_rules.specs.Tasks as task;
 
 use crate::holding::{Holding, name_of};
 use crate::ready::ready_with_iv;
@@ -45,7 +49,8 @@ impl Holding {
             request.now.header.id }
         requires room { count service.old < MOST_REQUESTS }
         ensures answers { AsksFor K.Keeper keeper.old keeper.new
-            (λ calls. AnswersNext self.old request.now calls result self.new) }
+            (λ calls. HeldAnswers self.old request.now calls result
+            × Advances self.old task.Receive calls result self.new) }
         ensures serves { Serves count last gives service.old result.served service.new }
         ensures sa { self.new.sa ≡ self.old.sa }
     {
@@ -63,7 +68,10 @@ impl Holding {
     /// and nothing has changed then.
     pub fn take_response(&mut self, alloc: Global, response: &Opened) -> Result<Step, Memory>
         requires good { IsOk response.now.inner }
-        ensures takes { IfOk result (λ step. EndsRequest self.old response.now step self.new) }
+        ensures takes { IfOk result (λ step.
+            TakesInner (counter_name self.old.sa counter.Ask)
+            response.now.header.id response.now.inner step
+            × Advances self.old task.Receive [] step self.new) }
         ensures err { OnErr result (self.new ≡ self.old) }
         ensures sa { self.new.sa ≡ self.old.sa }
     {

@@ -3,11 +3,11 @@ ghost use Rattle.ha_base.specs.declared.services.TheConstants.{LONGEST_REQUEST};
 ghost use Rattle.ike_window.specs.Asking.{FitsBeside};
 ghost use Rattle.keeper_book.specs.Asks.{AsksFor};
 ghost use Rattle.turn_rules.specs.Held.{held_at};
-ghost use Rattle.turn_rules.specs.MemberMessages.{AsksOf, ResendsOf, held_ike};
+ghost use Rattle.turn_rules.specs.MemberMessages.{AsksOf, HeldAsks, HeldSendsRequest, ResendsOf, held_ike};
 ghost use Rattle.turn_rules.specs.Messages.{Resends};
 ghost use Rattle.turn_rules.specs.Tasks as task;
 ghost use Rattle.cluster_member.specs.Members.{HoldsOn, IsAfter};
-ghost use Rattle.cluster_member.specs.Requests.{AsksNext, AsksRequest};
+ghost use Rattle.cluster_member.specs.Advances.{Advances};
 
 use crate::holding::Holding;
 use crate::holdings::{Holdings, not_owner, place_of};
@@ -24,7 +24,8 @@ impl Holding {
     /// Sends a request under the next Message ID (RFC 7296, sections 2.2 and 2.3).
     pub(crate) fn send_request<K: Keeper>(&mut self, keeper: &mut K, room: RequestRoom) -> Step
         ensures asks { AsksFor K.Keeper keeper.old keeper.new
-            (λ calls. AsksRequest self.old room calls result self.new) }
+            (λ calls. HeldAsks self.old room calls result
+            × Advances self.old (task.Ask self.old.sa.spir room) calls result self.new) }
         ensures sa { self.new.sa ≡ self.old.sa }
     {
         if self.epoch != 1 {
@@ -40,7 +41,8 @@ impl Holding {
     fn send_next<K: Keeper>(&mut self, keeper: &mut K, room: RequestRoom) -> Step
         requires fits { FitsBeside self.old.nexts.ask self.old.asked }
         ensures asks { AsksFor K.Keeper keeper.old keeper.new
-            (λ calls. AsksNext self.old room calls result self.new) }
+            (λ calls. HeldSendsRequest self.old room calls result
+            × Advances self.old (task.Ask self.old.sa.spir room) calls result self.new) }
         ensures sa { self.new.sa ≡ self.old.sa }
     {
         let id = self.ask.next();

@@ -1,11 +1,15 @@
-ghost use Rattle.std.specs.Prelude.{◌≡◌, ◌<◌, ◌≤◌, [], Ok, length};
+ghost use Rattle.std.specs.Prelude.{◌≡◌, ◌<◌, ◌≤◌, ℕ, List, [], Ok, length};
 ghost use Rattle.keeper_book.specs.CounterEnds.{end_of};
 ghost use Rattle.keeper_book.specs.Counters.{AreWithinEnds};
 ghost use Rattle.keeper_book.specs.declared.counters.Counter.TheVariants as counter;
 ghost use Rattle.replay_set.specs.Window.{IsWindowSize, judged};
 ghost use Rattle.replay_set.specs.declared.judgement.Judgement.TheVariants as judgement;
 ghost use Rattle.cluster_member.specs.Holdings.{TookPacket};
-ghost use Rattle.cluster_member.specs.Uses.{DrawsNext, Notes, NotesPacket, SendsNext};
+ghost use Rattle.cluster_member.specs.Advances.{Advances, AdvancesByPacket};
+ghost use Rattle.turn_rules.specs.Draws.{Draws};
+ghost use Rattle.turn_rules.specs.Fits.{Quietly};
+ghost use Rattle.turn_rules.specs.MemberPackets.{ReceivesPacket, SendsData, TakesPacket};
+ghost use Rattle.turn_rules.specs.Tasks as task;
 ghost use Rattle.keeper_book.specs.Asks.{AsksFor};
 ghost use Rattle.ha_base.specs.KeySizes.{HasKeySize};
 ghost use Rattle.ike_window.specs.Stored.{no_responses};
@@ -225,7 +229,8 @@ impl Holding {
     /// Draws the next ESP number and gives it up.
     pub fn draw<K: Keeper>(&mut self, keeper: &mut K) -> Step
         ensures draws { AsksFor K.Keeper keeper.old keeper.new
-            (λ calls. DrawsNext self.old calls result self.new) }
+            (λ calls. Quietly (Draws self.old) calls result
+            × Advances self.old (task.Draw self.old.sa.spir) calls result self.new) }
         ensures sa { self.new.sa ≡ self.old.sa }
     {
         match self.esp_out.send_number(keeper) {
@@ -243,7 +248,8 @@ impl Holding {
         requires size { length payload.now ≤ PAYLOAD_OCTETS }
         requires room { length payload.now ≤ room }
         ensures sends { AsksFor K.Keeper keeper.old keeper.new
-            (λ calls. SendsNext self.old payload.now calls result self.new) }
+            (λ calls. SendsData self.old payload.now calls result × Advances self.old
+            (task.Send self.old.sa.spir payload.now) calls result self.new) }
         ensures sa { self.new.sa ≡ self.old.sa }
     {
         match self.esp_out.send_number(keeper) {
@@ -258,7 +264,8 @@ impl Holding {
         requires from_base { self.old.window.base ≤ packet.number }
         requires below { packet.number < end_of self.old.sa counter.EspIn }
         ensures takes { AsksFor K.Keeper keeper.old keeper.new
-            (λ calls. Notes self.old (Ok packet) calls result self.new) }
+            (λ calls. TakesPacket self.old (Ok packet) calls result
+            × ((after : List ℕ) → AdvancesByPacket self.old calls result after self.new)) }
         ensures same { TookPacket packet result }
         ensures sa { self.new.sa ≡ self.old.sa }
     {
@@ -278,7 +285,8 @@ impl Holding {
     pub fn receive<K: Keeper>(&mut self, keeper: &mut K, bytes: &mut [u8]) -> EspVerdict
         requires { length bytes.old ≤ DATAGRAM_OCTETS }
         ensures receives { AsksFor K.Keeper keeper.old keeper.new
-            (λ calls. NotesPacket self.old bytes.old calls result bytes.new self.new) }
+            (λ calls. ReceivesPacket self.old bytes.old calls result bytes.new
+            × AdvancesByPacket self.old calls result bytes.new self.new) }
         ensures within { LiesWithin result (length bytes.new) }
         ensures sa { self.new.sa ≡ self.old.sa }
     {

@@ -14,6 +14,3 @@ mod refusals;
 pub use config::Config;
 pub use member::Member;
 pub use refusals::of_import;
-
-#[cfg(test)]
-mod tests;

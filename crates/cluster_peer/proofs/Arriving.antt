@@ -1,5 +1,6 @@
 -- What a message that came is to the associations of the peer, and what is done with it then.
 use Rattle.std.proofs.Common.{◌≡◌, ℕ, Bool, true, false, Option, Some, None, Result, Ok, Err, IfOk, IsSome, MatchBool, MatchOption, List, [], nat_lt, unwrap_or, refl, ap, sym, subst}
+use Rattle.std.proofs.lemmas.Option.{same_Some}
 use Rattle.std.specs.Option.{option_map}
 use Rattle.events.specs.declared.ike_outcomes.IkeDrop.{IkeDrop}
 use Rattle.events.specs.declared.ike_outcomes.IkeDrop.TheVariants as drop
@@ -20,16 +21,7 @@ use Rattle.sk_payload.specs.declared.open.Opened.{Opened}
 use Rattle.turn_rules.specs.Messages.{TakesArrival, TakesInner, TakesOrdinary}
 use Rattle.turn_rules.specs.PeerMessages.{has_spis, peer_listener, slot_ike}
 use Rattle.turn_rules.specs.Slots.{Slot, first_slot, peer_counter}
-use Rattle.cluster_peer.specs.Messages.{IsAwaitedThere, IsJudged, IsNewThere, IsRequestThere, IsThere, slot_for}
-
--- what follows of a value follows of a result
-pub ok-map : {A E : Type 0} {P Q : A → Type 0} (result : Result A E) → ((a : A) → P a → Q a) → IfOk result P → IfOk result Q
-ok-map (Ok a) f p = f a p
-ok-map (Err error) f p = p
-
-pub ok-map2 : {A E : Type 0} {P Q R : A → Type 0} (result : Result A E) → ((a : A) → P a → Q a → R a) → IfOk result P → IfOk result Q → IfOk result R
-ok-map2 (Ok a) f p q = f a p q
-ok-map2 (Err error) f p q = p
+use Rattle.cluster_peer.specs.Messages.{IsAwaitedThere, IsJudgedThere, IsNewOfSlot, IsRequestThere, IsThere, slot_for}
 
 -- ---- a request that is judged
 
@@ -54,7 +46,7 @@ module _ (slots : List Slot) (slot : Slot) (request : Opened) (answer : Arrival)
       go false within = window-there within.0 within.1 within.2
 
 -- a request to synchronise is taken as its association judged it
-pub judged-takes : (slots : List Slot) (request : Opened) (ordinary : Arrival) (step : Step) → IsJudged slots request ordinary → TakesOrdinary (peer_listener slots) ordinary [] step
+pub judged-takes : (slots : List Slot) (request : Opened) (ordinary : Arrival) (step : Step) → IsJudgedThere slots request ordinary → TakesOrdinary (peer_listener slots) ordinary [] step
     → TakesArrival (peer_listener slots) (arrival.Synchronisation request) [] step
 judged-takes slots request ordinary step is takes = go (slot_for slots request) is
   where
@@ -69,13 +61,10 @@ module _ (slots : List Slot) where
   abbrev held_under : ℕ → ℕ → Option IkeHeld
   held_under spii spir = option_map slot_ike (first_slot (has_spis spii spir) slots)
 
-  held-same : (a b : IkeHeld) → Some a ≡ Some b → a ≡ b
-  held-same a b same = ap (λ found. unwrap_or found a) same
-
   -- the association whose part on IKE messages was found
   slot-of : (o : Option Slot) (held : IkeHeld) → option_map slot_ike o ≡ Some held → (slot : Slot) × (o ≡ Some slot) × (slot_ike slot ≡ held)
   slot-of None held found = absurd (cc)
-  slot-of (Some slot) held found = (slot, refl, held-same (slot_ike slot) held found)
+  slot-of (Some slot) held found = (slot, refl, same_Some (slot_ike slot) held found)
 
   some-of : (o : Option Slot) → IsSome (option_map slot_ike o) → IsSome o
   some-of None some = some

@@ -11,20 +11,20 @@ use Rattle.turn_rules.specs.PeerMessages.{peer_keys}
 use Rattle.turn_rules.specs.Slots.{peer_counter}
 
 -- the numbers that are left are those of the peer's counter, up to its end
-pub record AreNumbersOf (sa : Record) (c : Counter) (lot : Remaining) : Type 0 where
+pub record AreSlotNumbers (sa : Record) (c : Counter) (lot : Remaining) : Type 0 where
   pub name : lot.name ≡ peer_counter sa c
   pub end : lot.end ≡ end_of sa c
 
 -- what is held of IKE messages is held with the keys of the record, and the peer may answer
 pub record IsIkeOfRecord (sa : Record) (ivs : Remaining) (ike : IkeHeld) : Type 0 where
-  pub numbers : AreNumbersOf sa counter.Iv ivs
+  pub numbers : AreSlotNumbers sa counter.Iv ivs
   pub keys : ike.keys ≡ peer_keys sa
   pub synced : ike.synced ≡ true
 
 -- the numbers that are left, and what is sent and received with, are those of the record
 pub record IsOfRecord (sa : Record) (lot : Remaining) (outbound : Outbound)
     (inbound : Inbound) : Type 0 where
-  pub numbers : AreNumbersOf sa counter.EspOut lot
+  pub numbers : AreSlotNumbers sa counter.EspOut lot
   pub sent_name : outbound.key.name ≡ peer_counter sa counter.EspOut
   pub sent_key : outbound.key.octets ≡ sa.child.to_cluster
   pub sent_spi : outbound.spi ≡ sa.spi_in

@@ -8,6 +8,3 @@ mod peer;
 mod slots;
 
 pub use peer::Peer;
-
-#[cfg(test)]
-mod tests;

@@ -8,7 +8,7 @@ ghost use Rattle.turn_rules.specs.PeerMessages.{PeerAsks, PeerResends, has_spis,
 ghost use Rattle.turn_rules.specs.Services.{Serves};
 ghost use Rattle.turn_rules.specs.Slots.{first_slot, slot_after};
 ghost use Rattle.turn_rules.specs.Tasks as task;
-ghost use Rattle.cluster_peer.specs.Messages.{IsAwaitedThere, IsJudged, IsNewThere, IsRequestThere, IsThere, slot_for};
+ghost use Rattle.cluster_peer.specs.Messages.{IsAwaitedThere, IsJudgedThere, IsNewOfSlot, IsRequestThere, IsThere, slot_for};
 ghost use Rattle.cluster_peer.specs.Slots.{IsFirstSlot};
 ghost use Rattle.ike_sas.specs.declared.arrival.Arrival.TheVariants as arrival;
 
@@ -150,7 +150,7 @@ impl Slots {
     // What a request is to the association that has its SPIs. An error is want of memory.
     fn judge(&self, alloc: Global, request: Opened) -> Result<Arrival, Memory>
         requires held { IsSome (slot_for self.now.slots request) }
-        ensures judged { IfOk result (IsJudged self.now.slots request) }
+        ensures judged { IfOk result (IsJudgedThere self.now.slots request) }
         ensures there { IfOk result (IsRequestThere self.now.slots) }
     {
         let header = &request.header;
@@ -168,7 +168,7 @@ impl Slots {
         service: &mut Box<dyn Service>,
         request: &Opened,
     ) -> Result<Step, Memory>
-        requires new { IsNewThere self.old.slots request.now }
+        requires new { IsNewOfSlot self.old.slots request.now }
         requires room { count service.old < MOST_REQUESTS }
         ensures takes { IfOk result (TakesOrdinary (peer_listener self.old.slots)
             (arrival.New request.now) []) }

@@ -46,7 +46,7 @@ pub fn name_at(end: End, sa: &Record, counter: Counter) -> CounterName
 }
 
 /// What the IKE messages of an association are sealed and opened with at the peer.
-#[tactic(auto, using(crate::proofs::KeySizes::sized_initiator, crate::proofs::KeySizes::sized_responder))]
+#[tactic(auto, using(crate::proofs::KeySizes::sized_sk_ei, crate::proofs::KeySizes::sized_sk_er))]
 pub fn ike_keys(sa: &Record) -> IkeKeys
     ensures { result ≡ peer_keys sa.now }
 {

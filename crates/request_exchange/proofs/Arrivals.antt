@@ -17,15 +17,7 @@ use Rattle.ike_window.specs.declared.judged.Judged.{Judged}
 use Rattle.ike_window.specs.declared.judged.Judged.TheVariants as judged
 use Rattle.request_exchange.specs.Given.{IsAwaited, IsFitting}
 use Rattle.sk_payload.specs.declared.open.Opened.{Opened}
-
-by_bool : {X Y Z : Type 0} (b : Bool) → (X → Z) → (Y → Z) → MatchBool b X Y → Z
-by_bool true left right is = left is
-by_bool false left right is = right is
-
-by_option : {A X Z : Type 0} {Y : A → Type 0} (o : Option A) → (o ≡ None → X → Z) → ((a : A) → o ≡ Some a → Y a → Z) →
-    MatchOption o X Y → Z
-by_option None none some is = none refl is
-by_option (Some a) none some is = some a refl is
+use Rattle.turn_rules.proofs.Cases.{by_bool, by_option}
 
 good_inner : (inner : Result (List PayloadValue) Bad) → bad_in inner ≡ None → IsOk inner
 good_inner (Ok payloads) none = refl

@@ -20,7 +20,7 @@ use Rattle.turn_rules.specs.Messages.{GivesAgain, Resends, SendsRequest, Windowe
 use Rattle.turn_rules.specs.PeerMessages.{PeerAsks, PeerResends, SlotAsks, SlotSendsRequest, slot_ike}
 use Rattle.turn_rules.specs.Slots.{Slot, first_slot, has_spir}
 use Rattle.turn_rules.specs.Steps.{Says}
-use Rattle.cluster_member.proofs.KeySizes.{sized_sk_ei, sized_sk_er}
+use Rattle.turn_rules.proofs.KeySizes.{sized_sk_ei, sized_sk_er}
 use Rattle.run_ends.proofs.Holding.{IsOfEnd}
 use Rattle.run_ends.proofs.MessageBounds.{request-few, sends_message-brief}
 use Rattle.run_ends.proofs.Messages.{again-brief, first-short, readies-fold, says-proper}

@@ -54,7 +54,7 @@ use Rattle.turn_rules.specs.Messages.{AnswersRequest, DropsMessage, ExecutesRequ
 use Rattle.turn_rules.specs.PeerMessages.{SlotAnswers, has_spis, peer_listener, slot_ike}
 use Rattle.turn_rules.specs.Slots.{Slot, first_slot, peer_counter}
 use Rattle.turn_rules.specs.Steps.{Says}
-use Rattle.cluster_member.proofs.KeySizes.{sized_sk_ei, sized_sk_er}
+use Rattle.turn_rules.proofs.KeySizes.{sized_sk_ei, sized_sk_er}
 use Rattle.run_ends.proofs.Holding.{IsOfEnd}
 use Rattle.run_ends.proofs.MessageBounds.{IsBrief, answer-few, sends_message-brief}
 use Rattle.run_ends.proofs.ShortKept.{AreShort, HeldKeepsShort, KeepsShort, SlotsKeepShort, kept-short}

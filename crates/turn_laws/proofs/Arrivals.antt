@@ -26,12 +26,9 @@ use Rattle.ike_window.specs.declared.judged.Judged.TheVariants as judged
 use Rattle.keeper_book.specs.declared.calls.Call.{Call}
 use Rattle.sk_payload.specs.declared.open.Opened.{Opened}
 use Rattle.turn_laws.proofs.Deeds.{IsIdle, Rests, says-rests}
+use Rattle.turn_rules.proofs.Cases.{by_bool}
 use Rattle.turn_rules.specs.Messages.{GivesAgain, Listener, TakesArrival, TakesInner, TakesMessage, TakesOrdinary, held_for}
 use Rattle.std.specs.Prelude.{nat_lt, ◌==◌, ◌&&◌}
-
-by_bool : {X Y Z : Type 0} (b : Bool) → (X → Z) → (Y → Z) → MatchBool b X Y → Z
-by_bool true f g x = f x
-by_bool false f g x = g x
 
 by_option : {A X Z : Type 0} {Y : A → Type 0} (o : Option A) → (X → Z) → ((a : A) → Y a → Z) → MatchOption o X Y → Z
 by_option None f g x = f x

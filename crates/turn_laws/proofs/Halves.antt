@@ -15,7 +15,7 @@ use Rattle.keeper_book.specs.declared.pools.Pool.TheVariants as pools
 use Rattle.turn_laws.proofs.Columns.{mark-high}
 use Rattle.turn_rules.proofs.SlotTies.{all-weaker}
 use Rattle.turn_laws.proofs.Begun.{entry-spir}
-use Rattle.turn_laws.proofs.Keeping.{import-unopened}
+use Rattle.turn_laws.proofs.Keeping.{column_half-none, import-unopened}
 use Rattle.turn_laws.specs.Acts.{Act, HoldsFor, IsHalfOpen, begun_at, column_at, half_begun, holding_at, numbers_at, uses_at, Opened, opened_at, IsImport}
 use Rattle.turn_laws.specs.Columns.{Column, ColumnGoesOn, nothing, column_mark}
 use Rattle.turn_laws.specs.Holdings.{Actor, Half, Holding, IsNotIn, IsOwned, MayUse, Run, Use, column_begun, IsUseOf, End}
@@ -38,10 +38,6 @@ half-may acts key spir place iv half = subst (λ p. HoldsFor (holding_at p acts 
   holds = half;
   may = record { from_base = omega (arith, iv); below_high = omega (arith, iv); unused = tt };
 })
-
-half-nothing : (c : Counter) → column_half c None ≡ nothing
-half-nothing counter.Iv = refl
-half-nothing c = refl
 
 module _ (acts : List Act) (book : Book) (owned : Owned acts book) where
   pub half-alone : (spir : ℕ) → IsHalfOpen acts spir → (v : Actor) (h : Holding) → holding_at (Ours spir counter.Iv) acts v ≡ Some h → h.epoch ≡ 1 → v ≡ Half spir
@@ -76,7 +72,7 @@ module _ (acts : List Act) (book : Book) (owned : Owned acts book) where
       begun None e more = absurd (none more)
         where
           is_nothing : begun_at (Ours spir c) acts ≡ nothing
-          is_nothing = owned.begun spir c ∙ ap (column_half c) e ∙ half-nothing c
+          is_nothing = owned.begun spir c ∙ ap (column_half c) e ∙ column_half-none c
 
           none : 0 < length (begun_at (Ours spir c) acts).bases → ⊥
           none more = let zero_long : 0 < length nothing.bases = subst (λ (x : Column). 0 < length x.bases) is_nothing more in omega arith

@@ -35,6 +35,7 @@ mod MemberRequests
 mod PeerRequests
 mod Explained
 mod Records
+mod Taken
 mod Outcomes
 mod Moves
 mod Numbers

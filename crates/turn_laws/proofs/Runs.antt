@@ -24,6 +24,7 @@ use Rattle.turn_laws.specs.Columns.{Column}
 use Rattle.turn_laws.specs.Holdings.{Actor, Begins, Draws, Effect, End, Half, Holding, Jumps, Nothing, Passes, Rises, Run, holding_after, is_actor, raised_to}
 use Rattle.turn_laws.specs.Owned.{Lawful, WritesBook}
 use Rattle.turn_laws.specs.Places.{Ours, Place, Pooled, Theirs, is_place, place_of}
+use Rattle.turn_rules.proofs.Ties.{greatest-max}
 use Rattle.turn_rules.specs.Ends.{Member, Peer, Performer, is_performer}
 use Rattle.turn_rules.specs.Held.{covered, covers_in, first_some, grant_in, granted, greatest}
 use Rattle.keeper_book.specs.declared.pools.Pool.TheVariants as pools
@@ -194,11 +195,6 @@ is_performer-sym (Member a) (Member b) = ⊎_elim
     (λ t. t.0 ∙ sym (⊎_elim (λ s. s.0) (λ s. absurd (s.1 (sym t.1))) (eqb_tells b a)))
     (λ f. f.0 ∙ sym (⊎_elim (λ s. absurd (f.1 (sym s.1))) (λ s. s.0) (eqb_tells b a)))
     (eqb_tells a b)
-
--- the greatest of more numbers
-pub greatest-max : (n least : ℕ) (ns : List ℕ) → greatest (max n least) ns ≡ max n (greatest least ns)
-greatest-max n least [] = refl
-greatest-max n least (x ∷ xs) = let rest : greatest (max n least) xs ≡ max n (greatest least xs) = greatest-max n least xs in omega arith
 
 pub greatest-least : (least : ℕ) (ns : List ℕ) → least ≤ greatest least ns
 greatest-least least [] = omega arith

@@ -6,6 +6,7 @@ use Rattle.events.specs.declared.event.Event.{Event}
 use Rattle.events.specs.declared.turn.Served.{Served}
 use Rattle.events.specs.declared.turn.Turn.{Turn}
 use Rattle.ha_base.specs.Services.{ReplyRelation}
+use Rattle.turn_laws.proofs.Holdings.{is_performer-true}
 use Rattle.turn_laws.proofs.Serving.{serves-named}
 use Rattle.turn_laws.specs.Serving.{GoesOn, HaveServed, KeepServices, LentFor, ServesNamed, ServesThere, end_named, ends_in, served_for}
 use Rattle.turn_rules.specs.Ends.{Member, Peer, Performer, is_by, is_end, is_performer, performer}
@@ -14,12 +15,6 @@ use Rattle.turn_rules.specs.Genuine.{IsUp}
 use Rattle.turn_rules.specs.Local.{Explained}
 use Rattle.turn_rules.specs.Services.{Executes, Serves}
 use Rattle.turn_rules.specs.States.{ended_in, ends, has_ended, is_number, joins}
-
-performer-same : (a b : Performer) → is_performer a b ≡ true → a ≡ b
-performer-same Peer Peer e = refl
-performer-same Peer (Member b) e = absurd (cc)
-performer-same (Member a) Peer e = absurd (cc)
-performer-same (Member a) (Member b) e = ap Member (eqb-true a b e)
 
 module _ {B : Type 0} (count : B → ℕ) (last : B → Option (List ℕ)) (gives : B → ReplyRelation) (places : ℕ) (past : List Turn) (turn : Turn) (old acted new : Performer → Option B) where
   abbrev There : Option B → Option Served → Option B → Type 0
@@ -78,7 +73,7 @@ module _ {B : Type 0} (count : B → ℕ) (last : B → Option (List ℕ)) (give
         subst (λ x. There (old end) x (acted end)) (sym nothing) (subst (λ y. There (old end) None y) (sym all) (stays-there (old end)))
       where
         by_lent : (b : Bool) → is_performer end lent ≡ b → acted lent ≡ old lent → acted end ≡ old end
-        by_lent true e idle = let same : end ≡ lent = performer-same end lent e in ap acted same ∙ idle ∙ ap old (sym same)
+        by_lent true e idle = let same : end ≡ lent = is_performer-true end lent e in ap acted same ∙ idle ∙ ap old (sym same)
         by_lent false e idle = lending.others end e
 
         for_none : (b : Bool) → is_by end turn ≡ b → served_for end turn ≡ None
@@ -94,7 +89,7 @@ module _ {B : Type 0} (count : B → ℕ) (last : B → Option (List ℕ)) (give
 
         by_end : (b : Bool) → is_performer end lent ≡ b → There (old end) (served_for end turn) (acted end)
         by_end true e =
-            let same : end ≡ lent = performer-same end lent e in
+            let same : end ≡ lent = is_performer-true end lent e in
             let by : is_by end turn ≡ true = by_is true e in
             let it : served_for end turn ≡ turn.step.served = rw by refl in
             subst (λ x. There (old end) x (acted end)) (sym it) (subst (λ k. There (old k) turn.step.served (acted k)) (sym same) lending.serves)

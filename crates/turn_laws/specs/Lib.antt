@@ -1,4 +1,5 @@
 pub mod Acts
+pub mod Answered
 pub mod Columns
 pub mod FirstDelivery
 pub mod Holdings

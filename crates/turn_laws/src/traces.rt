@@ -12,7 +12,9 @@ ghost use Rattle.keeper_book.specs.declared.calls.KeeperAsk.TheVariants as ask;
 ghost use Rattle.keeper_book.specs.declared.counters.Counter.{Counter};
 ghost use Rattle.keeper_book.specs.declared.counters.Counter.TheVariants as counter;
 ghost use Rattle.keeper_book.specs.declared.faults.KeeperFault.TheVariants as fault;
+ghost use Rattle.keeper_book.specs.declared.records.Record.{Record};
 ghost use Rattle.turn_laws.specs.Acts.{Act, MayAsk, MayDoAll, end_at, holding_at, numbers_at};
+ghost use Rattle.turn_laws.specs.Answered.{KeepsTaken};
 ghost use Rattle.turn_laws.specs.FirstDelivery.{MemberAcceptsFirst, PeerAcceptsFirst};
 ghost use Rattle.turn_laws.specs.Holdings.{Actor, End, Holding};
 ghost use Rattle.turn_laws.specs.Listed.{listed_at, request_at};
@@ -25,9 +27,11 @@ ghost use Rattle.turn_laws.specs.Serving.{ServesNamed};
 ghost use Rattle.turn_laws.specs.Turns.{AreBelowEnds, AreOwned, acts_in, acts_of, told};
 ghost use Rattle.turn_rules.specs.Ends.{Member, Peer, own};
 ghost use Rattle.turn_rules.specs.Genuine.{AreAccepted};
-ghost use Rattle.turn_rules.specs.Held.{Held, held_by, number_of, window_by};
+ghost use Rattle.turn_rules.specs.Held.{Held, held_by, number_of, since, window_by};
 ghost use Rattle.turn_rules.specs.Local.{Explained, Stands};
 ghost use Rattle.turn_rules.specs.Safe.{IsEachOnce, Safe, TakesWhereServed, accepted_in, key_ivs, taken_in};
+ghost use Rattle.turn_rules.specs.Slots.{since_entered, slot_by};
+ghost use Rattle.turn_rules.specs.Tasks.{member_task, peer_task};
 
 use esp_packets::sealed_packets_open;
 
@@ -160,6 +164,19 @@ pub fn requests_once()
         → Stands past book → IsEachOnce (filter_map taken_in past) }
     ensures served { (boxes : ℕ) (past : List Turn) → Explained boxes past
         → AllByRecursion TakesWhereServed past }
+{}
+
+/// What an end holds as answered are the requests that it took since its holding began, or since
+/// the association came to the peer: from the floor on just these are no longer new, and one of them
+/// is repeated with the octets that it was answered with.
+pub fn answered_are_taken()
+    ensures members { (boxes : ℕ) (past : List Turn) → Explained boxes past
+        → (member spir : ℕ) (held : Held)
+        → held_by (window_by past) (own (Member member) past) spir ≡ Some held
+        → KeepsTaken held.answered member_task spir (since spir (own (Member member) past)) }
+    ensures peer { (boxes : ℕ) (past : List Turn) → Explained boxes past → (sa : Record)
+        → KeepsTaken (slot_by (window_by past) (own Peer past) sa).answered peer_task sa.spir
+        (since_entered sa.spir (own Peer past)) }
 {}
 
 /// What a turn executes is executed for the end that its event names, which is up: a member that

@@ -1,3 +1,4 @@
+pub mod Cases
 pub mod GenuinePackets
 pub mod KeySizes
 pub mod Readies

@@ -1,5 +1,5 @@
 -- What an end holds after one more turn of its own is what that turn makes of what it held.
-use Rattle.std.proofs.Common.{◌≡◌, ℕ, ◌+◌, ◌==◌, max, Bool, true, false, Option, Some, None, List, [], ◌∷◌, ◌++◌, map, refl, ap, sym, ◌∙◌, if◌then◌else◌}
+use Rattle.std.proofs.Common.{◌≡◌, ℕ, ◌+◌, ◌==◌, max, Bool, true, false, Option, Some, None, List, [], ◌∷◌, ◌++◌, map, refl, ap, sym, ◌∙◌, arith, if◌then◌else◌}
 use Rattle.std.specs.Prelude.{is_some}
 use Rattle.std.specs.List.{filter_map, flat_map, cons_option}
 use Rattle.std.specs.Option.{option_map}
@@ -177,6 +177,11 @@ replied-refused spir asked why = refl
 pub response-refused : (spir : ℕ) (asked : Task) (why : Refusal) (step : Step) → step.verdict ≡ out.Refused why → response_in spir asked step ≡ None
 response-refused spir task.Receive why step said = ap (λ verdict. response_to (taken_id spir verdict) step.gives) said
 response-refused spir asked why step said = refl
+
+-- the greatest of more numbers
+pub greatest-max : (n least : ℕ) (ns : List ℕ) → greatest (max n least) ns ≡ max n (greatest least ns)
+greatest-max n least [] = refl
+greatest-max n least (x ∷ xs) = let rest : greatest (max n least) xs ≡ max n (greatest least xs) = greatest-max n least xs in omega arith
 
 -- what is received uses no number that is counted up, unless something is sealed
 pub said-receiving : (spir : ℕ) (c : Counter) (verdict : Verdict) → said_in spir c task.Receive verdict ≡ None

@@ -5,12 +5,14 @@ use Rattle.events.specs.declared.event.Event.{Event}
 use Rattle.events.specs.declared.event.Event.TheVariants as event
 use Rattle.events.specs.declared.verdict.Verdict.{Verdict}
 use Rattle.events.specs.declared.verdict.Verdict.TheVariants as out
+use Rattle.ha_base.specs.KeySizes.{sealing_octets}
 use Rattle.ha_base.specs.declared.counter_names.CounterName.{CounterName}
 use Rattle.ha_base.specs.declared.counter_names.End.TheVariants as end
 use Rattle.ha_base.specs.declared.counter_names.Kind.TheVariants as kind
 use Rattle.ha_base.specs.declared.counter_names.Origin.TheVariants as origins
 use Rattle.ha_base.specs.declared.identities.GatewayId.{GatewayId}
 use Rattle.ha_base.specs.declared.identities.Identity.{Identity}
+use Rattle.ha_base.specs.declared.key_material.KeySize.TheVariants.{Bits128, Bits256}
 
 -- The cluster's identity, the lifetime of its tickets in seconds, the size of the receive windows
 -- of ESP, and the key of its tickets, where there is one.
@@ -25,10 +27,10 @@ abbrev pub first_ticket_counter : CounterName
 first_ticket_counter =
     record { origin = origins.TicketKey 1; kind = kind.TicketIv; child = 0; end = end.Cluster }
 
--- the first ticket key, by its octets: 16 or 32 of a key of AES, and four of salt
+-- the first ticket key, by its octets, where they are those of a sealing key of one of the two sizes
 abbrev pub first_ticket_key : List ℕ → Option NamedKey
 first_ticket_key octets =
-    if (length octets == 20) || (length octets == 36)
+    if (length octets == sealing_octets Bits128) || (length octets == sealing_octets Bits256)
     then Some (record { name = first_ticket_counter; octets = octets })
     else None
 

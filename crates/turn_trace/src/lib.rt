@@ -5,6 +5,3 @@ mod kept_turn;
 mod trace;
 
 pub use trace::Trace;
-
-#[cfg(test)]
-mod tests;

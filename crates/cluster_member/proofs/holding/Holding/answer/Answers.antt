@@ -16,12 +16,12 @@ use Rattle.turn_rules.specs.IkeState.{kept_under}
 use Rattle.turn_rules.specs.MemberMessages.{held_ike}
 use Rattle.turn_rules.specs.Messages.{AnswersRequest}
 use Rattle.turn_rules.specs.Steps.{Says}
-use Rattle.cluster_member.proofs.Answers.{Done, answered-low, horizon-reach}
+use Rattle.cluster_member.proofs.Answers.{Done, answered-low, answers-are, horizon-reach}
 use Rattle.cluster_member.proofs.Asked.{same-horizon}
 use Rattle.cluster_member.proofs.HeldMessages.{held_ike-is}
+use Rattle.cluster_member.proofs.Uses.{AnswersNext}
 use Rattle.cluster_member.proofs.UsingIv.{uses-given, uses-stopped}
 use Rattle.cluster_member.proofs.holding.Holding.answer.Goals as goal
-use Rattle.cluster_member.specs.Answering.{AnswersNext}
 
 pub invariant_of-self : goal.invariant_of-self
 invariant_of-self g c =
@@ -78,10 +78,10 @@ returns-in-Ok-clause-answers g c =
     (subst (λ n. AnswersRequest c.name_of-name.result c.self.inside.ike n c.args.request.now c.answer.result) (ap (λ (n : Drawn). n.value) c.in-Ok.ensures.number) c.answer.ensures.answers)) in
     record {
       calls = it.calls;
-      follows = subst (λ (h : Held). AnswersNext h c.args.request.now it.calls c.answer.result now) c.self.view_is
+      follows = answers-are c.args.self.now now c.args.request.now it.calls c.answer.result (subst (λ (h : Held). AnswersNext h c.args.request.now it.calls c.answer.result now) c.self.view_is
           (uses-given old now counter.Answer id (Done old now c.args.request.now it.calls c.answer.result) it.calls c.answer.result c.self.inside.answer c.self.inside.iv c.ready_with_iv.new.horizon c.ready_with_iv.new.iv
           c.ready_with_iv.result answer_is iv_is it.follows c.in-Ok.iv c.in-Ok.is
-          (λ high above first second. (answers, λ i. at (first i) (second i) (c.answer.ensures.held i))));
+          (λ high above first second. (answers, λ i. at (first i) (second i) (c.answer.ensures.held i)))));
       asked = it.asked;
       held = it.held;
     }
@@ -103,11 +103,11 @@ returns-in-Err-clause-answers g c =
     } in
     record {
       calls = it.calls;
-      follows = subst (λ (h : Held). AnswersNext h c.args.request.now it.calls c.quiet.result now) c.self.view_is
+      follows = answers-are c.args.self.now now c.args.request.now it.calls c.quiet.result (subst (λ (h : Held). AnswersNext h c.args.request.now it.calls c.quiet.result now) c.self.view_is
           (uses-stopped old now counter.Answer id (Done old now c.args.request.now it.calls c.quiet.result) it.calls c.quiet.result c.self.inside.answer c.self.inside.iv c.ready_with_iv.new.horizon c.ready_with_iv.new.iv
           c.ready_with_iv.result answer_is iv_is it.follows c.in-Err.stop c.in-Err.is says
           (λ first second i. at (first i) (second i) ike)
-          (λ high first second i. at (first i) (second i) ike));
+          (λ high first second i. at (first i) (second i) ike)));
       asked = it.asked;
       held = it.held;
     }

@@ -1,17 +1,14 @@
 -- A draw at the place of the holding.
 use Rattle.std.proofs.Common.{◌≡◌, None, Some, [], refl, ap, sym, ◌∙◌, subst}
-use Rattle.std.proofs.Math.ListN.{set}
 use Rattle.events.specs.declared.verdict.Refusal.TheVariants as refusal
 use Rattle.keeper_book.proofs.Asking.{asks_none}
-use Rattle.keeper_book.specs.declared.records.Record.{Record}
 use Rattle.turn_rules.specs.Fits.{DrawsOf}
 use Rattle.turn_rules.specs.Held.{held_at}
 use Rattle.turn_rules.specs.Tasks as task
-use Rattle.cluster_member.proofs.Advancing.{Advances, draws-advances, draws-rule}
-use Rattle.cluster_member.proofs.PlaceLemmas.{apart_set, found_at, others_at, put_at}
-use Rattle.cluster_member.proofs.Placed.{placed, refused-holds}
+use Rattle.cluster_member.proofs.AtPlace.{found-here, holds-here, stays-apart}
+use Rattle.cluster_member.proofs.Placed.{refused-holds}
+use Rattle.cluster_member.specs.Places.{AllHeld, IsHoldingPlace}
 use Rattle.cluster_member.proofs.holdings.Holdings.draw.Goals as goal
-use Rattle.cluster_member.specs.Places.{AllHeld, IsHoldingPlace, KeepsOthers}
 
 pub returns-in-Some : goal.returns-in-Some
 returns-in-Some g c =
@@ -20,19 +17,13 @@ returns-in-Some g c =
     let new = c.draw.new.self in
     let it = c.draw.ensures.draws in
     let place : IsHoldingPlace c.args.spir c.in-Some.place items = rw c.deref.ensures.value at c.in-Some.ensures in
-    let is : held.sa.spir ≡ c.args.spir = place.here held c.index_mut-holding.ensures.value in
-    let same : new.sa.spir ≡ c.args.spir = ap (λ (sa : Record). sa.spir) c.draw.ensures.sa ∙ is in
-    let found : held_at c.args.self.now.held c.args.spir ≡ Some held = ap (λ (v : AllHeld). held_at v.held c.args.spir) (sym c.self.view_is) ∙ found_at c.args.spir c.in-Some.place items held place c.index_mut-holding.ensures.value in
-    let others : KeepsOthers c.args.spir c.args.self.now.held (set items c.in-Some.place new) = λ other differs.
-    others_at c.args.spir c.in-Some.place other items new same differs place ∙ ap (λ (v : AllHeld). held_at v.held other) c.self.view_is in
-    let advances : Advances held (task.Draw c.args.spir) it.calls c.draw.result new = subst (λ k. Advances held (task.Draw k) it.calls c.draw.result new) is (draws-advances held new it.calls c.draw.result it.follows) in
+    let old : items ≡ c.args.self.now.held = ap (λ (v : AllHeld). v.held) c.self.view_is in
     record {
       draws = record {
         calls = it.calls;
         follows = (
-          subst (λ x. DrawsOf x it.calls c.draw.result) (sym found) (draws-rule held new it.calls c.draw.result it.follows),
-          λ size. placed size (task.Draw c.args.spir) it.calls c.draw.result c.args.spir held new c.args.self.now.held (set items c.in-Some.place new) is found
-              (put_at c.args.spir c.in-Some.place items new same place) others advances,
+          subst (λ x. DrawsOf x it.calls c.draw.result) (sym (found-here c.args.spir c.in-Some.place items held new place c.index_mut-holding.ensures.value c.draw.ensures.sa c.args.self.now.held old)) it.follows.0,
+          holds-here c.args.spir c.in-Some.place items held new place c.index_mut-holding.ensures.value c.draw.ensures.sa c.args.self.now.held old task.Draw it.calls c.draw.result it.follows.1,
         );
         asked = it.asked;
         held = it.held;
@@ -45,8 +36,7 @@ invariant_of-self g c =
     let held = c.index_mut-holding.result.now in
     let new = c.draw.new.self in
     let place : IsHoldingPlace c.args.spir c.in-Some.place items = rw c.deref.ensures.value at c.in-Some.ensures in
-    let same : new.sa.spir ≡ c.args.spir = ap (λ (sa : Record). sa.spir) c.draw.ensures.sa ∙ place.here held c.index_mut-holding.ensures.value in
-    apart_set c.args.spir new same c.in-Some.place items place.within place.none_before place.here c.self.invariant
+    stays-apart c.args.spir c.in-Some.place items held new place c.index_mut-holding.ensures.value c.draw.ensures.sa c.self.invariant
 
 pub returns-in-None : goal.returns-in-None
 returns-in-None g c =

@@ -1,19 +1,16 @@
 -- A packet is received at the place of what receives at its SPI.
 use Rattle.std.proofs.Common.{◌≡◌, [], inl, inr, refl, ap, ◌∙◌, subst}
-use Rattle.std.proofs.Math.ListN.{set}
 use Rattle.esp_packets.specs.Packet.{spi_of}
 use Rattle.ha_base.specs.declared.esp_outcomes.EspDrop.TheVariants as drop
 use Rattle.keeper_book.proofs.Asking.{asks_none}
-use Rattle.keeper_book.specs.declared.records.Record.{Record}
 use Rattle.turn_rules.specs.Held.{held_at}
 use Rattle.turn_rules.specs.MemberPackets.{IsReceiver}
 use Rattle.turn_rules.specs.Tasks as task
-use Rattle.cluster_member.proofs.Advancing.{notes-advances, notes-rule}
-use Rattle.cluster_member.proofs.PlaceLemmas.{apart_set, others_at, put_at}
-use Rattle.cluster_member.proofs.Placed.{dropped-holds, placed}
+use Rattle.cluster_member.proofs.AtPlace.{holds-here, stays-apart}
+use Rattle.cluster_member.proofs.Placed.{dropped-holds}
 use Rattle.cluster_member.proofs.ReceiverLemmas.{nowhere, place_is, receiver_at}
 use Rattle.cluster_member.proofs.holdings.Holdings.receive_at.Goals as goal
-use Rattle.cluster_member.specs.Places.{AllHeld, IsLeastAt, IsHoldingPlace, KeepsOthers, NoneReceives}
+use Rattle.cluster_member.specs.Places.{AllHeld, IsLeastAt, IsHoldingPlace, NoneReceives}
 
 pub invariant_of-self : goal.invariant_of-self
 invariant_of-self g c =
@@ -22,8 +19,7 @@ invariant_of-self g c =
     let new = c.receive.new.self in
     let least : IsLeastAt c.args.spi c.in-Some.place items items = rw c.deref.ensures.value at c.in-Some.ensures in
     let place : IsHoldingPlace holding.sa.spir c.in-Some.place items = place_is c.in-Some.place items holding c.self.invariant least.within c.index_mut-holding.ensures.value in
-    let same : new.sa.spir ≡ holding.sa.spir = ap (λ (sa : Record). sa.spir) c.receive.ensures.sa in
-    apart_set holding.sa.spir new same c.in-Some.place items place.within place.none_before place.here c.self.invariant
+    stays-apart holding.sa.spir c.in-Some.place items holding new place c.index_mut-holding.ensures.value c.receive.ensures.sa c.self.invariant
 
 pub returns-in-Some-clause-receives : goal.returns-in-Some-clause-receives
 returns-in-Some-clause-receives g c =
@@ -34,13 +30,10 @@ returns-in-Some-clause-receives g c =
     let old : items ≡ c.args.self.now.held = ap (λ (v : AllHeld). v.held) c.self.view_is in
     let least : IsLeastAt c.args.spi c.in-Some.place items items = rw c.deref.ensures.value at c.in-Some.ensures in
     let place : IsHoldingPlace holding.sa.spir c.in-Some.place items = place_is c.in-Some.place items holding c.self.invariant least.within c.index_mut-holding.ensures.value in
-    let same : new.sa.spir ≡ holding.sa.spir = ap (λ (sa : Record). sa.spir) c.receive.ensures.sa in
     let receiver : IsReceiver (held_at c.args.self.now.held) (spi_of c.args.bytes.now) holding.sa.spir holding =
     subst (λ spi. IsReceiver (held_at c.args.self.now.held) spi holding.sa.spir holding) c.requires.spi
     (subst (λ hs. IsReceiver (held_at hs) c.args.spi holding.sa.spir holding) old
     (receiver_at c.args.spi c.in-Some.place items holding c.self.invariant least c.index_mut-holding.ensures.value)) in
-    let others : KeepsOthers holding.sa.spir c.args.self.now.held (set items c.in-Some.place new) = λ other differs.
-    others_at holding.sa.spir c.in-Some.place other items new same differs place ∙ ap (λ hs. held_at hs other) old in
     record {
       calls = it.calls;
       follows = (
@@ -48,11 +41,9 @@ returns-in-Some-clause-receives g c =
           spir = holding.sa.spir;
           receiver = holding;
           is_receiver = receiver;
-          receives = record { opened = it.follows.opened; opens = it.follows.opens; takes = notes-rule holding new it.calls c.receive.result it.follows.opened it.follows.notes };
+          receives = it.follows.0;
         }),
-        λ step worded quiet size. placed size task.Receive it.calls step holding.sa.spir holding new c.args.self.now.held (set items c.in-Some.place new) refl receiver.is_held
-            (put_at holding.sa.spir c.in-Some.place items new same place) others
-            (notes-advances holding new it.calls c.receive.result c.receive.new.bytes step worded quiet it.follows.opened it.follows.notes),
+        λ step worded quiet. holds-here holding.sa.spir c.in-Some.place items holding new place c.index_mut-holding.ensures.value c.receive.ensures.sa c.args.self.now.held old (λ k. task.Receive) it.calls step (it.follows.1 step worded quiet),
       );
       asked = it.asked;
       held = it.held;

@@ -8,11 +8,12 @@ use Rattle.ike_sas.specs.declared.arrival.Arrival.TheVariants as arrival
 use Rattle.ike_sas.specs.declared.exchanges.TheConstants.{IKE_SESSION_RESUME}
 use Rattle.keeper_book.proofs.Asking.{asks_none}
 use Rattle.keeper_book.specs.Asks.{AsksFor}
+use Rattle.turn_rules.proofs.Cases.{ok-map}
 use Rattle.turn_rules.specs.Held.{held_at}
 use Rattle.turn_rules.specs.MemberMessages.{member_listener}
 use Rattle.turn_rules.specs.Messages.{TakesArrival}
 use Rattle.turn_rules.specs.Tasks as task
-use Rattle.cluster_member.proofs.Arriving.{drop-holds, ok-map, unmoved-holds}
+use Rattle.cluster_member.proofs.Arriving.{drop-holds, unmoved-holds}
 use Rattle.cluster_member.proofs.holdings.Holdings.take.Goals as goal
 use Rattle.cluster_member.specs.Members.{HoldsOn}
 
@@ -62,13 +63,13 @@ pub returns-in-Response-clause-takes : goal.returns-in-Response-clause-takes
 returns-in-Response-clause-takes g c =
     let held = c.args.self.now.held in
     let new = c.take_response.new.self.held in
-    ok-map {P = λ (step : Step). TakesArrival (member_listener (held_at held)) (arrival.Response c.in-Response.response) [] step × HoldsOn task.Receive [] step held new}
+    ok-map {P = λ (step : Step). TakesArrival (member_listener (held_at held)) (arrival.Response c.in-Response.response) [] step × HoldsOn task.Receive [] step held new} c.take_response.result
     (λ step t. record {
       calls = [];
       follows = (subst (λ (a : Arrival). TakesArrival (member_listener (held_at held)) a [] step) (sym c.in-Response.is) t.0, t.1);
       asked = asks_none c.args.keeper.now;
       held = refl;
-    }) c.take_response.result c.take_response.ensures.takes
+    }) c.take_response.ensures.takes
 
 pub returns-in-Repeat-clause-takes : goal.returns-in-Repeat-clause-takes
 returns-in-Repeat-clause-takes g c =

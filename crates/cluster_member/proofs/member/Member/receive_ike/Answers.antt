@@ -2,11 +2,11 @@
 use Rattle.std.proofs.Common.{◌≡◌, IfOk, List, ap, subst}
 use Rattle.events.specs.declared.turn.Step.{Step}
 use Rattle.keeper_book.specs.Asks.{AsksFor}
+use Rattle.turn_rules.proofs.Cases.{ok-map}
 use Rattle.turn_rules.specs.Held.{Held, held_at}
 use Rattle.turn_rules.specs.MemberMessages.{member_listener}
 use Rattle.turn_rules.specs.Messages.{TakesMessage}
 use Rattle.turn_rules.specs.Tasks as task
-use Rattle.cluster_member.proofs.Arriving.{ok-map}
 use Rattle.cluster_member.proofs.member.Member.receive_ike.Goals as goal
 use Rattle.cluster_member.specs.Members.{Holder, HoldsOn}
 
@@ -15,7 +15,7 @@ returns-clause-takes g c =
     let old : c.self.inside.holdings.held ≡ c.args.self.now.held = ap (λ (v : Holder). v.held) c.self.view_is in
     let new : List Held = c.receive_message.new.self.held in
     ok-map {P = λ (step : Step). AsksFor g.K.Keeper c.args.keeper.now c.receive_message.new.keeper (λ calls.
-    TakesMessage (member_listener (held_at c.args.self.now.held)) c.args.bytes.now calls step × HoldsOn task.Receive calls step c.args.self.now.held new)}
+    TakesMessage (member_listener (held_at c.args.self.now.held)) c.args.bytes.now calls step × HoldsOn task.Receive calls step c.args.self.now.held new)} c.receive_message.result
     (λ step it. record {
       calls = it.calls;
       follows = (
@@ -29,6 +29,6 @@ returns-clause-takes g c =
       );
       asked = it.asked;
       held = it.held;
-    }) c.receive_message.result
+    })
     (subst (λ (hs : List Held). IfOk c.receive_message.result (λ (step : Step). AsksFor g.K.Keeper c.args.keeper.now c.receive_message.new.keeper (λ calls.
     TakesMessage (member_listener (held_at hs)) c.args.bytes.now calls step × HoldsOn task.Receive calls step hs new))) old c.receive_message.ensures.takes)

@@ -5,7 +5,8 @@ use Rattle.turn_rules.specs.PeerMessages.{has_spis, slot_ike}
 use Rattle.turn_rules.specs.Slots.{first_slot}
 use Rattle.cluster_peer.specs.Messages.{slot_for}
 use Rattle.cluster_peer.specs.Slots.{IsFirstSlot, Slotted}
-use Rattle.cluster_peer.proofs.Arriving.{ok-map, request-there}
+use Rattle.turn_rules.proofs.Cases.{ok-map}
+use Rattle.cluster_peer.proofs.Arriving.{request-there}
 use Rattle.cluster_peer.proofs.SlotLemmas.{first_at}
 use Rattle.cluster_peer.proofs.slots.Slots.judge.Goals as goal
 

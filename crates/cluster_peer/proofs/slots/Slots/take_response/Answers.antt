@@ -5,7 +5,8 @@ use Rattle.turn_rules.specs.Slots.{first_slot, slot_after}
 use Rattle.turn_rules.specs.Tasks as task
 use Rattle.cluster_peer.specs.Messages.{slot_for}
 use Rattle.cluster_peer.specs.Slots.{IsFirstSlot, Slotted}
-use Rattle.cluster_peer.proofs.Arriving.{ok-map, ok-map2, response-takes}
+use Rattle.turn_rules.proofs.Cases.{ok-map, ok-map2}
+use Rattle.cluster_peer.proofs.Arriving.{response-takes}
 use Rattle.cluster_peer.proofs.MessageLaws.{replied-after}
 use Rattle.cluster_peer.proofs.SlotLaws.{distinct-set}
 use Rattle.cluster_peer.proofs.SlotLemmas.{first_at}
