@@ -17,6 +17,3 @@ pub use open::{open_packet, packet_spi};
 pub use packet::{LONGEST_PACKET, SHORTEST_PACKET};
 pub use plain::PACKET_OVERHEAD;
 pub use seal::{seal_packet, spell_plain};
-
-#[cfg(test)]
-mod tests;

@@ -34,6 +34,3 @@ pub use services::{LONGEST_REQUEST, MOST_REQUESTS, Reply, Service, TallyService,
 pub use short_lists::{NumberList, OctetArray, OctetList};
 pub use std_streams::{StdSink, StdSource};
 pub use streams::{Sink, Source, write_all};
-
-#[cfg(test)]
-mod tests;

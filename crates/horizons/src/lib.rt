@@ -12,6 +12,3 @@ mod stop;
 
 pub use horizon::Horizon;
 pub use stop::Stop;
-
-#[cfg(test)]
-mod tests;

@@ -39,6 +39,3 @@ pub const SETTLED_IV_HIGH: u64 = 64;
 
 /// In a resumed association the request of IKE_AUTH, with Message ID 1, is answered.
 pub const SETTLED_ANSWER_HIGH: u64 = 2;
-
-#[cfg(test)]
-mod tests;

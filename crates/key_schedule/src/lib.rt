@@ -10,8 +10,6 @@ mod derivation;
 mod expansion;
 pub mod known_answers;
 mod mac;
-#[cfg(test)]
-mod tests;
 
 pub use codes::{auth_code, cookie, equal_codes};
 pub use derivation::{child_keys, resumed_keys};

@@ -23,6 +23,3 @@ pub use laws::{
 pub use limits::{LOOP_DETECT_PERIOD, MAX_NONCE, MAX_REDIRECT, MAX_REDIRECTS};
 pub use reading::redirect_of;
 pub use writing::{is_gateway, redirect_octets};
-
-#[cfg(test)]
-mod tests;

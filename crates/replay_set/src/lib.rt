@@ -15,6 +15,3 @@ pub use laws::{
     judging_by_numbers, meaning_is_unique, noting_adds_the_number, top_is_the_greatest,
 };
 pub use set::ReplaySet;
-
-#[cfg(test)]
-mod tests;

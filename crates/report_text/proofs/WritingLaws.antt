@@ -31,6 +31,10 @@ item_there (x ∷ xs) i e lt = let some = slice_get-get_or (x ∷ xs) i x lt in 
 pub line_alone : (line : ReportLine) → report_lines_text (line ∷ []) ≡ report_line_text line
 line_alone line = append-nil (report_line_text line)
 
+-- a word that is a prefix and what stands behind it
+pub prefixed_word : (text prefix behind : List ℕ) → (text ++ (32 ∷ prefix)) ++ behind ≡ text ++ (32 ∷ (prefix ++ behind))
+prefixed_word text prefix behind = append_assoc text (32 ∷ prefix) behind
+
 -- the text of the lines of items is that of each item's lines
 lines_of : {X : Type 0} (f : X → List ReportLine) (xs : List X) → report_lines_text (flat_map f xs) ≡ flat_map (λ x. report_lines_text (f x)) xs
 lines_of f [] = refl

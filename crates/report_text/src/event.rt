@@ -2,7 +2,7 @@
 
 ghost use Rattle.std.specs.Prelude.{◌≡◌, [], ◌∷◌, ◌++◌, OnOk};
 ghost use Rattle.line_fields.specs.Identities.{identity_text};
-ghost use Rattle.line_fields.specs.Octets.{spi_text};
+ghost use Rattle.line_fields.specs.Octets.{octets_text, spi_text};
 ghost use Rattle.events.specs.Events.{Import, association, plain};
 ghost use Rattle.events.specs.FieldWords.{child_key_words, five_words, medium_word, party_text, sa_key_words, which_text};
 ghost use Rattle.events.specs.FilledRows.{event_words};
@@ -15,11 +15,21 @@ use keeper_book::{Five, Record};
 use std::alloc::Global;
 use word_text::{put_bare_octets, put_esp_spi, put_number, put_octets, put_spi, put_word};
 
+// A word that begins with a prefix and has octets behind it.
+#[tactic(auto, using(crate::proofs::WritingLaws::prefixed_word))]
+fn put_prefixed(alloc: Global, out: &mut Octets, prefix: &[u8], octets: &[u8]) -> Result<(), Memory>
+    ensures { OnOk result (out.new.octets
+        ≡ out.old.octets ++ (32 ∷ (prefix.now ++ octets_text octets.now))) }
+{
+    put_word(out, prefix)?;
+    put_bare_octets(alloc, out, octets)
+}
+
 fn put_identity(alloc: Global, out: &mut Octets, identity: &Identity) -> Result<(), Memory>
     ensures { OnOk result (out.new.octets ≡ out.old.octets ++ (32 ∷ identity_text identity.now)) }
 {
-    put_word(out, word_by(&identity_forms(), identity.kind))?;
-    put_bare_octets(alloc, out, identity.octets.as_slice())
+    let prefix = word_by(&identity_forms(), identity.kind);
+    put_prefixed(alloc, out, prefix, identity.octets.as_slice())
 }
 
 fn size_text(size: KeySize) -> &'static [u8]

@@ -8,6 +8,3 @@ mod text;
 pub use laws::front_tells_messages;
 pub use reader::Place;
 pub use text::{Shown, show};
-
-#[cfg(test)]
-mod tests;

@@ -17,9 +17,6 @@ ghost use Rattle.std.specs.Prelude.{◌≡◌, ◌+◌, ◌<◌, ◌≤◌, ◌�
 pub use ha_base::{CounterName, Derivation, End, Kind, Origin};
 use std::marker::Model;
 
-#[cfg(test)]
-mod tests;
-
 /// The numbers of one counter that can still be drawn: from `next` on, below `end`.
 ///
 /// A lot may be dropped. The numbers that are left in it are then never drawn.

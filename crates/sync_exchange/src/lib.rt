@@ -25,6 +25,3 @@ pub use peer::{Accepted, PeerState, peer_accepts};
 pub use replay_counter::{DELTA_OCTETS, delta_octets};
 pub use request::{SyncRequest, request_of};
 pub use sync_drop::SyncDrop;
-
-#[cfg(test)]
-mod tests;

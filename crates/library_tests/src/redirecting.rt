@@ -1,5 +1,5 @@
-use super::{Asked, Decision, Follows, follow, redirect_octets, redirect_of};
 use ha_base::{GatewayId, Moment, OctetArray};
+use redirects::{Asked, Decision, Follows, follow, redirect_octets, redirect_of};
 use std::alloc::Global;
 
 /// The nonce of a request to resume.

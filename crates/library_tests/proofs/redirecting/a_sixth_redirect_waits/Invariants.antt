@@ -1,5 +1,5 @@
 use Rattle.std.proofs.Common.{◌≤◌, All}
-use Rattle.redirects.proofs.tests.a_sixth_redirect_waits.Given as goal
+use Rattle.library_tests.proofs.redirecting.a_sixth_redirect_waits.Given as goal
 
 abbrev pub invariant-loop-now : goal.invariant-loop-now
 invariant-loop-now g l = All (λ moment. moment ≤ l.last) l.history

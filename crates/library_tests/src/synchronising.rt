@@ -1,9 +1,12 @@
-use super::*;
 use ha_base::{Octets, SEQUENCE_END};
 use ike_values::notify_types::{IKEV2_MESSAGE_ID_SYNC, IPSEC_REPLAY_COUNTER_SYNC, REQUEST_DATA};
 use ike_values::{NotifyBody, Payload, Payloads};
 use std::alloc::Global;
 use std::test::*;
+use sync_exchange::{
+    Accepted, MessageIds, PeerState, SyncDrop, SyncRequest, delta_octets, member_accepts,
+    peer_accepts, request_of,
+};
 
 /// Notifications of a message: their types and their octets.
 type Notifies = &'static [(u16, &'static [u8])];
