@@ -15,4 +15,6 @@ mod peer;
 #[cfg(test)]
 mod redirecting;
 #[cfg(test)]
+mod sizes;
+#[cfg(test)]
 mod synchronising;

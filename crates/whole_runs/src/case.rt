@@ -1,6 +1,6 @@
 //! A case and its answer.
 
-use crate::run::{Failing, Outcome, play};
+use crate::run::{Failing, Outcome, Task, perform};
 use anyhow::bail;
 use ha_base::PIECE_OCTETS;
 use replay_world::top::Status;
@@ -10,10 +10,11 @@ use std::str;
 /// The answer of a case, whose first line says what is done with the rest.
 pub fn answer(alloc: Global, case: &str) -> anyhow::Result<String> {
     match case.split_once('\n') {
-        Some(("pieces", input)) => in_pieces(alloc, "run", "pieces", input),
-        Some(("shows", input)) => in_pieces(alloc, "show", "shows", input),
+        Some(("pieces", input)) => in_pieces(alloc, Task::Play, "pieces", input),
+        Some(("echoes", input)) => in_pieces(alloc, Task::PlayEchoes, "echoes", input),
+        Some(("shows", input)) => in_pieces(alloc, Task::Show, "shows", input),
         Some(("faults", input)) => with_faults(alloc, input),
-        _ => bail!("a case is pieces, shows or faults"),
+        _ => bail!("a case is pieces, echoes, shows or faults"),
     }
 }
 
@@ -21,10 +22,10 @@ fn is_same(one: &Outcome, other: &Outcome) -> bool {
     one.status == other.status && one.written() == other.written() && one.said() == other.said()
 }
 
-fn in_pieces(alloc: Global, word: &str, kind: &str, input: &str) -> anyhow::Result<String> {
-    let whole = play(alloc, word, input, PIECE_OCTETS, Failing::Nothing)?;
-    let cut = play(alloc, word, input, 7, Failing::Nothing)?;
-    let single = play(alloc, word, input, 1, Failing::Nothing)?;
+fn in_pieces(alloc: Global, task: Task, kind: &str, input: &str) -> anyhow::Result<String> {
+    let whole = perform(alloc, task, input, PIECE_OCTETS, Failing::Nothing)?;
+    let cut = perform(alloc, task, input, 7, Failing::Nothing)?;
+    let single = perform(alloc, task, input, 1, Failing::Nothing)?;
     if !is_same(&whole, &cut) || !is_same(&whole, &single) {
         bail!("the outcome depends on the pieces");
     }
@@ -47,7 +48,7 @@ fn words_of<'a>(status: Status, whole: &'a Outcome) -> &'a [u8] {
 
 // What a run writes before a call fails is a front of what it writes else.
 fn code_with(alloc: Global, input: &str, whole: &Outcome, failing: Failing) -> anyhow::Result<u8> {
-    let outcome = play(alloc, "run", input, 7, failing)?;
+    let outcome = perform(alloc, Task::Play, input, 7, failing)?;
     if !whole.written().starts_with(outcome.written()) {
         bail!("what was written is no front of the report");
     }
@@ -59,7 +60,7 @@ fn code_with(alloc: Global, input: &str, whole: &Outcome, failing: Failing) -> a
 }
 
 fn with_faults(alloc: Global, input: &str) -> anyhow::Result<String> {
-    let whole = play(alloc, "run", input, 7, Failing::Nothing)?;
+    let whole = perform(alloc, Task::Play, input, 7, Failing::Nothing)?;
     let mut answer = String::new(alloc);
     answer.push_str("faults\n")?;
     for call in 0..10 {

@@ -1,5 +1,9 @@
 //! One run of the top call over streams in memory.
 
+ghost use Rattle.std.specs.Prelude.{◌≡◌};
+ghost use Rattle.std.specs.List.{AllByRecursion};
+
+use crate::services::EchoService;
 use anyhow::bail;
 use ha_base::{MemorySink, MemorySource, Octets, Service, TallyService, are_fresh};
 use keeper_book::MemoryKeeper;
@@ -11,6 +15,27 @@ const MEMBERS: usize = 64;
 
 /// The most octets that a run writes here.
 const ROOM: usize = 1 << 20;
+
+/// What is done with an input.
+#[derive(Clone, Copy, Debug, PartialEq, Eq)]
+pub enum Task {
+    /// It is played, with services that reply with their counts.
+    Play,
+    /// It is played, with services that echo.
+    PlayEchoes,
+    /// It is shown.
+    Show,
+}
+
+impl Task {
+    // The word of the command line that asks for it.
+    fn word(self) -> &'static str {
+        match self {
+            Task::Play | Task::PlayEchoes => "run",
+            Task::Show => "show",
+        }
+    }
+}
 
 /// Which call of which stream fails, counted from 0.
 #[derive(Clone, Copy, Debug, PartialEq, Eq)]
@@ -79,35 +104,60 @@ fn sink(alloc: Global, piece: usize, call: Option<u8>) -> anyhow::Result<MemoryS
     }
 }
 
-// Calls the top call with a word, and with a keeper and services of its own.
+/// The streams of a run.
+#[derive(Drop)]
+struct Streams {
+    source: MemorySource,
+    out: MemorySink,
+    diag: MemorySink,
+}
+
+// Calls the top call with the word of a task, and with a keeper of its own.
 fn call(
     alloc: Global,
-    word: &str,
-    source: &mut MemorySource,
-    out: &mut MemorySink,
-    diag: &mut MemorySink,
-) -> anyhow::Result<Status> {
+    task: Task,
+    streams: &mut Streams,
+    peer_service: Box<dyn Service>,
+    services: Vec<Box<dyn Service>>,
+) -> anyhow::Result<Status>
+    requires peer { count peer_service ≡ 0 }
+    requires services { AllByRecursion (λ service. count service ≡ 0) services.items }
+{
     let mut words = Vec::new(alloc);
-    words.push(String::from_str(alloc, word)?)?;
-    let mut services: Vec<Box<dyn Service>> = Vec::with_capacity(alloc, MEMBERS)?;
-    for _ in 0..MEMBERS {
-        services.push(Box::new(alloc, TallyService::new())?)?;
-    }
-    let peer_service: Box<dyn Service> = Box::new(alloc, TallyService::new())?;
-    if !are_fresh(&services) {
-        bail!("a service is not new");
-    }
+    words.push(String::from_str(alloc, task.word())?)?;
     let mut keeper = MemoryKeeper::new(alloc);
     Ok(replay(
         alloc,
         &words,
-        source,
-        out,
-        diag,
+        &mut streams.source,
+        &mut streams.out,
+        &mut streams.diag,
         &mut keeper,
         peer_service,
         services,
     ))
+}
+
+// The same, with services of its own.
+fn call_served(alloc: Global, task: Task, streams: &mut Streams) -> anyhow::Result<Status> {
+    let echoes = task == Task::PlayEchoes;
+    let mut services: Vec<Box<dyn Service>> = Vec::with_capacity(alloc, MEMBERS)?;
+    for _ in 0..MEMBERS {
+        if echoes {
+            services.push(Box::new(alloc, EchoService::new())?)?;
+        } else {
+            services.push(Box::new(alloc, TallyService::new())?)?;
+        }
+    }
+    if !are_fresh(&services) {
+        bail!("a service is not new");
+    }
+    if echoes {
+        let peer_service = Box::new(alloc, EchoService::new())?;
+        return call(alloc, task, streams, peer_service, services);
+    }
+    let peer_service = Box::new(alloc, TallyService::new())?;
+    call(alloc, task, streams, peer_service, services)
 }
 
 /// How a run ended, and what it wrote.
@@ -130,17 +180,23 @@ impl Outcome {
     }
 }
 
-/// Plays or shows an input in pieces, as the word says.
-pub fn play(
+/// Does a task with an input in pieces.
+pub fn perform(
     alloc: Global,
-    word: &str,
+    task: Task,
     input: &str,
     piece: usize,
     failing: Failing,
 ) -> anyhow::Result<Outcome> {
-    let mut source = source(alloc, input, piece, failing.of_source())?;
-    let mut out = sink(alloc, piece, failing.of_out())?;
-    let mut diag = sink(alloc, piece, failing.of_diag())?;
-    let status = call(alloc, word, &mut source, &mut out, &mut diag)?;
-    Ok(Outcome { status, out, diag })
+    let mut streams = Streams {
+        source: source(alloc, input, piece, failing.of_source())?,
+        out: sink(alloc, piece, failing.of_out())?,
+        diag: sink(alloc, piece, failing.of_diag())?,
+    };
+    let status = call_served(alloc, task, &mut streams)?;
+    Ok(Outcome {
+        status,
+        out: streams.out,
+        diag: streams.diag,
+    })
 }
