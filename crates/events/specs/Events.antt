@@ -52,6 +52,7 @@ pub data PlainEvent : Type 0 where
   Send : Party → ℕ → List ℕ → PlainEvent
   Ask : Party → ℕ → List ℕ → PlainEvent
   Again : Party → ℕ → ℕ → PlainEvent
+  Sync : ℕ → ℕ → PlainEvent
   Deliver : Which → Party → PlainEvent
   Alter : Which → Party → ℕ → ℕ → PlainEvent
   Cut : Which → Party → ℕ → PlainEvent
@@ -68,6 +69,7 @@ plain (events.Crash member) = Crash member
 plain (events.Send from spir payload) = Send from spir payload.octets
 plain (events.Ask from spir request) = Ask from spir request.octets
 plain (events.Again from spir id) = Again from spir id
+plain (events.Sync member spir) = Sync member spir
 plain (events.Deliver which to) = Deliver which to
 plain (events.Alter which to place octet) = Alter which to place octet
 plain (events.Cut which to keep) = Cut which to keep

@@ -72,6 +72,12 @@ pub enum Event {
         spir: u64,
         id: u32,
     },
+    /// A member asks the peer to synchronise the Message IDs and the ESP sequence number of the
+    /// association with this SPIr (RFC 6311, section 5).
+    Sync {
+        member: u64,
+        spir: u64,
+    },
     /// A datagram is delivered to an end.
     Deliver {
         which: Which,

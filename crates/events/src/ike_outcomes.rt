@@ -38,4 +38,12 @@ pub enum IkeDrop {
     NotSynced(u32),
     /// A response to a request that is not outstanding.
     NotAsked,
+    /// A request to synchronise whose Message ID is not above the highest that the cluster used: the
+    /// highest (RFC 6311, section 5.1).
+    SyncOld(u32),
+    /// The response to a request to synchronise before the last one.
+    Nonce,
+    /// A request to synchronise whose replay counter notification has neither no octets nor eight,
+    /// or by which the ESP sequence number would pass its end (RFC 6311, section 6.4).
+    Delta,
 }

@@ -1,7 +1,7 @@
 //! How an event came out.
 
 use crate::ike_outcomes::{IkeDrop, Kept, Mark};
-use ha_base::{CounterName, EspDrop, EspOpened, Octets};
+use ha_base::{CounterName, EspDrop, EspOpened, NumberList, Octets};
 use keeper_book::Five;
 
 /// How an event came out.
@@ -63,6 +63,29 @@ pub enum Verdict {
         kept: Kept,
         error: Option<u16>,
     },
+    /// A member asked the peer to synchronise: the Message ID of its next request, and that of the
+    /// next request that it expects (RFC 6311, section 5.1).
+    Syncing {
+        m1: u32,
+        p1: u32,
+    },
+    /// The peer accepted a synchronisation: the counter of the requests that it answers, the Message
+    /// ID of its own next request, that of the next request that it expects, by how much its ESP
+    /// sequence number rose, and the Message IDs of its requests whose outcome stays unknown.
+    SyncAccepted {
+        counter: CounterName,
+        p2: u32,
+        m2: u32,
+        delta: u64,
+        unknown: NumberList<8>,
+    },
+    /// A member is synchronised: the counter of the requests that it answers, the Message ID of its
+    /// next request, and that of the next request that it expects.
+    Synced {
+        counter: CounterName,
+        next_ask: u32,
+        floor: u32,
+    },
     /// An IKE message was dropped.
     DroppedIke(IkeDrop),
     /// An ESP packet was dropped.
@@ -102,6 +125,8 @@ pub enum Refusal {
     KeeperFault,
     /// No request of this Message ID is outstanding.
     NotOutstanding(u32),
+    /// The member has nothing to synchronise.
+    NoSync,
     /// The association is closed.
     Closed,
     /// There is no such association.

@@ -5,7 +5,7 @@ use Rattle.ike_values.specs.declared.fault.Reason.{Reason}
 use Rattle.ike_values.specs.declared.fault.Reason.TheVariants as reasons
 use Rattle.fault_text.specs.FaultWords.{bad_words, reason_words}
 use Rattle.line_fields.specs.declared.fault.LineReason.TheVariants.{Word}
-use Rattle.report_text.specs.Drops.{PlainDrop, NotOpened, Short, WrongSpi, Stale, Seen, Padding, Bad, Direction, Exchange, UnknownSpi, Old, Ahead, NotSynced, NotAsked, drop_words}
+use Rattle.report_text.specs.Drops.{PlainDrop, NotOpened, Short, WrongSpi, Stale, Seen, Padding, Bad, Direction, Exchange, UnknownSpi, Old, Ahead, NotSynced, NotAsked, SyncOld, Nonce, Delta, drop_words}
 use Rattle.report_text.specs.LineRanges.{FitsDrop, FitsReason, IsReportNumber}
 use Rattle.report_text.proofs.WordReading.{◌>>=◌, Reading, named, number_again, number_in, numbered}
 
@@ -52,11 +52,22 @@ drop_names =
     ∷ (codes "direction", Direction)
     ∷ (codes "unknown-spi", UnknownSpi)
     ∷ (codes "not-asked", NotAsked)
+    ∷ (codes "nonce", Nonce)
+    ∷ (codes "delta", Delta)
+    ∷ []
+
+abbrev numbered_drops : List (List ℕ × (ℕ → PlainDrop))
+numbered_drops =
+    (codes "exchange", Exchange)
+    ∷ (codes "old", Old)
+    ∷ (codes "ahead", Ahead)
+    ∷ (codes "not-synced", NotSynced)
+    ∷ (codes "sync-old", SyncOld)
     ∷ []
 
 abbrev other_in : List ℕ → List (List ℕ) → Reading PlainDrop
 other_in w [] = named drop_names w
-other_in w (n ∷ ws) = numbered ((codes "exchange", Exchange) ∷ (codes "old", Old) ∷ (codes "ahead", Ahead) ∷ (codes "not-synced", NotSynced) ∷ []) w n
+other_in w (n ∷ ws) = numbered numbered_drops w n
 
 abbrev pub drop_in : List (List ℕ) → Reading PlainDrop
 drop_in [] = Err Word
@@ -77,3 +88,6 @@ drop_again (Old id) fits = rw (number_again id fits) refl
 drop_again (Ahead id) fits = rw (number_again id fits) refl
 drop_again (NotSynced id) fits = rw (number_again id fits) refl
 drop_again NotAsked fits = refl
+drop_again (SyncOld id) fits = rw (number_again id fits) refl
+drop_again Nonce fits = refl
+drop_again Delta fits = refl

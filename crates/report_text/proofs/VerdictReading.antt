@@ -8,10 +8,10 @@ use Rattle.events.specs.declared.verdict.Refusal.{Refusal}
 use Rattle.events.specs.declared.verdict.Refusal.TheVariants as refusals
 use Rattle.line_fields.specs.declared.fault.LineReason.TheVariants.{Word}
 use Rattle.report_text.specs.LineRanges.{FitsError, FitsRefusal, FitsVerdict}
-use Rattle.report_text.specs.Lines.{PlainVerdict, Configured, Entered, Down, Member, Owned, Number, Sent, Asked, Resent, Executed, Repeated, Refusing, Reply, Accepted, Dropped, Refused}
+use Rattle.report_text.specs.Lines.{PlainVerdict, Configured, Entered, Down, Member, Owned, Number, Sent, Asked, Resent, Executed, Repeated, Refusing, Reply, Syncing, SyncAccepted, Synced, Accepted, Dropped, Refused}
 use Rattle.report_text.specs.Spelling.{error_words, mark_words, refusal_words, verdict_words}
 use Rattle.report_text.proofs.DropReading.{drop_again, drop_in}
-use Rattle.report_text.proofs.WordReading.{◌>>=◌, Reading, five_again, five_in, named, number_again, number_in, numbered, octets_again, octets_in}
+use Rattle.report_text.proofs.WordReading.{◌>>=◌, Reading, five_again, five_in, named, number_again, number_in, numbered, numbers_again, numbers_in, octets_again, octets_in}
 
 abbrev refusal_names : List (List ℕ × Refusal)
 refusal_names =
@@ -19,6 +19,7 @@ refusal_names =
     ∷ (codes "not-synced", refusals.NotSynced)
     ∷ (codes "exhausted", refusals.Exhausted)
     ∷ (codes "keeper-fault", refusals.KeeperFault)
+    ∷ (codes "no-sync", refusals.NoSync)
     ∷ (codes "closed", refusals.Closed)
     ∷ (codes "unknown", refusals.Unknown)
     ∷ (codes "spi-in-use", refusals.SpiInUse)
@@ -53,6 +54,7 @@ refusal_again (refusals.WindowFull id) fits = rw (number_again id fits) refl
 refusal_again refusals.Exhausted fits = refl
 refusal_again refusals.KeeperFault fits = refl
 refusal_again (refusals.NotOutstanding id) fits = rw (number_again id fits) refl
+refusal_again refusals.NoSync fits = refl
 refusal_again refusals.Closed fits = refl
 refusal_again refusals.Unknown fits = refl
 refusal_again (refusals.Full limit) fits = rw (number_again limit fits) refl
@@ -110,6 +112,23 @@ reply_in (n ∷ o ∷ ws) = do
   Ok (Reply id reply keeps.Plain error)
 reply_in other = Err Word
 
+abbrev syncing_in : List (List ℕ) → Reading PlainVerdict
+syncing_in (m ∷ p ∷ []) = number_in m >>= (λ m1. number_in p >>= (λ p1. Ok (Syncing m1 p1)))
+syncing_in other = Err Word
+
+abbrev sync_accepted_in : List (List ℕ) → Reading PlainVerdict
+sync_accepted_in (p ∷ m ∷ d ∷ u ∷ []) = do
+  p2 ← number_in p
+  m2 ← number_in m
+  delta ← number_in d
+  unknown ← numbers_in u
+  Ok (SyncAccepted p2 m2 delta unknown)
+sync_accepted_in other = Err Word
+
+abbrev synced_in : List (List ℕ) → Reading PlainVerdict
+synced_in (n ∷ f ∷ []) = number_in n >>= (λ next_ask. number_in f >>= (λ floor. Ok (Synced next_ask floor)))
+synced_in other = Err Word
+
 abbrev numbered_verdicts : List (List ℕ × (ℕ → PlainVerdict))
 numbered_verdicts =
     (codes "member", Member)
@@ -132,6 +151,9 @@ verdict_in (w ∷ ws) =
     else if bytes_eq w (codes "executed") then executed_in ws
     else if bytes_eq w (codes "refusing") then refusing_in ws
     else if bytes_eq w (codes "reply") then reply_in ws
+    else if bytes_eq w (codes "syncing") then syncing_in ws
+    else if bytes_eq w (codes "sync-accepted") then sync_accepted_in ws
+    else if bytes_eq w (codes "synced") then synced_in ws
     else if bytes_eq w (codes "dropped") then drop_in ws >>= (λ why. Ok (Dropped why))
     else if bytes_eq w (codes "refused") then refusal_in ws >>= (λ refusal. Ok (Refused refusal))
     else other_in w ws
@@ -151,5 +173,9 @@ verdict_again (Executed id mark) fits = rw (number_again id fits, mark_again mar
 verdict_again (Repeated id) fits = rw (number_again id fits) refl
 verdict_again (Refusing id notify) fits = rw (number_again id fits.0, number_again notify fits.1) refl
 verdict_again (Reply id reply keeps.Plain error) fits = rw (number_again id fits.0, octets_again reply fits.1, error_again error fits.2) refl
+verdict_again (Syncing m1 p1) fits = rw (number_again m1 fits.0, number_again p1 fits.1) refl
+verdict_again (SyncAccepted p2 m2 delta unknown) fits =
+    rw (number_again p2 fits.0, number_again m2 fits.1, number_again delta fits.2, numbers_again unknown fits.3) refl
+verdict_again (Synced next_ask floor) fits = rw (number_again next_ask fits.0, number_again floor fits.1) refl
 verdict_again (Dropped why) fits = rw (drop_again why fits) refl
 verdict_again (Refused refusal) fits = rw (refusal_again refusal fits) refl

@@ -26,6 +26,9 @@ pub data PlainDrop : Type 0 where
   Ahead : ℕ → PlainDrop  -- the Message ID
   NotSynced : ℕ → PlainDrop  -- the Message ID
   NotAsked : PlainDrop
+  SyncOld : ℕ → PlainDrop  -- the highest Message ID
+  Nonce : PlainDrop
+  Delta : PlainDrop
 
 abbrev pub dropped_packet : EspDrop → PlainDrop
 dropped_packet packets.Short = Short
@@ -45,6 +48,9 @@ dropped_message (messages.Old id) = Old id
 dropped_message (messages.Ahead id) = Ahead id
 dropped_message (messages.NotSynced id) = NotSynced id
 dropped_message messages.NotAsked = NotAsked
+dropped_message (messages.SyncOld id) = SyncOld id
+dropped_message messages.Nonce = Nonce
+dropped_message messages.Delta = Delta
 
 abbrev pub drop_words : PlainDrop → List (List ℕ)
 drop_words NotOpened = codes "not-opened" ∷ []
@@ -61,3 +67,6 @@ drop_words (Old id) = codes "old" ∷ decimal id ∷ []
 drop_words (Ahead id) = codes "ahead" ∷ decimal id ∷ []
 drop_words (NotSynced id) = codes "not-synced" ∷ decimal id ∷ []
 drop_words NotAsked = codes "not-asked" ∷ []
+drop_words (SyncOld id) = codes "sync-old" ∷ decimal id ∷ []
+drop_words Nonce = codes "nonce" ∷ []
+drop_words Delta = codes "delta" ∷ []

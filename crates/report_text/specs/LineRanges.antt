@@ -1,5 +1,6 @@
 -- What the fields of a report's line may be.
 use Rattle.std.specs.Prelude.{ℕ, ◌^◌, ◌<◌, List, Option, Some, None}
+use Rattle.std.specs.List.{All}
 use Rattle.ha_base.specs.declared.counter_names.Derivation.{Derivation}
 use Rattle.ha_base.specs.declared.limits.TheConstants.{ALLOCATION_END}
 use Rattle.ike_values.specs.declared.fault.Reason.{Reason}
@@ -10,8 +11,8 @@ use Rattle.events.specs.declared.verdict.Refusal.TheVariants as refusals
 use Rattle.event_text.specs.Grammar.{EventLine, line_words}
 use Rattle.line_fields.specs.Octets.{IsOctetField}
 use Rattle.line_fields.specs.Words.{line_of}
-use Rattle.report_text.specs.Drops.{PlainDrop, Bad, Exchange, Old, Ahead, NotSynced}
-use Rattle.report_text.specs.Lines.{PlainVerdict, ReportLine, Configured, Entered, Down, Member, Owned, Number, Sent, Asked, Resent, Executed, Repeated, Refusing, Reply, Accepted, Dropped, Refused, TurnLine, KeepLine, ServeLine, SealLine, GivesLine, OutLine, EndLine}
+use Rattle.report_text.specs.Drops.{PlainDrop, Bad, Exchange, Old, Ahead, NotSynced, SyncOld}
+use Rattle.report_text.specs.Lines.{PlainVerdict, ReportLine, Configured, Entered, Down, Member, Owned, Number, Sent, Asked, Resent, Executed, Repeated, Refusing, Reply, Syncing, SyncAccepted, Synced, Accepted, Dropped, Refused, TurnLine, KeepLine, ServeLine, SealLine, GivesLine, OutLine, EndLine}
 use Rattle.report_text.specs.declared.line.KeyOrigin.{KeyOrigin}
 use Rattle.report_text.specs.declared.line.KeyOrigin.TheVariants as origins
 use Rattle.report_text.specs.declared.line.PlainAnswer.{PlainAnswer}
@@ -86,6 +87,7 @@ FitsDrop (Exchange number) = IsReportNumber number
 FitsDrop (Old id) = IsReportNumber id
 FitsDrop (Ahead id) = IsReportNumber id
 FitsDrop (NotSynced id) = IsReportNumber id
+FitsDrop (SyncOld id) = IsReportNumber id
 FitsDrop other = Unit {0}
 
 -- the notify type of an error, where there is one
@@ -110,6 +112,10 @@ FitsVerdict (Repeated id) = IsReportNumber id
 FitsVerdict (Refusing id notify) = IsReportNumber id × IsReportNumber notify
 FitsVerdict (Reply id reply kept error) =
     IsReportNumber id × AreReportOctets reply × FitsError error
+FitsVerdict (Syncing m1 p1) = IsReportNumber m1 × IsReportNumber p1
+FitsVerdict (SyncAccepted p2 m2 delta unknown) =
+    IsReportNumber p2 × IsReportNumber m2 × IsReportNumber delta × All IsReportNumber unknown
+FitsVerdict (Synced next_ask floor) = IsReportNumber next_ask × IsReportNumber floor
 FitsVerdict (Dropped why) = FitsDrop why
 FitsVerdict (Refused refusal) = FitsRefusal refusal
 

@@ -34,6 +34,13 @@ pub data PlainVerdict : Type 0 where
   Refusing : ℕ → ℕ → PlainVerdict  -- the Message ID, and the notify type
   -- the Message ID, the reply, what was kept besides, and the notify type of an error
   Reply : ℕ → List ℕ → Kept → Option ℕ → PlainVerdict
+  -- the Message IDs of the member's next request, and of the next one that it expects
+  Syncing : ℕ → ℕ → PlainVerdict
+  -- the Message IDs of the peer's next request and of the next one that it expects, by how much its
+  -- ESP sequence number rose, and the Message IDs of its requests whose outcome stays unknown
+  SyncAccepted : ℕ → ℕ → ℕ → List ℕ → PlainVerdict
+  -- the Message IDs of the member's next request, and of the next one that it expects
+  Synced : ℕ → ℕ → PlainVerdict
   Dropped : PlainDrop → PlainVerdict
   Refused : Refusal → PlainVerdict
 
@@ -53,6 +60,9 @@ plain_verdict (verdicts.Executed counter id mark) = Executed id mark
 plain_verdict (verdicts.Repeated id) = Repeated id
 plain_verdict (verdicts.Refusing counter id notify) = Refusing id notify
 plain_verdict (verdicts.Reply counter id reply kept error) = Reply id reply.octets kept error
+plain_verdict (verdicts.Syncing m1 p1) = Syncing m1 p1
+plain_verdict (verdicts.SyncAccepted counter p2 m2 delta unknown) = SyncAccepted p2 m2 delta unknown
+plain_verdict (verdicts.Synced counter next_ask floor) = Synced next_ask floor
 plain_verdict (verdicts.DroppedIke why) = Dropped (dropped_message why)
 plain_verdict (verdicts.DroppedEsp why) = Dropped (dropped_packet why)
 plain_verdict (verdicts.Refused refusal) = Refused refusal

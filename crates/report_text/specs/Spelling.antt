@@ -18,7 +18,7 @@ use Rattle.event_text.specs.Grammar.{line_words}
 use Rattle.line_fields.specs.Octets.{octets_text, spi_text}
 use Rattle.line_fields.specs.Writing.{line_text}
 use Rattle.report_text.specs.Drops.{drop_words}
-use Rattle.report_text.specs.Lines.{PlainVerdict, ReportLine, Configured, Entered, Down, Member, Owned, Number, Sent, Asked, Resent, Executed, Repeated, Refusing, Reply, Accepted, Dropped, Refused, TurnLine, KeepLine, ServeLine, SealLine, GivesLine, OutLine, EndLine}
+use Rattle.report_text.specs.Lines.{PlainVerdict, ReportLine, Configured, Entered, Down, Member, Owned, Number, Sent, Asked, Resent, Executed, Repeated, Refusing, Reply, Syncing, SyncAccepted, Synced, Accepted, Dropped, Refused, TurnLine, KeepLine, ServeLine, SealLine, GivesLine, OutLine, EndLine}
 use Rattle.report_text.specs.declared.line.KeyOrigin.{KeyOrigin}
 use Rattle.report_text.specs.declared.line.KeyOrigin.TheVariants as origins
 use Rattle.report_text.specs.declared.line.Part.{Part}
@@ -91,6 +91,17 @@ part_word parts.EspC = codes "esp-c"
 part_word parts.EspP = codes "esp-p"
 part_word parts.Ticket = codes "ticket"
 
+-- ---- numbers in one word
+
+-- a number behind another one
+abbrev pub comma_number : ℕ → List ℕ
+comma_number number = 44 ∷ decimal number
+
+-- numbers in their order, joined by commas, or `-` where there are none
+unfoldable pub numbers_text : List ℕ → List ℕ
+numbers_text [] = codes "-"
+numbers_text (number ∷ others) = decimal number ++ flat_map comma_number others
+
 -- ---- how it came out
 
 abbrev pub refusal_words : Refusal → List (List ℕ)
@@ -101,6 +112,7 @@ refusal_words (refusals.WindowFull id) = codes "window-full" ∷ decimal id ∷ 
 refusal_words refusals.Exhausted = codes "exhausted" ∷ []
 refusal_words refusals.KeeperFault = codes "keeper-fault" ∷ []
 refusal_words (refusals.NotOutstanding id) = codes "not-outstanding" ∷ decimal id ∷ []
+refusal_words refusals.NoSync = codes "no-sync" ∷ []
 refusal_words refusals.Closed = codes "closed" ∷ []
 refusal_words refusals.Unknown = codes "unknown" ∷ []
 refusal_words (refusals.Full limit) = codes "full" ∷ decimal limit ∷ []
@@ -144,6 +156,10 @@ verdict_words (Repeated id) = codes "repeated" ∷ decimal id ∷ []
 verdict_words (Refusing id notify) = codes "refusing" ∷ decimal id ∷ decimal notify ∷ []
 verdict_words (Reply id reply kept error) =
     codes "reply" ∷ decimal id ∷ octets_text reply ∷ (kept_words kept ++ error_words error)
+verdict_words (Syncing m1 p1) = codes "syncing" ∷ decimal m1 ∷ decimal p1 ∷ []
+verdict_words (SyncAccepted p2 m2 delta unknown) =
+    codes "sync-accepted" ∷ decimal p2 ∷ decimal m2 ∷ decimal delta ∷ numbers_text unknown ∷ []
+verdict_words (Synced next_ask floor) = codes "synced" ∷ decimal next_ask ∷ decimal floor ∷ []
 verdict_words (Dropped why) = codes "dropped" ∷ drop_words why
 verdict_words (Refused refusal) = codes "refused" ∷ refusal_words refusal
 

@@ -183,6 +183,11 @@ pub(crate) fn put_event(alloc: Global, out: &mut Octets, event: &Event) -> Resul
             put_sender(alloc, out, b"again", *from, *spir)?;
             put_number(alloc, out, u64::from(*id))
         }
+        Event::Sync { member, spir } => {
+            put_word(out, b"sync")?;
+            put_number(alloc, out, *member)?;
+            put_spi(alloc, out, *spir)
+        }
         Event::Deliver { which, to } => {
             put_word(out, b"deliver")?;
             put_which(alloc, out, *which)?;

@@ -12,6 +12,7 @@ mod ranges;
 mod refusals;
 mod request_verdicts;
 mod spelling;
+mod sync_verdicts;
 mod turn;
 mod turn_lines;
 mod verdicts;

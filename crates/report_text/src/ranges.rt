@@ -1,7 +1,7 @@
 //! The fields of a report's lines are in their ranges, since a turn's are in those of their types.
 
 ghost use Rattle.std.specs.Prelude.{ℕ, List, option_to_list};
-ghost use Rattle.std.specs.List.{AllByRecursion, flat_map};
+ghost use Rattle.std.specs.List.{All, AllByRecursion, flat_map};
 ghost use Rattle.std.specs.Option.{option_map};
 ghost use Rattle.events.specs.Events.{plain};
 ghost use Rattle.event_text.specs.Grammar.{EventLine};
@@ -23,6 +23,10 @@ fn number_fits(number: u64)
 
 fn octets_fit(octets: &[u8])
     ensures { AreReportOctets octets.now }
+{}
+
+fn numbers_fit(numbers: &[u32])
+    ensures { All IsReportNumber numbers.now }
 {}
 
 fn bases_fit(five: Five)
@@ -103,7 +107,9 @@ fn message_drop_fits(why: IkeDrop)
     match why {
         IkeDrop::Bad(fault) => reason_fits(fault.reason),
         IkeDrop::Exchange(_) | IkeDrop::Old(_) | IkeDrop::Ahead(_) | IkeDrop::NotSynced(_) => {}
+        IkeDrop::SyncOld(_) => {}
         IkeDrop::Direction | IkeDrop::UnknownSpi | IkeDrop::NotOpened | IkeDrop::NotAsked => {}
+        IkeDrop::Nonce | IkeDrop::Delta => {}
     }
 }
 
@@ -165,6 +171,26 @@ fn verdict_fits(verdict: &Verdict)
             let _id = *id;
             octets_fit(reply.as_slice());
             error_fits(*error);
+        }
+        Verdict::Syncing { m1, p1 } => {
+            let _numbers = (*m1, *p1);
+        }
+        Verdict::SyncAccepted {
+            counter: _,
+            p2,
+            m2,
+            delta,
+            unknown,
+        } => {
+            let _numbers = (*p2, *m2, *delta);
+            numbers_fit(unknown.as_slice());
+        }
+        Verdict::Synced {
+            counter: _,
+            next_ask,
+            floor,
+        } => {
+            let _numbers = (*next_ask, *floor);
         }
         Verdict::DroppedIke(why) => message_drop_fits(*why),
         Verdict::DroppedEsp(why) => packet_drop_fits(*why),

@@ -24,6 +24,7 @@ fn put_refusal(alloc: Global, out: &mut Octets, refusal: Refusal) -> Result<(), 
         Refusal::NotOutstanding(id) => {
             put_named_number(alloc, out, b"not-outstanding", u64::from(id))
         }
+        Refusal::NoSync => put_word(out, b"no-sync"),
         Refusal::Closed => put_word(out, b"closed"),
         Refusal::Unknown => put_word(out, b"unknown"),
         Refusal::Full(limit) => put_named_number(alloc, out, b"full", limit),

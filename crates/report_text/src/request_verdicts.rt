@@ -89,6 +89,9 @@ fn put_why(alloc: Global, out: &mut Octets, why: IkeDrop) -> Result<(), Memory>
         IkeDrop::Ahead(id) => put_named_number(alloc, out, b"ahead", u64::from(id)),
         IkeDrop::NotSynced(id) => put_named_number(alloc, out, b"not-synced", u64::from(id)),
         IkeDrop::NotAsked => put_word(out, b"not-asked"),
+        IkeDrop::SyncOld(id) => put_named_number(alloc, out, b"sync-old", u64::from(id)),
+        IkeDrop::Nonce => put_word(out, b"nonce"),
+        IkeDrop::Delta => put_word(out, b"delta"),
     }
 }
 

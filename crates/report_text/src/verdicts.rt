@@ -1,6 +1,7 @@
 //! How an event came out, in words. The verdicts of a kind have a module: those of the run stand
-//! here, those of ESP in `esp_verdicts`, those on requests in `request_verdicts`, those that refuse in
-//! `refusals`. Synchronisations, resumptions and redirects get one each beside them.
+//! here, those of ESP in `esp_verdicts`, those on requests in `request_verdicts`, those of
+//! synchronisations in `sync_verdicts`, those that refuse in `refusals`. Resumptions and redirects get
+//! one each beside them.
 
 ghost use Rattle.std.specs.Prelude.{◌≡◌, [], ◌∷◌, ◌++◌, OnOk};
 ghost use Rattle.std.specs.Fmt.{decimal};
@@ -14,6 +15,7 @@ use crate::event::put_five;
 use crate::named::put_named_number;
 use crate::refusals::put_refused;
 use crate::request_verdicts::{put_dropped_message, put_executed, put_refusing, put_reply};
+use crate::sync_verdicts::{put_sync_accepted, put_synced, put_syncing};
 use events::Verdict;
 use ha_base::{Memory, Octets};
 use std::alloc::Global;
@@ -60,6 +62,19 @@ pub(crate) fn put_verdict(alloc: Global, out: &mut Octets, verdict: &Verdict) ->
             kept,
             error,
         } => put_reply(alloc, out, *id, reply.as_slice(), *kept, *error),
+        Verdict::Syncing { m1, p1 } => put_syncing(alloc, out, *m1, *p1),
+        Verdict::SyncAccepted {
+            counter: _,
+            p2,
+            m2,
+            delta,
+            unknown,
+        } => put_sync_accepted(alloc, out, *p2, *m2, *delta, unknown.as_slice()),
+        Verdict::Synced {
+            counter: _,
+            next_ask,
+            floor,
+        } => put_synced(alloc, out, *next_ask, *floor),
         Verdict::DroppedIke(why) => put_dropped_message(alloc, out, *why),
         Verdict::DroppedEsp(why) => put_dropped_packet(out, *why),
         Verdict::Refused(refusal) => put_refused(alloc, out, *refusal),
