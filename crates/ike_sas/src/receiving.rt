@@ -187,9 +187,8 @@ impl IkeSa {
         self.judge(alloc, opened)
     }
 
-    /// What a request is that is no synchronisation, or that is not taken for one. An error is want
-    /// of memory.
-    pub fn judge(&self, alloc: Global, opened: Opened) -> Result<Arrival, Memory>
+    // What a request is that is no synchronisation. An error is want of memory.
+    fn judge(&self, alloc: Global, opened: Opened) -> Result<Arrival, Memory>
         ensures steps { IfOk result (IsOrdinaryRequest self.now opened) }
         ensures new { IfOk result (IsNewFor self.now opened.header) }
     {

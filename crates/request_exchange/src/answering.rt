@@ -4,7 +4,7 @@ ghost use Rattle.ike_sas.specs.Answers.{data_of, error_of};
 ghost use Rattle.ike_sas.specs.declared.answers.TheConstants.{ANSWER_OCTETS, LONGEST_REPLY};
 ghost use Rattle.ike_window.specs.Requests.{IsNewRequest};
 ghost use Rattle.ike_window.specs.Windows.{IsAnswered};
-ghost use Rattle.turn_rules.specs.IkeState.{answered_after, kept_under};
+ghost use Rattle.turn_rules.specs.IkeState.{with_taken, kept_under};
 ghost use Rattle.turn_rules.specs.Messages.{AnswersRequest, ExecutesRequest, RefusesRequest};
 ghost use Rattle.turn_rules.specs.Services.{Executes, Serves};
 
@@ -68,7 +68,7 @@ pub fn answer(
     requires room { count service.old < MOST_REQUESTS }
     ensures answers { AnswersRequest name sa.old iv.value request.now result }
     ensures held { sa.new ≡ record sa.old {
-      answered = answered_after (kept_under request.now.header.id result.gives) sa.old.answered;
+      answered = with_taken (kept_under request.now.header.id result.gives) sa.old.answered;
     } }
     ensures serves { Serves count last gives service.old result.served service.new }
 {
@@ -133,7 +133,7 @@ fn executed(
     ensures executes { ExecutesRequest name sa.old iv.value request.now result }
     ensures served { result.served ≡ Some served }
     ensures held { sa.new ≡ record sa.old {
-      answered = answered_after (kept_under request.now.header.id result.gives) sa.old.answered;
+      answered = with_taken (kept_under request.now.header.id result.gives) sa.old.answered;
     } }
 {
     let sent = sa.answer(draft, request, served.reply.as_slice(), iv);
@@ -161,7 +161,7 @@ fn refused(
     requires fits { ANSWER_OCTETS ≤ draft.room }
     ensures refuses { RefusesRequest name sa.old iv.value request.now error result }
     ensures held { sa.new ≡ record sa.old {
-      answered = answered_after (kept_under request.now.header.id result.gives) sa.old.answered;
+      answered = with_taken (kept_under request.now.header.id result.gives) sa.old.answered;
     } }
 {
     let sent = sa.answer(draft, request, &[], iv);

@@ -1,4 +1,4 @@
-ghost use Rattle.std.specs.Prelude.{◌≡◌, ◌+◌, ◌<◌, ◌≤◌, length, IfOk, None};
+ghost use Rattle.std.specs.Prelude.{◌≡◌, ◌+◌, ◌<◌, ◌≤◌, false, length, IfOk, None};
 ghost use Rattle.ha_base.specs.declared.services.TheConstants.{LONGEST_REQUEST};
 ghost use Rattle.ike_window.specs.Asking.{FitsBeside};
 ghost use Rattle.ike_window.specs.declared.TheConstants.{LAST_ID};
@@ -55,7 +55,7 @@ pub fn ask(sa: &mut IkeSa, room: RequestRoom, id: u32, iv: Number) -> Step
     requires below_the_end { id < LAST_ID }
     ensures sends { SendsRequest sa.old id iv.value room result }
     ensures held { sa.new ≡ record sa.old {
-      asked = outstanding_after (kept_under id result.gives) None sa.old.asked;
+      asked = outstanding_after false (kept_under id result.gives) None sa.old.asked;
       next = id + 1;
     } }
 {

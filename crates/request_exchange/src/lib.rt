@@ -14,4 +14,4 @@ mod steps;
 pub use answering::{AnswerRoom, answer};
 pub use asking::{RequestRoom, ask, resend};
 pub use replies::take_reply;
-pub use steps::{drop_message, repeat};
+pub use steps::{drop_message, repeat, sent_step};

@@ -7,8 +7,8 @@ ghost use Rattle.turn_rules.specs.Steps.{Says};
 use events::{Datagram, IkeDrop, Seals, Served, Step, Verdict};
 use ike_sas::SentMessage;
 
-/// The step in which a message was sent.
-pub(crate) fn sent_step(verdict: Verdict, served: Option<Served>, sent: SentMessage) -> Step
+/// The step in which a message was sent, with this verdict, and what a service executed before.
+pub fn sent_step(verdict: Verdict, served: Option<Served>, sent: SentMessage) -> Step
     ensures verdict { result.verdict ≡ verdict }
     ensures served { result.served ≡ served }
     ensures seals { result.seals ≡ sent.seal ∷ [] }

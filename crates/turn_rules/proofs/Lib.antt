@@ -1,6 +1,7 @@
 pub mod Cases
 pub mod GenuinePackets
 pub mod KeySizes
+pub mod NoSynchronisation
 pub mod Readies
 pub mod Refusals
 pub mod SlotTies

@@ -3,7 +3,7 @@ use Rattle.std.proofs.Common.{◌≡◌, ◌≢◌, ℕ, ◌+◌, ◌==◌, ◌�
 use Rattle.std.proofs.lemmas.Bool.{eqb-false, eq-eqb, ne_eqb, not-false, not-true, or_parts}
 use Rattle.std.proofs.lemmas.List.{map-append}
 use Rattle.std.proofs.lemmas.Option.{same_Some}
-use Rattle.std.specs.List.{AllByRecursion, filter_map, list_any}
+use Rattle.std.specs.List.{AllByRecursion, cons_option, filter_map, list_any}
 use Rattle.std.specs.Option.{option_map}
 use Rattle.events.specs.declared.event.Event.{Event}
 use Rattle.events.specs.declared.event.Event.TheVariants as event
@@ -20,14 +20,14 @@ use Rattle.keeper_book.specs.declared.calls.Call.{Call}
 use Rattle.keeper_book.specs.declared.counters.Counter.TheVariants as counter
 use Rattle.keeper_book.specs.declared.records.Record.{Record}
 use Rattle.replay_set.specs.Window.{window_of}
-use Rattle.turn_rules.proofs.Ties.{greatest-cons_option, received-peer, responses-cons_option, window_of-cons_option}
+use Rattle.turn_rules.proofs.Ties.{greatest-cons_option, jumps-cons_option, received-peer, responses-cons_option, window_of-cons_option}
 use Rattle.turn_rules.specs.Configurations.{Configuration, configured_in, default_configuration}
 use Rattle.turn_rules.specs.Ends.{Peer, Performer, is_by, is_end, own, performer_at}
 use Rattle.turn_rules.specs.Fits.{Does, Imports, Refuses, Refusing, run_refusal}
-use Rattle.turn_rules.specs.Held.{after_received, first_some, found, greatest, received_in, received_of, config_by, configured_at, window_by}
-use Rattle.turn_rules.specs.IkeState.{outstanding_of, turn_response}
+use Rattle.turn_rules.specs.Held.{after_received, first_some, floor_of, found, greatest, received_in, received_of, config_by, configured_at, window_by}
+use Rattle.turn_rules.specs.IkeState.{outstanding_of, turn_agreed, turn_response}
 use Rattle.turn_rules.specs.Peers.{AreDistinct, Differ, admits, associations_by, clashes, record_entered, entered_in}
-use Rattle.turn_rules.specs.Slots.{Slot, entered_slot, first_slot, is_entered, records, sent_of, since_entered, spent_of, slot_after, slot_by, slots_after, slots_by}
+use Rattle.turn_rules.specs.Slots.{Slot, after_heard, entered_slot, first_slot, heard_of, highest_of, is_entered, left_of, next_sent, one_below, records, since_entered, spent_of, slot_after, slot_by, slots_after, slots_by}
 use Rattle.turn_rules.specs.States.{RunState, told_state}
 use Rattle.turn_rules.specs.Tasks.{peer_task}
 
@@ -70,13 +70,18 @@ module _ (size : ℕ) (turn : Turn) (past : List Turn) where
   abbrev slot_as : Record → List Turn → Slot
   slot_as sa mine = record {
     sa = sa;
-    next = greatest sa.starts.esp_in (map (λ n. n + 1) (filter_map (sent_of sa.spir) mine));
+    next = next_sent sa.spir sa.starts.esp_in mine;
     window = window_of size sa.starts.esp_out (filter_map (received_of sa.spir) mine);
     iv = greatest sa.starts.iv (map (λ n. n + 1) (filter_map (spent_of sa.spir counter.Iv) mine));
-    ask = greatest sa.starts.answer (map (λ n. n + 1) (filter_map (spent_of sa.spir counter.Ask) mine));
+    ask = greatest (greatest sa.starts.answer (map (λ n. n + 1) (filter_map (spent_of sa.spir counter.Ask) mine))) (filter_map (left_of sa.spir counter.Ask) mine);
     asked = outstanding_of peer_task sa.spir mine;
-    answered = window_of_responses sa.starts.ask (filter_map (turn_response peer_task sa.spir) mine);
+    answered = window_of_responses (floor_of sa.starts.ask (filter_map (turn_agreed peer_task sa.spir) mine)) (filter_map (turn_response peer_task sa.spir) mine);
+    highest = highest_of (one_below sa.starts.ask) (filter_map (heard_of sa.spir) mine);
   }
+
+  highest-cons_option : (heard before : Option ℕ) (ids : List ℕ) → highest_of before (cons_option heard ids) ≡ after_heard heard (highest_of before ids)
+  highest-cons_option None before ids = refl
+  highest-cons_option (Some id) before ids = refl
 
   window_later : (sa : Record) (mine : List Turn) → window_of size sa.starts.esp_out (filter_map (received_of sa.spir) (turn ∷ mine)) ≡ after_received (received_in sa.spir (peer_task turn.event) turn.step.verdict) (slot_as sa mine).window
   window_later sa mine =
@@ -86,12 +91,13 @@ module _ (size : ℕ) (turn : Turn) (past : List Turn) where
   later : (sa : Record) (mine : List Turn) → slot_as sa (turn ∷ mine) ≡ slot_after (peer_task turn.event) turn.step (slot_as sa mine)
   later sa mine i = record {
     sa = sa;
-    next = greatest-cons_option (sent_of sa.spir turn) sa.starts.esp_in (filter_map (sent_of sa.spir) mine) i;
+    next = next_sent sa.spir sa.starts.esp_in (turn ∷ mine);
     window = window_later sa mine i;
     iv = greatest-cons_option (spent_of sa.spir counter.Iv turn) sa.starts.iv (filter_map (spent_of sa.spir counter.Iv) mine) i;
-    ask = greatest-cons_option (spent_of sa.spir counter.Ask turn) sa.starts.answer (filter_map (spent_of sa.spir counter.Ask) mine) i;
+    ask = jumps-cons_option (left_of sa.spir counter.Ask turn) (spent_of sa.spir counter.Ask turn) sa.starts.answer (filter_map (spent_of sa.spir counter.Ask) mine) (filter_map (left_of sa.spir counter.Ask) mine) i;
     asked = outstanding_of peer_task sa.spir (turn ∷ mine);
-    answered = responses-cons_option (turn_response peer_task sa.spir turn) sa.starts.ask (filter_map (turn_response peer_task sa.spir) mine) i;
+    answered = responses-cons_option (turn_agreed peer_task sa.spir turn) (turn_response peer_task sa.spir turn) sa.starts.ask (filter_map (turn_agreed peer_task sa.spir) mine) (filter_map (turn_response peer_task sa.spir) mine) i;
+    highest = highest-cons_option (heard_of sa.spir turn) (one_below sa.starts.ask) (filter_map (heard_of sa.spir) mine) i;
   }
 
   -- what is held of an association that came before

@@ -7,16 +7,16 @@ use Rattle.events.specs.declared.turn.Turn.{Turn}
 use Rattle.keeper_book.specs.declared.records.Record.{Record}
 use Rattle.turn_rules.proofs.SlotTies.{DoesTold, admits-differ, apart-append, import-admits, other-config, own-config, slots-other, slots-own}
 use Rattle.turn_rules.proofs.Ties.{held_by-cons}
-use Rattle.turn_rules.specs.Configurations.{Configuration, Membership, default_configuration, gateway_of, membership}
+use Rattle.turn_rules.specs.Configurations.{Configuration, default_configuration, gateway_of, membership}
 use Rattle.turn_rules.specs.Datagrams.{datagrams_of}
 use Rattle.turn_rules.specs.Ends.{Member, Peer, is_by, own}
 use Rattle.turn_rules.specs.Fits.{Does}
-use Rattle.turn_rules.specs.Held.{Held, config_by, configured_at, first_some, found, held_after, held_by, window_by}
+use Rattle.turn_rules.specs.Held.{config_by, configured_at, first_some, found, window_by}
 use Rattle.turn_rules.specs.Local.{Explained, IsByRule, Local}
 use Rattle.turn_rules.specs.Peers.{AreDistinct, associations_by, entered_in}
 use Rattle.turn_rules.specs.PeerStates.{PeerHeld, peer_after, peer_by, peer_configured}
 use Rattle.turn_rules.specs.Slots.{Slot, slots_after, slots_by}
-use Rattle.turn_rules.specs.States.{ends, MemberHeld, fresh_at, has_ended, held_unless, is_join, joined_after, joins, member_after, member_by, member_unless, state_after, state_by, told_state}
+use Rattle.turn_rules.specs.States.{ends, MemberHeld, fresh_at, has_ended, is_join, joined_after, joins, member_after, member_by, member_unless, state_after, state_by, told_state}
 use Rattle.turn_rules.specs.Tasks.{member_task, peer_task}
 
 -- what own turns tell of a member, after one more of them

@@ -1,5 +1,5 @@
 -- How a cluster is configured, and what its ends take from that.
-use Rattle.std.specs.Prelude.{ℕ, ◌==◌, ◌||◌, codes, length, Option, Some, None, List, if◌then◌else◌}
+use Rattle.std.specs.Prelude.{ℕ, ◌==◌, ◌||◌, codes, length, Option, Some, None, List, [], if◌then◌else◌}
 use Rattle.aes_gcm.specs.NamedKey.{NamedKey}
 use Rattle.events.specs.declared.event.Event.{Event}
 use Rattle.events.specs.declared.event.Event.TheVariants as event
@@ -70,6 +70,11 @@ pub record Membership : Type 0 where
 
 abbrev pub membership : Configuration → List ℕ → Membership
 membership config fresh = record { config = config; fresh = fresh }
+
+-- the fresh octets of a member, if it joined
+abbrev pub fresh_octets : Option Membership → List ℕ
+fresh_octets None = []
+fresh_octets (Some membership) = membership.fresh
 
 -- the fresh octets of a member that joined at an event
 abbrev pub fresh_in : Event → Verdict → Option (List ℕ)

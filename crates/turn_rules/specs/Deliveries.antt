@@ -33,11 +33,11 @@ pub record PeerTakes (slots : List Slot) (octets : List ℕ) (calls : List Call)
   pub quiet : IsQuiet step
   pub no_calls : calls ≡ []
 
--- a member gets an IKE message or an ESP packet
-abbrev pub MemberGets : Medium → (ℕ → Option Held) → List ℕ → List Call → Step → Type 0
-MemberGets medium.Ike held octets calls step =
-    TakesMessage (member_listener held) octets calls step
-MemberGets medium.Esp held octets calls step = MemberTakes held octets calls step
+-- a member that was given these fresh octets gets an IKE message or an ESP packet
+abbrev pub MemberGets : Medium → List ℕ → (ℕ → Option Held) → List ℕ → List Call → Step → Type 0
+MemberGets medium.Ike fresh held octets calls step =
+    TakesMessage (member_listener fresh held) octets calls step
+MemberGets medium.Esp fresh held octets calls step = MemberTakes held octets calls step
 
 -- the peer gets an IKE message or an ESP packet
 abbrev pub PeerGets : Medium → List Slot → List ℕ → List Call → Step → Type 0

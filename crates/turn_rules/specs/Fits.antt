@@ -14,11 +14,12 @@ use Rattle.ha_base.specs.declared.outside.Moment.{Moment}
 use Rattle.ha_base.specs.declared.limits.TheConstants.{LEAST_ESP_SPI, LEAST_SPI, MAX_DATAGRAMS}
 use Rattle.keeper_book.specs.declared.calls.Call.{Call}
 use Rattle.keeper_book.specs.declared.records.Record.{Record}
+use Rattle.turn_rules.specs.Configurations.{fresh_octets}
 use Rattle.turn_rules.specs.Datagrams.{Delivery, PlainDatagram, delivery_of}
 use Rattle.turn_rules.specs.Deliveries.{MemberGets, PeerGets}
 use Rattle.turn_rules.specs.Draws.{Draws, EntersRecord, TakesOver}
 use Rattle.turn_rules.specs.Held.{Held}
-use Rattle.turn_rules.specs.MemberMessages.{AsksOf, ResendsOf}
+use Rattle.turn_rules.specs.MemberMessages.{AsksOf, ResendsOf, SyncsOf}
 use Rattle.turn_rules.specs.MemberPackets.{SendsData}
 use Rattle.turn_rules.specs.PeerMessages.{PeerAsks, PeerResends}
 use Rattle.turn_rules.specs.Peers.{admits}
@@ -66,6 +67,7 @@ abbrev pub is_of_datagrams : Event → Bool
 is_of_datagrams (event.Send from spir payload) = true
 is_of_datagrams (event.Ask from spir request) = true
 is_of_datagrams (event.Again from spir id) = true
+is_of_datagrams (event.Sync member spir) = true
 is_of_datagrams event = is_some (delivery_of event)
 
 abbrev pub member_of : Party → Option ℕ
@@ -81,6 +83,7 @@ abbrev pub named_in : Event → Option ℕ
 named_in (event.Own member spir) = Some member
 named_in (event.Draw member spir) = Some member
 named_in (event.Crash member) = Some member
+named_in (event.Sync member spir) = Some member
 named_in (event.Send from spir payload) = member_of from
 named_in (event.Ask from spir request) = member_of from
 named_in (event.Again from spir id) = member_of from
@@ -149,7 +152,8 @@ Receives state now to (Err why) calls step = ⊥
 Receives state now parties.Peer (Ok datagram) calls step =
     PeerGets datagram.medium state.peer.slots datagram.octets calls step
 Receives state now (parties.Member member) (Ok datagram) calls step =
-    MemberGets datagram.medium (state.members member).held datagram.octets calls step
+    MemberGets datagram.medium (fresh_octets (state.members member).given)
+    (state.members member).held datagram.octets calls step
 
 abbrev pub Delivers : RunState → Moment → Option Delivery → List Call → Step → Type 0
 Delivers state now None calls step = ⊥
@@ -178,6 +182,8 @@ Performs state now (event.Again parties.Peer spir id) calls step =
     (calls ≡ []) × PeerResends spir state.peer.slots id step
 Performs state now (event.Again (parties.Member member) spir id) calls step =
     ResendsOf ((state.members member).held spir) id calls step
+Performs state now (event.Sync member spir) calls step =
+    SyncsOf (fresh_octets (state.members member).given) ((state.members member).held spir) calls step
 Performs state now event calls step = Delivers state now (delivery_of event) calls step
 
 -- the calls of an event and what is done: the run refuses it, or its end performs it

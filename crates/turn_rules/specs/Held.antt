@@ -1,5 +1,5 @@
 -- What a member's own turns say that it holds.
-use Rattle.std.specs.Prelude.{ℕ, ◌+◌, ◌==◌, ◌&&◌, max, unwrap_or, Bool, true, false, Option, Some, None, is_some, List, [], ◌∷◌, map, if◌then◌else◌}
+use Rattle.std.specs.Prelude.{ℕ, ◌+◌, ◌==◌, ◌&&◌, ◌||◌, max, unwrap_or, Bool, true, false, Option, Some, None, is_some, List, [], ◌∷◌, map, if◌then◌else◌}
 use Rattle.std.specs.List.{filter_map, flat_map}
 use Rattle.std.specs.Option.{option_map}
 use Rattle.events.specs.declared.event.Event.{Event}
@@ -28,8 +28,10 @@ use Rattle.keeper_book.specs.declared.records.Taken.{Taken}
 use Rattle.keeper_book.specs.Records.{spir_of_origin}
 use Rattle.replay_set.specs.Window.{Window, window_of, with_noted}
 use Rattle.turn_rules.specs.Configurations.{Configuration, configured_in, default_configuration}
+use Rattle.turn_rules.specs.CountersOf.{is_of_spir}
 use Rattle.turn_rules.specs.Datagrams.{delivery_of}
-use Rattle.turn_rules.specs.IkeState.{answered_after, is_of_spir, sealed_iv, outstanding_after, outstanding_of, replied_in, request_in, response_in, turn_response}
+use Rattle.turn_rules.specs.IkeState.{answered_after, sealed_iv, outstanding_after, outstanding_of, replied_in, request_in, response_in, turn_agreed, turn_response}
+use Rattle.turn_rules.specs.Synchronised.{Agreed, after_jump, agreed_in, announced_in, ends_in, jumped_in}
 use Rattle.turn_rules.specs.Tasks as task
 use Rattle.turn_rules.specs.Tasks.{Task, member_task, receipt}
 
@@ -37,7 +39,7 @@ use Rattle.turn_rules.specs.Tasks.{Task, member_task, receipt}
 -- counter where the epoch began, the next number, and the high below which numbers may be used, and
 -- which ESP numbers were received in it. Of IKE messages it holds the requests that are outstanding,
 -- what was answered, and whether requests may be answered, which a later epoch has to synchronise
--- for first (RFC 6311, section 5.1).
+-- for first (RFC 6311, section 5.1); and the Message ID that it announced last, if it asked for that.
 pub record Held : Type 0 where
   pub sa : Record
   pub epoch : ℕ
@@ -48,6 +50,7 @@ pub record Held : Type 0 where
   pub asked : List KeptMessage
   pub answered : ResponseWindow
   pub synced : Bool
+  pub attempt : Option ℕ
 
 abbrev pub first_some : {Y : Type 0} → Option Y → Option Y → Option Y
 first_some None later = later
@@ -157,10 +160,15 @@ abbrev pub since : ℕ → List Turn → List Turn
 since spir [] = []
 since spir (turn ∷ past) = if is_some (grant_of spir turn) then [] else turn ∷ since spir past
 
--- one more than each number of the counter that was used since then, and no less than its base
+abbrev pub jump_of : ℕ → Counter → Turn → Option ℕ
+jump_of spir c turn = jumped_in spir c (member_task turn.event) turn.step.verdict
+
+-- one more than each number of the counter that was used since then, and no less than its base, and
+-- than each number to which it jumped
 abbrev pub next_number_of : ℕ → Counter → Five → List Turn → ℕ
-next_number_of spir c bases past = greatest (five_at bases c)
-    (map (λ n. n + 1) (filter_map (number_of spir c) (since spir past)))
+next_number_of spir c bases past = greatest
+    (greatest (five_at bases c) (map (λ n. n + 1) (filter_map (number_of spir c) (since spir past))))
+    (filter_map (jump_of spir c) (since spir past))
 
 -- the greatest cover of the counter that was acknowledged since then, and no less than its base
 abbrev pub high_of : ℕ → Counter → Five → List Turn → ℕ
@@ -176,14 +184,38 @@ window_since size spir bases past = window_of size bases.esp_in
 abbrev pub asked_since : ℕ → List Turn → List KeptMessage
 asked_since spir past = outstanding_of member_task spir (since spir past)
 
--- what is kept of the requests that were answered since then
+-- what was taken on in synchronisations since then
+abbrev pub agreements_of : ℕ → List Turn → List Agreed
+agreements_of spir past = filter_map (turn_agreed member_task spir) (since spir past)
+
+-- no less than where it began, and than each Message ID that was agreed on
+abbrev pub floor_of : ℕ → List Agreed → ℕ
+floor_of base agreements = greatest base (map (λ (a : Agreed). a.floor) agreements)
+
+-- what is kept of the requests that were answered since then, above what was agreed on
 abbrev pub answered_since : ℕ → Five → List Turn → ResponseWindow
-answered_since spir bases past = window_of_responses bases.answer
+answered_since spir bases past = window_of_responses
+    (floor_of bases.answer (agreements_of spir past))
     (filter_map (turn_response member_task spir) (since spir past))
+
+-- the Message ID that was announced last since then
+abbrev pub announced_of : ℕ → Turn → Option ℕ
+announced_of spir turn = announced_in spir (member_task turn.event) turn.step.verdict
+
+abbrev pub attempt_since : ℕ → List Turn → Option ℕ
+attempt_since spir past = found (announced_of spir) (since spir past)
+
+abbrev pub has_any : {X : Type 0} → List X → Bool
+has_any [] = false
+has_any (x ∷ xs) = true
 
 -- an epoch has to synchronise, unless it is the first of its association
 abbrev pub synced_at_once : Taken → Bool
 synced_at_once taken = taken.epoch == 1
+
+-- both ends agreed since then
+abbrev pub is_agreed_since : ℕ → List Turn → Bool
+is_agreed_since spir past = has_any (agreements_of spir past)
 
 abbrev pub holding : ℕ → ℕ → List Turn → Taken → Held
 holding size spir past taken = record {
@@ -195,7 +227,8 @@ holding size spir past taken = record {
   window = window_since size spir taken.bases past;
   asked = asked_since spir past;
   answered = answered_since spir taken.bases past;
-  synced = synced_at_once taken;
+  synced = is_agreed_since spir past || synced_at_once taken;
+  attempt = attempt_since spir past;
 }
 
 -- what an end with these turns of its own, and with receive windows of this size, holds of the
@@ -215,6 +248,7 @@ held_begun size taken = record {
   asked = [];
   answered = no_responses taken.bases.answer;
   synced = synced_at_once taken;
+  attempt = None;
 }
 
 abbrev pub after_number : Option ℕ → ℕ → ℕ
@@ -228,12 +262,16 @@ after_received (Some n) window = with_noted window n
 -- what is held after a turn that grants nothing
 abbrev pub advanced : ℕ → Task → List Call → Step → Held → Held
 advanced spir asked calls step held = record held {
-  nexts = five_of (λ c. after_number (used_in end.Cluster spir c asked step) (five_at held.nexts c));
+  nexts = five_of (λ c. after_jump (jumped_in spir c asked step.verdict)
+      (after_number (used_in end.Cluster spir c asked step) (five_at held.nexts c)));
   highs = five_of (λ c. greatest (five_at held.highs c) (covers_in spir c calls));
   window = after_received (received_in spir asked step.verdict) held.window;
-  asked = outstanding_after (request_in spir asked step) (replied_in spir asked step.verdict)
-      held.asked;
-  answered = answered_after (response_in spir asked step) held.answered;
+  asked = outstanding_after (ends_in (agreed_in spir asked step.verdict))
+      (request_in spir asked step) (replied_in spir asked step.verdict) held.asked;
+  answered = answered_after (agreed_in spir asked step.verdict) (response_in spir asked step)
+      held.answered;
+  synced = is_some (agreed_in spir asked step.verdict) || held.synced;
+  attempt = first_some (announced_in spir asked step.verdict) held.attempt;
 }
 
 -- what is held of the association after one more turn

@@ -7,7 +7,6 @@ use Rattle.events.specs.declared.turn.Step.{Step}
 use Rattle.events.specs.declared.turn.Turn.{Turn}
 use Rattle.events.specs.declared.verdict.Verdict.{Verdict}
 use Rattle.events.specs.declared.verdict.Verdict.TheVariants as out
-use Rattle.ha_base.specs.declared.counter_names.CounterName.{CounterName}
 use Rattle.ha_base.specs.declared.counter_names.End.{End}
 use Rattle.ha_base.specs.declared.counter_names.End.TheVariants as end
 use Rattle.ha_base.specs.declared.counter_names.Kind.{Kind}
@@ -15,21 +14,10 @@ use Rattle.ha_base.specs.declared.counter_names.Kind.TheVariants as kind
 use Rattle.ike_window.specs.Kept.{KeptMessage}
 use Rattle.ike_window.specs.Stored.{with_response}
 use Rattle.ike_window.specs.Windows.{ResponseWindow}
-use Rattle.keeper_book.specs.Records.{spir_of_origin}
+use Rattle.turn_rules.specs.CountersOf.{number_under}
+use Rattle.turn_rules.specs.Synchronised.{Agreed, after_floor, agreed_in, ends_in}
 use Rattle.turn_rules.specs.Tasks as task
 use Rattle.turn_rules.specs.Tasks.{Task}
-
-abbrev pub is_of_spir : ℕ → Option ℕ → Bool
-is_of_spir spir None = false
-is_of_spir spir (Some other) = other == spir
-
--- the counter is one of the association with this responder's SPI
-abbrev pub is_counter_of : ℕ → CounterName → Bool
-is_counter_of spir name = is_of_spir spir (spir_of_origin name.origin)
-
--- a number of a counter of the association, and none of another one
-abbrev pub number_under : ℕ → CounterName → ℕ → Option ℕ
-number_under spir name number = if is_counter_of spir name then Some number else None
 
 abbrev pub is_same_end : End → End → Bool
 is_same_end end.Cluster end.Cluster = true
@@ -77,6 +65,17 @@ abbrev pub response_in : ℕ → Task → Step → Option KeptMessage
 response_in spir task.Receive step = response_to (taken_id spir step.verdict) step.gives
 response_in spir asked step = None
 
+-- The greatest Message ID of the cluster's that the peer knows of by this: that of a request which it
+-- answered, or that which a member announced in a synchronisation that was accepted. The peer's next
+-- expected one is then that.
+abbrev pub heard_said : ℕ → Verdict → Option ℕ
+heard_said spir (out.SyncAccepted name p2 m2 delta unknown) = number_under spir name m2
+heard_said spir verdict = taken_id spir verdict
+
+abbrev pub heard_in : ℕ → Task → Verdict → Option ℕ
+heard_in spir task.Receive verdict = heard_said spir verdict
+heard_in spir asked verdict = None
+
 -- requests, but for the one of a Message ID
 abbrev pub without_replied : Option ℕ → List KeptMessage → List KeptMessage
 without_replied None asked = asked
@@ -86,14 +85,20 @@ abbrev pub with_sent : Option KeptMessage → List KeptMessage → List KeptMess
 with_sent None asked = asked
 with_sent (Some request) asked = asked ++ request ∷ []
 
--- the requests that are outstanding once one was sent, and one had its response
-abbrev pub outstanding_after : Option KeptMessage → Option ℕ → List KeptMessage → List KeptMessage
-outstanding_after sent replied asked = without_replied replied (with_sent sent asked)
+-- the requests that are outstanding once one was sent, and one had its response, or all ended
+abbrev pub outstanding_after : Bool → Option KeptMessage → Option ℕ → List KeptMessage
+    → List KeptMessage
+outstanding_after true sent replied asked = []
+outstanding_after false sent replied asked = without_replied replied (with_sent sent asked)
 
 -- what is kept of the requests that were answered, once one more was
-abbrev pub answered_after : Option KeptMessage → ResponseWindow → ResponseWindow
-answered_after None answered = answered
-answered_after (Some response) answered = with_response response answered
+abbrev pub with_taken : Option KeptMessage → ResponseWindow → ResponseWindow
+with_taken None answered = answered
+with_taken (Some response) answered = with_response response answered
+
+-- and once both ends agreed on the next one
+abbrev pub answered_after : Option Agreed → Option KeptMessage → ResponseWindow → ResponseWindow
+answered_after agreed response answered = with_taken response (after_floor agreed answered)
 
 -- the same questions to a turn, by what its event asks of the end
 abbrev pub request_of : (Event → Task) → ℕ → Turn → Option KeptMessage
@@ -105,9 +110,13 @@ replied_of task_of spir turn = replied_in spir (task_of turn.event) turn.step.ve
 abbrev pub turn_response : (Event → Task) → ℕ → Turn → Option KeptMessage
 turn_response task_of spir turn = response_in spir (task_of turn.event) turn.step
 
+abbrev pub turn_agreed : (Event → Task) → ℕ → Turn → Option Agreed
+turn_agreed task_of spir turn = agreed_in spir (task_of turn.event) turn.step.verdict
+
 -- the requests that are outstanding after turns: each adds the one that was sent, and ends the one
--- whose response came
+-- whose response came, or all
 abbrev pub outstanding_of : (Event → Task) → ℕ → List Turn → List KeptMessage
 outstanding_of task_of spir [] = []
-outstanding_of task_of spir (turn ∷ past) = outstanding_after (request_of task_of spir turn)
+outstanding_of task_of spir (turn ∷ past) = outstanding_after
+    (ends_in (turn_agreed task_of spir turn)) (request_of task_of spir turn)
     (replied_of task_of spir turn) (outstanding_of task_of spir past)

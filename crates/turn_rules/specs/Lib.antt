@@ -1,4 +1,5 @@
 pub mod Configurations
+pub mod CountersOf
 pub mod Datagrams
 pub mod Deliveries
 pub mod Draws
@@ -20,4 +21,5 @@ pub mod Services
 pub mod Slots
 pub mod States
 pub mod Steps
+pub mod Synchronised
 pub mod Tasks

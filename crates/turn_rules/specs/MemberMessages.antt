@@ -1,22 +1,32 @@
 -- What a member does with IKE messages.
-use Rattle.std.specs.Prelude.{ℕ, ◌≡◌, ◌==◌, MatchBool, MatchOption, Option, Some, None, List, [], if◌then◌else◌}
+use Rattle.std.specs.Prelude.{ℕ, ◌+◌, ◌≡◌, ◌==◌, MatchBool, MatchOption, Option, Some, None, List, [], take, if◌then◌else◌, Result, Ok, Err}
+use Rattle.std.specs.Int.{w32, from_be_bytes}
+use Rattle.std.specs.Int.Bits.{bit_xor}
 use Rattle.events.specs.declared.turn.Step.{Step}
+use Rattle.events.specs.declared.ike_outcomes.IkeDrop.TheVariants as drop
 use Rattle.events.specs.declared.verdict.Refusal.{Refusal}
 use Rattle.events.specs.declared.verdict.Refusal.TheVariants as refusal
 use Rattle.events.specs.declared.verdict.Verdict.TheVariants as out
 use Rattle.ha_base.specs.declared.counter_names.End.TheVariants as end
 use Rattle.horizons.specs.Ready.{Ready}
-use Rattle.ike_sas.specs.Held.{IkeHeld}
+use Rattle.ike_sas.specs.Held.{IkeHeld, request_header}
 use Rattle.ike_sas.specs.declared.keys.IkeKeys.{IkeKeys}
+use Rattle.ike_sas.specs.declared.synchronising.TheConstants.{SYNC_DELTA}
+use Rattle.ike_values.specs.Values.{PayloadValue}
 use Rattle.keeper_book.specs.Counters.{five_at}
 use Rattle.keeper_book.specs.declared.calls.Call.{Call}
 use Rattle.keeper_book.specs.declared.counters.Counter.{Counter}
 use Rattle.keeper_book.specs.declared.counters.Counter.TheVariants as counter
 use Rattle.keeper_book.specs.declared.records.Record.{Record}
 use Rattle.sk_payload.specs.declared.open.Opened.{Opened}
+use Rattle.sync_exchange.specs.Answers.{IsMemberAnswer}
+use Rattle.sync_exchange.specs.Laws.{request_with}
+use Rattle.sync_exchange.specs.declared.message_ids.MessageIds.{MessageIds}
+use Rattle.sync_exchange.specs.declared.sync_drop.SyncDrop.{SyncDrop}
+use Rattle.sync_exchange.specs.declared.sync_drop.SyncDrop.TheVariants as why
 use Rattle.turn_rules.specs.Draws.{counter_name, reach_of, refusal_of_stop}
 use Rattle.turn_rules.specs.Held.{Held}
-use Rattle.turn_rules.specs.Messages.{AnswersRequest, Listener, Resends, SendsRequest, Windowed}
+use Rattle.turn_rules.specs.Messages.{AnswersRequest, Listener, Resends, SendsMessage, SendsRequest, Windowed}
 use Rattle.turn_rules.specs.Slots.{peer_counter}
 use Rattle.turn_rules.specs.Steps.{Says}
 
@@ -64,13 +74,81 @@ abbrev pub of_spii : ℕ → Option Held → Option Held
 of_spii spii None = None
 of_spii spii (Some held) = if held.sa.spii == spii then Some held else None
 
-abbrev pub member_listener : (ℕ → Option Held) → Listener Held
-member_listener held = record {
+-- The Message ID that a member announces as that of its next request: the one after it where it
+-- announced one before (RFC 6311, section 5.1).
+abbrev pub sync_id : Held → ℕ
+sync_id held = five_at held.nexts counter.Ask + later held.attempt
+  where
+    later : Option ℕ → ℕ
+    later None = 0
+    later (Some before) = 1
+
+-- the nonce of a synchronisation: that Message ID, and the first four of the member's fresh octets
+abbrev pub sync_nonce : List ℕ → ℕ → ℕ
+sync_nonce fresh id = bit_xor id (from_be_bytes w32 (take 4 fresh))
+
+-- what it announces
+abbrev pub sync_ids : List ℕ → Held → MessageIds
+sync_ids fresh held = record {
+  nonce = sync_nonce fresh (sync_id held);
+  send = sync_id held;
+  receive = held.answered.floor;
+}
+
+-- a request to synchronise was sent under an IV; its own Message ID is 0
+pub record SendsSync (fresh : List ℕ) (held : Held) (iv : ℕ) (step : Step) : Type 0 where
+  pub said : step.verdict ≡ out.Syncing (sync_id held) held.answered.floor
+  pub served : step.served ≡ None
+  pub sends : SendsMessage (held_ike held) iv (request_header (cluster_keys held.sa) 0)
+      (request_with (sync_ids fresh held) SYNC_DELTA) step
+
+-- a member that has yet to synchronise asks for it, once its next Message ID and an IV are ready
+abbrev pub HeldSyncs : List ℕ → Held → List Call → Step → Type 0
+HeldSyncs fresh held calls step = MatchBool held.synced (RefusesThen refusal.NoSync calls step)
+    (ReadiesWithIv held counter.Ask (sync_id held) calls step
+    (SendsSync fresh held (five_at held.nexts counter.Iv) step))
+
+-- what the response to the last attempt is answered with, by what its Message IDs say to the member
+abbrev pub TakesSyncAnswer : Held → Result (ℕ × ℕ) SyncDrop → Step → Type 0
+TakesSyncAnswer held (Ok ids) step =
+    Says (out.Synced (counter_name held.sa counter.Answer) ids.0 ids.1) step
+TakesSyncAnswer held (Err why.Nonce) step = Says (out.DroppedIke drop.Nonce) step
+TakesSyncAnswer held (Err other) step = ⊥
+
+-- the response to the attempt which announced this Message ID, or to one before
+pub record TakesSyncOf (fresh : List ℕ) (held : Held) (id : ℕ) (response : Opened)
+    (step : Step) : Type 0 where
+  pub payloads : List PayloadValue
+  pub inner : response.inner ≡ Ok payloads
+  pub answer : Result (ℕ × ℕ) SyncDrop
+  pub is : IsMemberAnswer (five_at held.nexts counter.Ask) held.answered.floor (sync_nonce fresh id)
+      payloads answer
+  pub takes : TakesSyncAnswer held answer step
+
+-- the Message ID of the attempt whose response is awaited
+abbrev pub awaits_sync : Held → Option ℕ
+awaits_sync held = if held.synced then None else held.attempt
+
+-- what a member does with a response to a synchronisation
+abbrev pub HeldTakesSync : List ℕ → Held → Opened → List Call → Step → Type 0
+HeldTakesSync fresh held response calls step = (calls ≡ []) × MatchOption (awaits_sync held)
+    (Says (out.DroppedIke drop.NotAsked) step)
+    (λ id. TakesSyncOf fresh held id response step)
+
+-- the peer alone is asked to synchronise: to a member such a request is one as any other
+abbrev pub HeldSynchronises : Held → Opened → List Call → Step → Type 0
+HeldSynchronises held request calls step = ⊥
+
+-- fresh: the octets that the member was given as it joined
+abbrev pub member_listener : List ℕ → (ℕ → Option Held) → Listener Held
+member_listener fresh held = record {
   end = end.Cluster;
   held_under = λ spii spir. of_spii spii (held spir);
   ike = held_ike;
   asks = λ h. counter_name h.sa counter.Ask;
   Answers = HeldAnswers;
+  Synchronises = HeldSynchronises;
+  TakesSync = HeldTakesSync fresh;
 }
 
 -- a request is sent under the next Message ID and the next IV, once both are ready
@@ -97,3 +175,8 @@ AsksOf (Some held) request calls step = HeldAsks held request calls step
 abbrev pub ResendsOf : Option Held → ℕ → List Call → Step → Type 0
 ResendsOf None id calls step = RefusesThen refusal.NotOwner calls step
 ResendsOf (Some held) id calls step = (calls ≡ []) × Resends id (held_ike held) step
+
+-- a member asks the peer to synchronise by what it holds
+abbrev pub SyncsOf : List ℕ → Option Held → List Call → Step → Type 0
+SyncsOf fresh None calls step = RefusesThen refusal.NotOwner calls step
+SyncsOf fresh (Some held) calls step = HeldSyncs fresh held calls step

@@ -18,7 +18,7 @@ use Rattle.ha_base.specs.declared.counter_names.CounterName.{CounterName}
 use Rattle.ha_base.specs.declared.counter_names.End.{End}
 use Rattle.ike_values.specs.declared.fault.Bad.{Bad}
 use Rattle.ike_sas.specs.Answers.{answer_payloads, data_of, error_of, notify_type_of, request_payloads}
-use Rattle.ike_sas.specs.Arrivals.{IsArrival, IsOrdinaryRequest}
+use Rattle.ike_sas.specs.Arrivals.{IsArrival}
 use Rattle.ike_sas.specs.Errors.{first_error}
 use Rattle.ike_sas.specs.Held.{IkeHeld, request_header, response_header}
 use Rattle.ike_sas.specs.Sending.{SendsIke}
@@ -37,7 +37,7 @@ use Rattle.ike_window.specs.Asking.{FitsBeside, IsLeast}
 use Rattle.ike_window.specs.Kept.{kept_octets, message_ids_of}
 use Rattle.ike_window.specs.declared.TheConstants.{WINDOW}
 use Rattle.sk_payload.specs.declared.open.Opened.{Opened}
-use Rattle.turn_rules.specs.Steps.{IsQuiet, Says}
+use Rattle.turn_rules.specs.Steps.{Says}
 
 -- ---- what is sent
 
@@ -133,45 +133,43 @@ TakesInner name id (Err bad) step = ⊥
 
 -- What an end is to IKE messages: what it holds under an initiator's and a responder's SPI, of that
 -- its part on IKE messages, the counter of the requests that it asks in it, and what it does with a
--- new request.
+-- new request, with a request to synchronise and with the response to one.
 pub record Listener (X : Type 0) : Type 1 where
   pub end : End
   pub held_under : ℕ → ℕ → Option X
   pub ike : X → IkeHeld
   pub asks : X → CounterName
   pub Answers : X → Opened → List Call → Step → Type 0
+  pub Synchronises : X → Opened → List Call → Step → Type 0
+  pub TakesSync : X → Opened → List Call → Step → Type 0
 
 -- what is held of the association of a message that was opened
 abbrev pub held_for : {X : Type 0} → Listener X → Opened → Option X
 held_for listener opened = listener.held_under opened.header.spii opened.header.spir
 
+-- it is taken so by what is held of its association
+abbrev pub TakesThere : {X : Type 0} → Listener X → Opened → (X → Type 0) → Type 0
+TakesThere listener opened takes = MatchOption (held_for listener opened) ⊥ takes
+
 abbrev pub DropsMessage : IkeDrop → List Call → Step → Type 0
 DropsMessage why calls step = (calls ≡ []) × Says (out.DroppedIke why) step
 
--- what is done with a request or a response that is none of a synchronisation
-abbrev pub TakesOrdinary : {X : Type 0} → Listener X → Arrival → List Call → Step → Type 0
-TakesOrdinary listener (arrival.Dropped why) calls step = DropsMessage why calls step
-TakesOrdinary listener (arrival.Repeat id datagram) calls step =
-    (calls ≡ []) × GivesAgain (out.Repeated id) datagram.octets.octets step
-TakesOrdinary listener (arrival.New request) calls step = MatchOption (held_for listener request) ⊥
-    (λ held. listener.Answers held request calls step)
-TakesOrdinary listener (arrival.Response response) calls step = (calls ≡ [])
-    × MatchOption (held_for listener response) ⊥
-    (λ held. TakesInner (listener.asks held) response.header.id response.inner step)
-TakesOrdinary listener other calls step = ⊥
-
--- Synchronisations and resumptions are not taken yet: a request to synchronise is one as any other,
--- no response to one was asked for, and the exchange of resumptions is not known.
+-- What is done with what came. Resumptions are not taken yet: their exchange is not known.
 abbrev pub TakesArrival : {X : Type 0} → Listener X → Arrival → List Call → Step → Type 0
+TakesArrival listener (arrival.Dropped why) calls step = DropsMessage why calls step
 TakesArrival listener (arrival.Resumption message) calls step =
     DropsMessage (drop.Exchange IKE_SESSION_RESUME) calls step
-TakesArrival listener (arrival.SyncResponse response) calls step =
-    DropsMessage drop.NotAsked calls step
+TakesArrival listener (arrival.Repeat id datagram) calls step =
+    (calls ≡ []) × GivesAgain (out.Repeated id) datagram.octets.octets step
+TakesArrival listener (arrival.New request) calls step =
+    TakesThere listener request (λ held. listener.Answers held request calls step)
+TakesArrival listener (arrival.Response response) calls step = (calls ≡ [])
+    × TakesThere listener response
+    (λ held. TakesInner (listener.asks held) response.header.id response.inner step)
 TakesArrival listener (arrival.Synchronisation request) calls step =
-    MatchOption (held_for listener request) ⊥ (λ held. (ordinary : Arrival)
-    × IsOrdinaryRequest (listener.ike held) request ordinary
-    × TakesOrdinary listener ordinary calls step)
-TakesArrival listener other calls step = TakesOrdinary listener other calls step
+    TakesThere listener request (λ held. listener.Synchronises held request calls step)
+TakesArrival listener (arrival.SyncResponse response) calls step =
+    TakesThere listener response (λ held. listener.TakesSync held response calls step)
 
 -- what an end does with the octets of an IKE message
 pub record TakesMessage {X : Type 0} (listener : Listener X) (octets : List ℕ) (calls : List Call)

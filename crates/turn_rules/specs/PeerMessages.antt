@@ -1,18 +1,31 @@
 -- What the peer does with IKE messages.
-use Rattle.std.specs.Prelude.{ℕ, ◌≡◌, ◌<◌, ◌≤◌, ◌==◌, ◌&&◌, ◌⊎◌, MatchOption, Bool, true, List, []}
+use Rattle.std.specs.Prelude.{ℕ, ◌≡◌, ◌<◌, ◌≤◌, ◌==◌, ◌&&◌, ◌⊎◌, MatchOption, Bool, true, List, [], None, Result, Ok, Err}
 use Rattle.events.specs.declared.turn.Step.{Step}
+use Rattle.events.specs.declared.ike_outcomes.IkeDrop.TheVariants as drop
 use Rattle.events.specs.declared.verdict.Refusal.TheVariants as refusal
 use Rattle.events.specs.declared.verdict.Verdict.TheVariants as out
 use Rattle.ha_base.specs.declared.counter_names.End.TheVariants as end
-use Rattle.ike_sas.specs.Held.{IkeHeld}
+use Rattle.ike_sas.specs.Held.{IkeHeld, response_header}
 use Rattle.ike_sas.specs.declared.keys.IkeKeys.{IkeKeys}
+use Rattle.ike_values.specs.Values.{PayloadValue}
+use Rattle.ike_window.specs.Kept.{message_ids_of}
 use Rattle.keeper_book.specs.CounterEnds.{end_of}
 use Rattle.keeper_book.specs.declared.calls.Call.{Call}
 use Rattle.keeper_book.specs.declared.counters.Counter.TheVariants as counter
 use Rattle.keeper_book.specs.declared.records.Record.{Record}
 use Rattle.sk_payload.specs.declared.open.Opened.{Opened}
+use Rattle.sync_exchange.specs.Answers.{IsPeerAnswer}
+use Rattle.sync_exchange.specs.Counters.{rise_of}
+use Rattle.sync_exchange.specs.Laws.{response_ids, response_of}
+use Rattle.sync_exchange.specs.Notifications.{IsRequest}
+use Rattle.sync_exchange.specs.declared.peer.Accepted.{Accepted}
+use Rattle.sync_exchange.specs.declared.peer.PeerState.{PeerState}
+use Rattle.sync_exchange.specs.declared.replay_counter.TheConstants.{DELTA_OCTETS}
+use Rattle.sync_exchange.specs.declared.request.SyncRequest.{SyncRequest}
+use Rattle.sync_exchange.specs.declared.sync_drop.SyncDrop.{SyncDrop}
+use Rattle.sync_exchange.specs.declared.sync_drop.SyncDrop.TheVariants as why
 use Rattle.turn_rules.specs.Draws.{counter_name}
-use Rattle.turn_rules.specs.Messages.{AnswersRequest, Listener, Resends, SendsRequest, Windowed}
+use Rattle.turn_rules.specs.Messages.{AnswersRequest, Listener, Resends, SendsMessage, SendsRequest, Windowed}
 use Rattle.turn_rules.specs.Slots.{Slot, first_slot, has_spir, peer_counter}
 use Rattle.turn_rules.specs.Steps.{Says}
 
@@ -47,6 +60,51 @@ pub record SlotAnswers (slot : Slot) (request : Opened) (calls : List Call)
       → AnswersRequest (peer_counter slot.sa counter.Answer) (slot_ike slot) slot.iv request step
   pub ended : end_of slot.sa counter.Iv ≤ slot.iv → Says (out.Refused refusal.Exhausted) step
 
+-- what a slot holds that a synchronisation asks for
+abbrev pub sync_state : Slot → PeerState
+sync_state slot = record { highest = slot.highest; next_ask = slot.ask; next_esp = slot.next }
+
+-- A synchronisation is accepted: the counters are told as they are then, the requests that were
+-- outstanding with them, and the response under an IV has the nonce of the request.
+pub record AcceptsSync (slot : Slot) (request : Opened) (asked : SyncRequest) (accepted : Accepted)
+    (step : Step) : Type 0 where
+  pub said : step.verdict ≡ out.SyncAccepted (peer_counter slot.sa counter.Answer) accepted.p2
+      accepted.m2 (rise_of DELTA_OCTETS asked) (message_ids_of slot.asked)
+  pub served : step.served ≡ None
+  pub responds : SendsMessage (slot_ike slot) slot.iv
+      (response_header (peer_keys slot.sa) request.header)
+      (response_of (response_ids asked accepted)) step
+
+-- unless no IV is left
+pub record MayAcceptSync (slot : Slot) (request : Opened) (asked : SyncRequest)
+    (accepted : Accepted) (step : Step) : Type 0 where
+  pub within : slot.iv < end_of slot.sa counter.Iv → AcceptsSync slot request asked accepted step
+  pub ended : end_of slot.sa counter.Iv ≤ slot.iv → Says (out.Refused refusal.Exhausted) step
+
+-- by what its counters say to it (RFC 6311, section 5)
+abbrev pub AnswersSync : Slot → Opened → SyncRequest → Result Accepted SyncDrop → Step → Type 0
+AnswersSync slot request asked (Ok accepted) step = MayAcceptSync slot request asked accepted step
+AnswersSync slot request asked (Err (why.NotAbove highest)) step =
+    Says (out.DroppedIke (drop.SyncOld highest)) step
+AnswersSync slot request asked (Err why.Delta) step = Says (out.DroppedIke drop.Delta) step
+AnswersSync slot request asked (Err other) step = ⊥
+
+-- what a slot does with a request to synchronise
+pub record SlotSynchronises (slot : Slot) (request : Opened) (calls : List Call)
+    (step : Step) : Type 0 where
+  pub no_calls : calls ≡ []
+  pub payloads : List PayloadValue
+  pub inner : request.inner ≡ Ok payloads
+  pub asked : SyncRequest
+  pub reads : IsRequest payloads asked
+  pub answer : Result Accepted SyncDrop
+  pub is : IsPeerAnswer (sync_state slot) asked answer
+  pub answers : AnswersSync slot request asked answer step
+
+-- the peer asks for no synchronisation, so no response to one is taken
+abbrev pub SlotTakesSync : Slot → Opened → List Call → Step → Type 0
+SlotTakesSync slot response calls step = ⊥
+
 abbrev pub peer_listener : List Slot → Listener Slot
 peer_listener slots = record {
   end = end.Peer;
@@ -54,6 +112,8 @@ peer_listener slots = record {
   ike = slot_ike;
   asks = λ slot. peer_counter slot.sa counter.Ask;
   Answers = SlotAnswers;
+  Synchronises = SlotSynchronises;
+  TakesSync = SlotTakesSync;
 }
 
 -- a request is sent under the next Message ID and the next IV, unless one of them is not left

@@ -1,6 +1,6 @@
 -- What the peer holds of its associations, and what it does with ESP packets.
 use Rattle.std.specs.List.{filter_map}
-use Rattle.std.specs.Prelude.{ℕ, ◌+◌, ◌≡◌, ◌<◌, ◌≤◌, ◌==◌, Bool, false, MatchOption, length, Option, Some, None, List, [], ◌∷◌, ◌++◌, map, option_to_list, if◌then◌else◌, Result, Ok, Err}
+use Rattle.std.specs.Prelude.{ℕ, ◌+◌, ◌≡◌, ◌<◌, ◌≤◌, ◌==◌, max, zero, suc, Bool, false, MatchOption, length, Option, Some, None, List, [], ◌∷◌, ◌++◌, map, option_to_list, if◌then◌else◌, Result, Ok, Err}
 use Rattle.std.specs.Option.{option_map}
 use Rattle.esp_packets.specs.Packet.{spi_of}
 use Rattle.events.specs.declared.event.Event.{Event}
@@ -9,7 +9,6 @@ use Rattle.events.specs.declared.turn.Turn.{Turn}
 use Rattle.events.specs.declared.verdict.EspVerdict.{EspVerdict}
 use Rattle.events.specs.declared.verdict.EspVerdict.TheVariants as esp
 use Rattle.events.specs.declared.verdict.Refusal.TheVariants as refusal
-use Rattle.events.specs.declared.verdict.Verdict.{Verdict}
 use Rattle.events.specs.declared.verdict.Verdict.TheVariants as out
 use Rattle.ha_base.specs.declared.counter_names.CounterName.{CounterName}
 use Rattle.ha_base.specs.declared.counter_names.End.TheVariants as end
@@ -25,16 +24,18 @@ use Rattle.keeper_book.specs.declared.counters.Counter.TheVariants as counter
 use Rattle.keeper_book.specs.declared.records.Record.{Record}
 use Rattle.replay_set.specs.Window.{Window, window_of}
 use Rattle.turn_rules.specs.Draws.{child_of, counter_kind}
-use Rattle.turn_rules.specs.Held.{after_number, after_received, greatest, received_in, received_of, used_in}
-use Rattle.turn_rules.specs.IkeState.{answered_after, outstanding_after, outstanding_of, replied_in, request_in, response_in, turn_response}
+use Rattle.turn_rules.specs.Held.{after_number, after_received, floor_of, greatest, received_in, received_of, used_in}
+use Rattle.turn_rules.specs.IkeState.{answered_after, heard_in, outstanding_after, outstanding_of, replied_in, request_in, response_in, turn_agreed, turn_response}
 use Rattle.turn_rules.specs.Packets.{Drops, Inbound, OpensEsp, Outbound, SendsEsp}
 use Rattle.turn_rules.specs.Peers.{associations_by, entered_at_task, entered_in}
 use Rattle.turn_rules.specs.Steps.{Says}
+use Rattle.turn_rules.specs.Synchronised.{after_jump, after_rise, agreed_in, ends_in, jumped_in}
 use Rattle.turn_rules.specs.Tasks.{Task, peer_task}
 
 -- What the peer holds of an association: the record, the ESP number that it sends next, and which
 -- numbers it received; and of IKE messages the next IV, the next Message ID of an own request, the
--- requests that are outstanding, and what was answered.
+-- requests that are outstanding, what was answered, and the greatest Message ID of the cluster's that
+-- it knows of, if there is one.
 pub record Slot : Type 0 where
   pub sa : Record
   pub next : ℕ
@@ -43,6 +44,7 @@ pub record Slot : Type 0 where
   pub ask : ℕ
   pub asked : List KeptMessage
   pub answered : ResponseWindow
+  pub highest : Option ℕ
 
 -- the peer's counter of an association
 abbrev pub peer_counter : Record → Counter → CounterName
@@ -52,6 +54,11 @@ peer_counter sa c = record {
   child = child_of c;
   end = end.Peer;
 }
+
+-- the Message ID before the first, if there is one
+abbrev pub one_below : ℕ → Option ℕ
+one_below zero = None
+one_below (suc n) = Some n
 
 -- Where the peer begins: its numbers are the cluster's, each end sending where the other one
 -- receives.
@@ -64,6 +71,7 @@ entered_slot size sa = record {
   ask = sa.starts.answer;
   asked = [];
   answered = no_responses sa.starts.ask;
+  highest = one_below sa.starts.ask;
 }
 
 abbrev pub slot_outbound : Slot → Outbound
@@ -94,6 +102,34 @@ sent_of spir turn = sent spir turn.event turn.step
 abbrev pub spent_of : ℕ → Counter → Turn → Option ℕ
 spent_of spir c turn = used_in end.Peer spir c (peer_task turn.event) turn.step
 
+-- the number to which the peer's counter jumped
+abbrev pub left_of : ℕ → Counter → Turn → Option ℕ
+left_of spir c turn = jumped_in spir c (peer_task turn.event) turn.step.verdict
+
+-- the Message ID of the cluster's that the peer came to know
+abbrev pub heard_of : ℕ → Turn → Option ℕ
+heard_of spir turn = heard_in spir (peer_task turn.event) turn.step.verdict
+
+-- the greater of a Message ID and the greatest so far, if there was one
+abbrev pub higher_of : ℕ → Option ℕ → Option ℕ
+higher_of id None = Some id
+higher_of id (Some highest) = Some (max id highest)
+
+abbrev pub after_heard : Option ℕ → Option ℕ → Option ℕ
+after_heard None highest = highest
+after_heard (Some id) highest = higher_of id highest
+
+abbrev pub highest_of : Option ℕ → List ℕ → Option ℕ
+highest_of before [] = before
+highest_of before (id ∷ ids) = higher_of id (highest_of before ids)
+
+-- The ESP number that the peer sends next, where it began with this one: each that it sent leaves
+-- one more, and each synchronisation that it accepted adds its delta.
+abbrev pub next_sent : ℕ → ℕ → List Turn → ℕ
+next_sent spir start [] = start
+next_sent spir start (turn ∷ past) = after_rise (turn_agreed peer_task spir turn)
+    (after_number (sent_of spir turn) (next_sent spir start past))
+
 abbrev pub is_entered : ℕ → Option Record → Bool
 is_entered spir None = false
 is_entered spir (Some sa) = sa.spir == spir
@@ -104,19 +140,23 @@ since_entered spir [] = []
 since_entered spir (turn ∷ past) = if is_entered spir (entered_in turn) then []
     else turn ∷ since_entered spir past
 
--- What the peer's own turns say that it holds of an association: its next number is one more than
--- each under which it sent since the association came, and no less than the start, and the numbers
--- are noted that were accepted since then; so it is of IVs, and of requests.
+-- What the peer's own turns say that it holds of an association: its next IV is one more than each
+-- under which it sealed since the association came, and no less than the start, and the ESP numbers
+-- are noted that were accepted since then; so it is of requests, which jump as both ends agreed.
 abbrev pub slot_by : ℕ → List Turn → Record → Slot
 slot_by size past sa = let mine = since_entered sa.spir past in record {
   sa = sa;
-  next = greatest sa.starts.esp_in (map (λ n. n + 1) (filter_map (sent_of sa.spir) mine));
+  next = next_sent sa.spir sa.starts.esp_in mine;
   window = window_of size sa.starts.esp_out (filter_map (received_of sa.spir) mine);
   iv = greatest sa.starts.iv (map (λ n. n + 1) (filter_map (spent_of sa.spir counter.Iv) mine));
-  ask = greatest sa.starts.answer
-      (map (λ n. n + 1) (filter_map (spent_of sa.spir counter.Ask) mine));
+  ask = greatest (greatest sa.starts.answer
+      (map (λ n. n + 1) (filter_map (spent_of sa.spir counter.Ask) mine)))
+      (filter_map (left_of sa.spir counter.Ask) mine);
   asked = outstanding_of peer_task sa.spir mine;
-  answered = window_of_responses sa.starts.ask (filter_map (turn_response peer_task sa.spir) mine);
+  answered = window_of_responses
+      (floor_of sa.starts.ask (filter_map (turn_agreed peer_task sa.spir) mine))
+      (filter_map (turn_response peer_task sa.spir) mine);
+  highest = highest_of (one_below sa.starts.ask) (filter_map (heard_of sa.spir) mine);
 }
 
 -- the peer's associations, in the order in which they came, with receive windows of this size
@@ -139,13 +179,17 @@ first_slot test (slot ∷ slots) = if test slot then Some slot else first_slot t
 abbrev pub slot_after : Task → Step → Slot → Slot
 slot_after asked step slot = record {
   sa = slot.sa;
-  next = after_number (used_in end.Peer slot.sa.spir counter.EspOut asked step) slot.next;
+  next = after_rise (agreed_in slot.sa.spir asked step.verdict)
+      (after_number (used_in end.Peer slot.sa.spir counter.EspOut asked step) slot.next);
   window = after_received (received_in slot.sa.spir asked step.verdict) slot.window;
   iv = after_number (used_in end.Peer slot.sa.spir counter.Iv asked step) slot.iv;
-  ask = after_number (used_in end.Peer slot.sa.spir counter.Ask asked step) slot.ask;
-  asked = outstanding_after (request_in slot.sa.spir asked step)
-      (replied_in slot.sa.spir asked step.verdict) slot.asked;
-  answered = answered_after (response_in slot.sa.spir asked step) slot.answered;
+  ask = after_jump (jumped_in slot.sa.spir counter.Ask asked step.verdict)
+      (after_number (used_in end.Peer slot.sa.spir counter.Ask asked step) slot.ask);
+  asked = outstanding_after (ends_in (agreed_in slot.sa.spir asked step.verdict))
+      (request_in slot.sa.spir asked step) (replied_in slot.sa.spir asked step.verdict) slot.asked;
+  answered = answered_after (agreed_in slot.sa.spir asked step.verdict)
+      (response_in slot.sa.spir asked step) slot.answered;
+  highest = after_heard (heard_in slot.sa.spir asked step.verdict) slot.highest;
 }
 
 -- and what it holds of all of them

@@ -14,6 +14,7 @@ pub data Task : Type 0 where
   Send : (spir : ℕ) → (payload : List ℕ) → Task
   Ask : (spir : ℕ) → (request : List ℕ) → Task
   Again : (spir id : ℕ) → Task
+  Sync : (spir : ℕ) → Task
   Receive : Task
 
 -- whoever a delivery comes to receives it
@@ -28,6 +29,7 @@ member_task (event.Draw member spir) = Draw spir
 member_task (event.Send (parties.Member member) spir payload) = Send spir payload.octets
 member_task (event.Ask (parties.Member member) spir request) = Ask spir request.octets
 member_task (event.Again (parties.Member member) spir id) = Again spir id
+member_task (event.Sync member spir) = Sync spir
 member_task event = receipt (delivery_of event)
 
 -- and what the peer is asked
