@@ -16,29 +16,35 @@ use Rattle.keeper_book.specs.Counters.{five_at}
 use Rattle.keeper_book.specs.declared.calls.Call.{Call}
 use Rattle.keeper_book.specs.declared.counters.Counter.{Counter}
 use Rattle.keeper_book.specs.declared.counters.Counter.TheVariants as counter
+use Rattle.turn_rules.proofs.NoSynchronisation.{is_of_sync}
 use Rattle.turn_rules.proofs.Readies.{AreCovers, AreVain, none-vain, ready-elim, ready-map}
 use Rattle.turn_rules.proofs.Ties.{received-refused, replied-refused, request-refused, response-refused, used-receiving, used-refused}
 use Rattle.turn_rules.specs.Draws.{Draws, counter_name, refusal_of_stop}
 use Rattle.turn_rules.specs.Fits.{Quietly}
-use Rattle.turn_rules.specs.Held.{Held, accepted, advanced, after_number, after_received, first_some, five_of, grant_in, greatest, iv_in, received_in, said_in, used_in}
-use Rattle.turn_rules.specs.IkeState.{answered_after, is_of_spir, sealed_iv, outstanding_after, replied_in, request_in, response_in, response_to, taken_id}
+use Rattle.turn_rules.specs.Held.{Held, accepted, advanced, after_number, after_received, first_some, five_of, greatest, iv_in, received_in, said_in, used_in}
+use Rattle.turn_rules.specs.CountersOf.{is_of_spir}
+use Rattle.turn_rules.specs.IkeState.{sealed_iv, outstanding_after, replied_in, request_in, response_in, response_to, taken_id, with_taken}
 use Rattle.turn_rules.specs.MemberPackets.{SendsData, TakesPacket, outbound_of}
 use Rattle.turn_rules.specs.Packets.{IsVerdictOf, SendsEsp}
 use Rattle.turn_rules.specs.Steps.{IsQuiet, Says}
 use Rattle.turn_rules.specs.Tasks as task
 use Rattle.turn_rules.specs.Tasks.{Task}
+use Rattle.cluster_member.proofs.Plain.{plain-advanced}
 use Rattle.cluster_member.proofs.Uses.{DrawsNext, Notes, SendsNext, received_below, sent_below}
 use Rattle.cluster_member.specs.Advances.{Advances, AdvancesByPacket}
 
--- a turn by which no request was sent or answered, and none had its response
+-- a turn by which no request was sent or answered, and none had its response, and that is none of a
+-- synchronisation
 pub record IsOfNoMessage (asked : Task) (step : Step) : Type 0 where
+  pub plain : is_of_sync step.verdict ≡ false
   pub unsent : (spir : ℕ) → request_in spir asked step ≡ None
   pub unreplied : (spir : ℕ) → replied_in spir asked step.verdict ≡ None
   pub unanswered : (spir : ℕ) → response_in spir asked step ≡ None
 
 -- what is received is no IKE message, by what is said of it
-pub received-no-message : (step : Step) (verdict : Verdict) → step.verdict ≡ verdict → ((spir : ℕ) → replied_in spir task.Receive verdict ≡ None) → ((spir : ℕ) → taken_id spir verdict ≡ None) → IsOfNoMessage task.Receive step
-received-no-message step verdict said unreplied untaken = record {
+pub received-no-message : (step : Step) (verdict : Verdict) → step.verdict ≡ verdict → ((spir : ℕ) → replied_in spir task.Receive verdict ≡ None) → ((spir : ℕ) → taken_id spir verdict ≡ None) → is_of_sync verdict ≡ false → IsOfNoMessage task.Receive step
+received-no-message step verdict said unreplied untaken plain = record {
+  plain = ap is_of_sync said ∙ plain;
   unsent = λ spir. refl;
   unreplied = λ spir. ap (replied_in spir task.Receive) said ∙ unreplied spir;
   unanswered = λ spir. ap (λ v. response_to (taken_id spir v) step.gives) said ∙ ap (λ id. response_to id step.gives) (untaken spir);
@@ -48,16 +54,17 @@ module _ (asked : Task) (calls : List Call) (step : Step) where
   -- a turn by which nothing was covered, used or received
   pub unmoved : AreVain calls → ((spir : ℕ) (c : Counter) → used_in end.Cluster spir c asked step ≡ None) → ((spir : ℕ) → received_in spir asked step.verdict ≡ None) → IsOfNoMessage asked step
       → (spir : ℕ) (held : Held) → advanced spir asked calls step held ≡ held
-  unmoved vain unused unreceived none spir held i = record held {
+  unmoved vain unused unreceived none spir held = plain-advanced spir asked calls step held none.plain ∙ (λ i. record held {
     nexts = five_of (λ c. after_number (unused spir c i) (five_at held.nexts c));
     highs = five_of (λ c. greatest (five_at held.highs c) (vain.no_cover spir c i));
     window = after_received (unreceived spir i) held.window;
-    asked = outstanding_after (none.unsent spir i) (none.unreplied spir i) held.asked;
-    answered = answered_after (none.unanswered spir i) held.answered;
-  }
+    asked = outstanding_after false (none.unsent spir i) (none.unreplied spir i) held.asked;
+    answered = with_taken (none.unanswered spir i) held.answered;
+  })
 
   pub refused-unmoved : (why : Refusal) → AreVain calls → Says (out.Refused why) step → (spir : ℕ) (held : Held) → advanced spir asked calls step held ≡ held
   refused-unmoved why vain says = unmoved vain (λ spir c. used-refused end.Cluster spir c asked why step says) (λ spir. ap (received_in spir asked) says.said ∙ received-refused spir asked why) (record {
+    plain = ap is_of_sync says.said;
     unsent = λ spir. request-refused spir asked why step says.said;
     unreplied = λ spir. ap (replied_in spir asked) says.said ∙ replied-refused spir asked why;
     unanswered = λ spir. response-refused spir asked why step says.said;
@@ -80,7 +87,7 @@ module _ (asked : Task) (calls : List Call) (step : Step) where
         → ((spir : ℕ) → received_in spir asked step.verdict ≡ None) → IsOfNoMessage asked step → now ≡ sent_below high held → Advances held asked calls step now
     number-advances high covers uses unasked unsealed unreceived none same = record {
       no_grant = covers.no_grant;
-      now = same ∙ sym (λ i. record held {
+      now = same ∙ sym (plain-advanced held.sa.spir asked calls step held none.plain ∙ (λ i. record held {
         nexts = record held.nexts {
           esp_out = own_next i;
           iv = after_number (unsealed held.sa.spir i) held.nexts.iv;
@@ -88,10 +95,10 @@ module _ (asked : Task) (calls : List Call) (step : Step) where
         };
         highs = covers.here i;
         window = after_received (unreceived held.sa.spir i) held.window;
-        asked = outstanding_after (none.unsent held.sa.spir i) (none.unreplied held.sa.spir i) held.asked;
-        answered = answered_after (none.unanswered held.sa.spir i) held.answered;
-      });
-      elsewhere = λ spir other there i. record there {
+        asked = outstanding_after false (none.unsent held.sa.spir i) (none.unreplied held.sa.spir i) held.asked;
+        answered = with_taken (none.unanswered held.sa.spir i) held.answered;
+      }));
+      elsewhere = λ spir other there. plain-advanced spir asked calls step there none.plain ∙ (λ i. record there {
         nexts = record there.nexts {
           esp_out = after_number (unused spir other i) there.nexts.esp_out;
           iv = after_number (unsealed spir i) there.nexts.iv;
@@ -99,9 +106,9 @@ module _ (asked : Task) (calls : List Call) (step : Step) where
         };
         highs = five_of (λ c. greatest (five_at there.highs c) (covers.elsewhere spir other c i));
         window = after_received (unreceived spir i) there.window;
-        asked = outstanding_after (none.unsent spir i) (none.unreplied spir i) there.asked;
-        answered = answered_after (none.unanswered spir i) there.answered;
-      };
+        asked = outstanding_after false (none.unsent spir i) (none.unreplied spir i) there.asked;
+        answered = with_taken (none.unanswered spir i) there.answered;
+      });
     }
       where
         unused : (spir : ℕ) → (held.sa.spir == spir) ≡ false → used_in end.Cluster spir counter.EspOut asked step ≡ None
@@ -117,20 +124,20 @@ packet-advances : (calls : List Call) (step : Step) (held now : Held) (number hi
     → ((spir : ℕ) → accepted spir step.verdict ≡ (if held.sa.spir == spir then Some number else None)) → now ≡ received_below number high held → Advances held task.Receive calls step now
 packet-advances calls step held now number high covers quiet none takes same = record {
   no_grant = covers.no_grant;
-  now = same ∙ sym (λ i. record held {
+  now = same ∙ sym (plain-advanced held.sa.spir task.Receive calls step held none.plain ∙ (λ i. record held {
     nexts = five_of (λ c. after_number (used-receiving end.Cluster held.sa.spir c step quiet i) (five_at held.nexts c));
     highs = covers.here i;
     window = after_received (here i) held.window;
-    asked = outstanding_after (none.unsent held.sa.spir i) (none.unreplied held.sa.spir i) held.asked;
-    answered = answered_after (none.unanswered held.sa.spir i) held.answered;
-  });
-  elsewhere = λ spir other there i. record there {
+    asked = outstanding_after false (none.unsent held.sa.spir i) (none.unreplied held.sa.spir i) held.asked;
+    answered = with_taken (none.unanswered held.sa.spir i) held.answered;
+  }));
+  elsewhere = λ spir other there. plain-advanced spir task.Receive calls step there none.plain ∙ (λ i. record there {
     nexts = five_of (λ c. after_number (used-receiving end.Cluster spir c step quiet i) (five_at there.nexts c));
     highs = five_of (λ c. greatest (five_at there.highs c) (covers.elsewhere spir other c i));
     window = after_received (nothing spir other i) there.window;
-    asked = outstanding_after (none.unsent spir i) (none.unreplied spir i) there.asked;
-    answered = answered_after (none.unanswered spir i) there.answered;
-  };
+    asked = outstanding_after false (none.unsent spir i) (none.unreplied spir i) there.asked;
+    answered = with_taken (none.unanswered spir i) there.answered;
+  });
 }
   where
     here : accepted held.sa.spir step.verdict ≡ Some number
@@ -166,7 +173,7 @@ module _ (held now : Held) (calls : List Call) (step : Step) where
       (λ why rest vain s. refused-advances (task.Draw held.sa.spir) calls step held now (refusal_of_stop why) vain s.1 s.2)
       (λ high rest covers g. number-advances (task.Draw held.sa.spir) calls step held now high covers
       (λ spir. ap (said_in spir counter.EspOut (task.Draw held.sa.spir)) g.1.said) (λ spir. refl) (λ spir. ap (iv_in end.Cluster spir) g.1.quiet.seals) (λ spir. refl)
-      (record { unsent = λ spir. refl; unreplied = λ spir. refl; unanswered = λ spir. refl }) g.2)
+      (record { plain = ap is_of_sync g.1.said; unsent = λ spir. refl; unreplied = λ spir. refl; unanswered = λ spir. refl }) g.2)
       draws
 
   pub draws-are : DrawsNext held calls step now → Quietly (Draws held) calls step × Advances held (task.Draw held.sa.spir) calls step now
@@ -184,7 +191,7 @@ module _ (held now : Held) (calls : List Call) (step : Step) where
         (λ why rest vain s. refused-advances (task.Send held.sa.spir payload) calls step held now (refusal_of_stop why) vain s.1 s.2)
         (λ high rest covers g. number-advances (task.Send held.sa.spir payload) calls step held now high covers
         (λ spir. ap (said_in spir counter.EspOut (task.Send held.sa.spir payload)) g.1.said) (λ spir. refl) (sent-unsealed held payload next step g.1) (λ spir. refl)
-        (record { unsent = λ spir. refl; unreplied = λ spir. refl; unanswered = λ spir. refl }) g.2)
+        (record { plain = ap is_of_sync g.1.said; unsent = λ spir. refl; unreplied = λ spir. refl; unanswered = λ spir. refl }) g.2)
         sends
 
     pub sends-are : SendsNext held payload calls step now → SendsData held payload calls step × Advances held (task.Send held.sa.spir payload) calls step now
@@ -217,14 +224,14 @@ module _ (held now : Held) (calls : List Call) (answer : EspVerdict) where
         let vain : AreVain calls = none-vain calls notes.0 in
         vain-advances task.Receive calls step held now vain
         (unmoved task.Receive calls step vain (λ spir c. used-receiving end.Cluster spir c step quiet) (λ spir. ap (accepted spir) said)
-        (received-no-message step (out.DroppedEsp why) said (λ spir. refl) (λ spir. refl))) notes.2
+        (received-no-message step (out.DroppedEsp why) said (λ spir. refl) (λ spir. refl) refl)) notes.2
     notes-advances (Ok packet) notes = ready-elim held counter.EspIn packet.number Halts (Takes_it packet) (λ why rest s. s.0) (λ high rest g. g.0) calls
         (λ why rest vain s. refused-advances task.Receive calls step held now (refusal_of_stop why) vain
         (record { said = as_said (esp.Refused (refusal_of_stop why)) s.1; quiet = quiet }) s.2)
         (λ high rest covers g.
         let is = as_said (esp.Accepted (counter_name held.sa counter.EspIn) packet) g.1 in
         packet-advances calls step held now packet.number high covers quiet
-        (received-no-message step (out.Accepted (counter_name held.sa counter.EspIn) packet.number packet.next_header is.0) is.2 (λ spir. refl) (λ spir. refl))
+        (received-no-message step (out.Accepted (counter_name held.sa counter.EspIn) packet.number packet.next_header is.0) is.2 (λ spir. refl) (λ spir. refl) refl)
         (takes_number packet g.1) g.2)
         notes
 

@@ -20,11 +20,13 @@ use Rattle.keeper_book.specs.declared.counters.Counter.{Counter}
 use Rattle.keeper_book.specs.declared.counters.Counter.TheVariants as counter
 use Rattle.keeper_book.specs.declared.records.Record.{Record}
 use Rattle.sk_payload.specs.declared.open.Opened.{Opened}
+use Rattle.turn_rules.proofs.NoSynchronisation.{is_of_sync}
 use Rattle.turn_rules.proofs.Readies.{none-vain}
 use Rattle.turn_rules.proofs.Ties.{used-receiving}
 use Rattle.turn_rules.specs.Draws.{counter_name, refusal_of_stop}
 use Rattle.turn_rules.specs.Held.{Held, accepted, after_number, first_some, five_of, iv_in, used_in}
-use Rattle.turn_rules.specs.IkeState.{answered_after, is_of_spir, is_same_end, kept_under, number_under, outstanding_after, replied_in, request_in, response_in, response_to, sealed_iv, taken_id, without_replied}
+use Rattle.turn_rules.specs.CountersOf.{is_of_spir, number_under}
+use Rattle.turn_rules.specs.IkeState.{with_taken, is_same_end, kept_under, outstanding_after, replied_in, request_in, response_in, response_to, sealed_iv, taken_id, without_replied}
 use Rattle.turn_rules.specs.MemberMessages.{HeldAnswers, held_ike}
 use Rattle.turn_rules.specs.Messages.{AnswersRequest, ExecutesRequest, RefusesRequest, TakesInner}
 use Rattle.turn_rules.specs.Steps.{IsQuiet}
@@ -42,13 +44,13 @@ free-from : (b : Bool) (from next stays : ℕ) → from + 1 ≤ next → from �
 free-from true from next stays up same = omega (arith, up)
 free-from false from next stays up same = same
 
-least-from : (from : ℕ) (kept : List KeptMessage) → from ≤ least_free from kept
+pub least-from : (from : ℕ) (kept : List KeptMessage) → from ≤ least_free from kept
 least-from from [] = omega arith
 least-from from (message ∷ rest) = free-from (message.id == from) from (least_free (from + 1) rest) (least_free from rest) (least-from (from + 1) rest)
     (least-from from rest)
 
 -- one more response, or none, leaves the least Message ID that was not answered or raises it
-pub answered-low : (response : Option KeptMessage) (window : ResponseWindow) → window.low ≤ (answered_after response window).low
+pub answered-low : (response : Option KeptMessage) (window : ResponseWindow) → window.low ≤ (with_taken response window).low
 answered-low None window = omega arith
 answered-low (Some response) window = least-from window.low (with_kept response window.responses)
 
@@ -95,6 +97,7 @@ record Answered (held : Held) (id : ℕ) (step : Step) : Type 0 where
   taken : (spir : ℕ) → taken_id spir step.verdict ≡ number_under spir (counter_name held.sa counter.Answer) id
   unreplied : (spir : ℕ) → replied_in spir task.Receive step.verdict ≡ None
   unaccepted : (spir : ℕ) → accepted spir step.verdict ≡ None
+  plain : is_of_sync step.verdict ≡ false
 
 answered-by : (held : Held) (request : Opened) (step : Step) (error : Option RequestError)
     → MatchOption error (ExecutesRequest (counter_name held.sa counter.Answer) (held_ike held) held.nexts.iv request step)
@@ -107,6 +110,7 @@ answered-by held request step None a = record {
   taken = λ spir. ap (taken_id spir) a.said;
   unreplied = λ spir. ap (replied_in spir task.Receive) a.said;
   unaccepted = λ spir. ap (accepted spir) a.said;
+  plain = ap is_of_sync a.said;
 }
 answered-by held request step (Some error) a = record {
   seal = a.responds.sent.seal;
@@ -116,6 +120,7 @@ answered-by held request step (Some error) a = record {
   taken = λ spir. ap (taken_id spir) a.said;
   unreplied = λ spir. ap (replied_in spir task.Receive) a.said;
   unaccepted = λ spir. ap (accepted spir) a.said;
+  plain = ap is_of_sync a.said;
 }
 
 module _ (held now : Held) (id : ℕ) (step : Step) (a : Answered held id step) where
@@ -134,6 +139,7 @@ module _ (held now : Held) (id : ℕ) (step : Step) (a : Answered held id step) 
 
   of : IsOf held.sa.spir task.Receive step
   of = record {
+    plain = a.plain;
     unused = unused;
     unreceived = a.unaccepted;
     unsent = λ spir other. refl;
@@ -157,11 +163,11 @@ module _ (held now : Held) (id : ℕ) (step : Step) (a : Answered held id step) 
         nexts = record held.nexts { iv = own_next i };
         highs = record held.highs { answer = high; iv = above };
         asked = asked_is i;
-        answered = answered_after (own_response i) held.answered;
+        answered = with_taken (own_response i) held.answered;
       }))
     where
-      asked_is : outstanding_after (request_in held.sa.spir task.Receive step) (replied_in held.sa.spir task.Receive step.verdict) held.asked ≡ held.asked
-      asked_is = ap (λ r. outstanding_after None r held.asked) (a.unreplied held.sa.spir)
+      asked_is : outstanding_after false (request_in held.sa.spir task.Receive step) (replied_in held.sa.spir task.Receive step.verdict) held.asked ≡ held.asked
+      asked_is = ap (λ r. outstanding_after false None r held.asked) (a.unreplied held.sa.spir)
 
 module _ (held now : Held) (request : Opened) (calls : List Call) (step : Step) where
   abbrev pub Done : ℕ → ℕ → Type 0
@@ -194,6 +200,7 @@ pub taken-advances : (held now : Held) (id : ℕ) (step : Step) (inner : Result 
 taken-advances held now id step (Err bad) takes same = absurd takes
 taken-advances held now id step (Ok payloads) takes same = message-advances held now task.Receive [] step held.highs (vain-covers held [] (none-vain [] refl))
     (record {
+      plain = ap is_of_sync takes.says.said;
       unused = λ spir other c. used-receiving end.Cluster spir c step takes.says.quiet;
       unreceived = λ spir. ap (accepted spir) takes.says.said;
       unsent = λ spir other. refl;
@@ -203,8 +210,8 @@ taken-advances held now id step (Ok payloads) takes same = message-advances held
     (same ∙ sym (λ i. record held {
       nexts = five_of (λ c. after_number (used-receiving end.Cluster held.sa.spir c step takes.says.quiet i) (five_at held.nexts c));
       highs = held.highs;
-      asked = outstanding_after None ((replies held.sa.spir ∙ mine held id) i) held.asked;
-      answered = answered_after (ap (λ v. response_to (taken_id held.sa.spir v) step.gives) takes.says.said i) held.answered;
+      asked = outstanding_after false None ((replies held.sa.spir ∙ mine held id) i) held.asked;
+      answered = with_taken (ap (λ v. response_to (taken_id held.sa.spir v) step.gives) takes.says.said i) held.answered;
     }))
   where
     replies : (spir : ℕ) → replied_in spir task.Receive step.verdict ≡ (if held.sa.spir == spir then Some id else None)

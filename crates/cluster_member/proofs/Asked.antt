@@ -1,5 +1,5 @@
 -- What a holding is once a request was sent under the numbers that its horizons gave, or was refused.
-use Rattle.std.proofs.Common.{◌≡◌, ℕ, ◌+◌, ◌≤◌, max, Option, Some, None, MatchOption, List, [], ◌∷◌, Result, Ok, Err, ⊎_elim, refl, ap, sym, ◌∙◌, subst, arith}
+use Rattle.std.proofs.Common.{◌≡◌, ℕ, ◌+◌, ◌≤◌, max, false, Option, Some, None, MatchOption, List, [], ◌∷◌, Result, Ok, Err, ⊎_elim, refl, ap, sym, ◌∙◌, subst, arith}
 use Rattle.std.proofs.lemmas.Bool.{cases_lt}
 use Rattle.events.specs.declared.turn.Step.{Step}
 use Rattle.events.specs.declared.verdict.Verdict.TheVariants as out
@@ -79,9 +79,9 @@ same-horizon sa epoch c old new same is = record {
   end_is = same.end ∙ is.end_is;
 }
 
-module _ (sa : Record) (epoch : ℕ) (esp_out esp_in iv ask answer : Reach) (outbound : Outbound) (inbound : Inbound) (ike : IkeHeld) (is : IsHolding sa epoch esp_out esp_in iv ask answer outbound inbound ike) where
+module _ (sa : Record) (epoch : ℕ) (esp_out esp_in iv ask answer : Reach) (outbound : Outbound) (inbound : Inbound) (ike : IkeHeld) (attempt : Option ℕ) (is : IsHolding sa epoch esp_out esp_in iv ask answer outbound inbound ike) where
   -- what is held where the horizons of IVs and of requests, and what is held of messages, are these
-  abbrev holding_of : Reach → Reach → IkeHeld → Held
+  abbrev pub holding_of : Reach → Reach → IkeHeld → Held
   holding_of ivs asks messages = record {
     sa = sa;
     epoch = epoch;
@@ -92,9 +92,10 @@ module _ (sa : Record) (epoch : ℕ) (esp_out esp_in iv ask answer : Reach) (out
     asked = messages.asked;
     answered = messages.answered;
     synced = messages.synced;
+    attempt = attempt;
   }
 
-  abbrev held : Held
+  abbrev pub held : Held
   held = holding_of iv ask ike
 
   reach : (c : Counter) (h : Reach) → IsHorizon sa epoch c h → (base next high : ℕ) → h.base ≡ base → h.next ≡ next → h.high ≡ high
@@ -110,13 +111,13 @@ module _ (sa : Record) (epoch : ℕ) (esp_out esp_in iv ask answer : Reach) (out
     end = of.end_is i;
   }
 
-  ask_reach : ask ≡ reach_of held counter.Ask
+  pub ask_reach : ask ≡ reach_of held counter.Ask
   ask_reach = reach counter.Ask ask is.horizons.of_ask ask.base ask.next ask.high refl refl refl
 
-  iv_reach : iv ≡ reach_of held counter.Iv
+  pub iv_reach : iv ≡ reach_of held counter.Iv
   iv_reach = reach counter.Iv iv is.horizons.of_iv iv.base iv.next iv.high refl refl refl
 
-  module _ (ask_now iv_now : Reach) (calls : List Call) (result : Result Drawn Stop) (both : ReadiesBoth ask ask.next iv calls result ask_now iv_now) where
+  module _ (at : ℕ) (ask_now iv_now : Reach) (calls : List Call) (result : Result Drawn Stop) (both : ReadiesBoth ask at iv calls result ask_now iv_now) where
     -- the invariant, where one of the numbers was refused
     pub holding-stopped : IsSameCounter ask ask_now → IsSameCounter iv iv_now → IsHolding sa epoch esp_out esp_in iv_now ask_now answer outbound inbound ike
     holding-stopped same same_iv = record {
@@ -130,12 +131,12 @@ module _ (sa : Record) (epoch : ℕ) (esp_out esp_in iv ask answer : Reach) (out
       packets = is.packets;
       messages = record {
         keys = is.messages.keys;
-        next = is.messages.next ∙ sym (same-next ask iv ask_now iv_now ask.next calls result both);
-        synced = is.messages.synced;
+        next = is.messages.next ∙ sym (same-next ask iv ask_now iv_now at calls result both);
       };
       answered_from = is.answered_from;
     }
 
+  module _ (ask_now iv_now : Reach) (calls : List Call) (result : Result Drawn Stop) (both : ReadiesBoth ask ask.next iv calls result ask_now iv_now) where
     pub asks-stopped : (was : Held) → held ≡ was → (request : List ℕ) (step : Step) (why : Stop) → result ≡ Err why → Says (out.Refused (refusal_of_stop why)) step
         → HeldSendsRequest was request calls step × Advances was (task.Ask was.sa.spir request) calls step (holding_of iv_now ask_now ike)
     asks-stopped was view request step why stopped says = next-is was (holding_of iv_now ask_now ike) request calls step (subst (λ h. AsksNext h request calls step (holding_of iv_now ask_now ike)) view (uses-stopped held (holding_of iv_now ask_now ike) counter.Ask ask.next
@@ -144,7 +145,7 @@ module _ (sa : Record) (epoch : ℕ) (esp_out esp_in iv ask answer : Reach) (out
 
     -- the Message ID is used then
     module _ (jumped : Reach) (ike_now : IkeHeld) (step : Step) (jumps : jumped ≡ record ask_now { next = max ask_now.next (ask.next + 1) })
-        (messages : ike_now ≡ record ike { asked = outstanding_after (kept_under ask.next step.gives) None ike.asked; next = ask.next + 1 }) where
+        (messages : ike_now ≡ record ike { asked = outstanding_after false (kept_under ask.next step.gives) None ike.asked; next = ask.next + 1 }) where
       jumped_next : max ask_now.next (ask.next + 1) ≡ ask.next + 1
       jumped_next =
           let same = same-next ask iv ask_now iv_now ask.next calls result both in
@@ -153,7 +154,7 @@ module _ (sa : Record) (epoch : ℕ) (esp_out esp_in iv ask answer : Reach) (out
 
       pub holding-asked : IsSameCounter ask ask_now → IsSameCounter iv iv_now → IsHolding sa epoch esp_out esp_in iv_now jumped answer outbound inbound ike_now
       holding-asked same same_iv =
-          let before = holding-stopped same same_iv in
+          let before = holding-stopped ask.next ask_now iv_now calls result both same same_iv in
           record {
             horizons = record {
               of_esp_out = is.horizons.of_esp_out;
@@ -172,7 +173,6 @@ module _ (sa : Record) (epoch : ℕ) (esp_out esp_in iv ask answer : Reach) (out
             messages = record {
               keys = ap (λ (m : IkeHeld). m.keys) messages ∙ is.messages.keys;
               next = ap (λ (m : IkeHeld). m.next) messages ∙ sym (ap (λ (r : Reach). r.next) jumps ∙ jumped_next);
-              synced = ap (λ (m : IkeHeld). m.synced) messages ∙ is.messages.synced;
             };
             answered_from = subst (λ (m : IkeHeld). answer.base ≤ m.answered.low) (sym messages) is.answered_from;
           }

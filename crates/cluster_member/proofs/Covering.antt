@@ -1,5 +1,5 @@
 -- What covers make of the highs, and what the turn of a message makes of what is held.
-use Rattle.std.proofs.Common.{◌≡◌, ℕ, ◌==◌, max, false, Option, Some, None, List, [], ◌∷◌, ◌++◌, refl, ap, sym, ◌∙◌, arith}
+use Rattle.std.proofs.Common.{◌≡◌, ℕ, ◌==◌, max, false, Option, Some, None, List, [], ◌∷◌, ◌++◌, refl, ap, sym, ◌∙◌}
 use Rattle.std.proofs.lemmas.List.Elements.{filter_map-append}
 use Rattle.events.specs.declared.turn.Step.{Step}
 use Rattle.ha_base.specs.declared.counter_names.End.TheVariants as end
@@ -9,11 +9,13 @@ use Rattle.keeper_book.specs.declared.calls.Call.{Call}
 use Rattle.keeper_book.specs.declared.counters.Counter.{Counter}
 use Rattle.keeper_book.specs.declared.counters.Five.{Five}
 use Rattle.keeper_book.specs.declared.records.Taken.{Taken}
+use Rattle.turn_rules.proofs.NoSynchronisation.{is_of_sync}
 use Rattle.turn_rules.proofs.Readies.{AreCovers, AreVain}
 use Rattle.turn_rules.proofs.Ties.{five_at-five_of, greatest-max}
 use Rattle.turn_rules.specs.Held.{Held, after_number, after_received, covered, covers_in, first_some, five_of, grant_in, granted, greatest, received_in, used_in}
-use Rattle.turn_rules.specs.IkeState.{answered_after, outstanding_after, replied_in, request_in, response_in}
+use Rattle.turn_rules.specs.IkeState.{outstanding_after, replied_in, request_in, response_in, with_taken}
 use Rattle.turn_rules.specs.Tasks.{Task}
+use Rattle.cluster_member.proofs.Plain.{plain-advanced}
 use Rattle.cluster_member.specs.Advances.{Advances}
 
 -- calls that granted nothing, by which the highs of what is held became these, and that covered nothing else
@@ -65,8 +67,9 @@ then-covers held xs ys mid highs first second = record {
         ∙ ap (λ least. greatest least (covers_in held.sa.spir c ys))
         (sym (five_at-five_of (λ d. greatest (five_at held.highs d) (covers_in held.sa.spir d xs)) c) ∙ ap (λ f. five_at f c) first.here)
 
--- a turn that is of one association: it used no number, received no packet, and sent, ended and answered no request of another one
+-- a turn that is of one association, and none of a synchronisation: it used no number, received no packet, and sent, ended and answered no request of another one
 pub record IsOf (mine : ℕ) (asked : Task) (step : Step) : Type 0 where
+  pub plain : is_of_sync step.verdict ≡ false
   pub unused : (spir : ℕ) → (mine == spir) ≡ false → (c : Counter) → used_in end.Cluster spir c asked step ≡ None
   pub unreceived : (spir : ℕ) → received_in spir asked step.verdict ≡ None
   pub unsent : (spir : ℕ) → (mine == spir) ≡ false → request_in spir asked step ≡ None
@@ -79,23 +82,23 @@ pub message-advances : (held now : Held) (asked : Task) (calls : List Call) (ste
     → now ≡ record held {
       nexts = five_of (λ c. after_number (used_in end.Cluster held.sa.spir c asked step) (five_at held.nexts c));
       highs = highs;
-      asked = outstanding_after (request_in held.sa.spir asked step) (replied_in held.sa.spir asked step.verdict) held.asked;
-      answered = answered_after (response_in held.sa.spir asked step) held.answered;
+      asked = outstanding_after false (request_in held.sa.spir asked step) (replied_in held.sa.spir asked step.verdict) held.asked;
+      answered = with_taken (response_in held.sa.spir asked step) held.answered;
     } → Advances held asked calls step now
 message-advances held now asked calls step highs covers of same = record {
   no_grant = covers.no_grant;
-  now = same ∙ sym (λ i. record held {
+  now = same ∙ sym (plain-advanced held.sa.spir asked calls step held of.plain ∙ (λ i. record held {
     nexts = five_of (λ c. after_number (used_in end.Cluster held.sa.spir c asked step) (five_at held.nexts c));
     highs = covers.here i;
     window = after_received (of.unreceived held.sa.spir i) held.window;
-    asked = outstanding_after (request_in held.sa.spir asked step) (replied_in held.sa.spir asked step.verdict) held.asked;
-    answered = answered_after (response_in held.sa.spir asked step) held.answered;
-  });
-  elsewhere = λ spir other there i. record there {
+    asked = outstanding_after false (request_in held.sa.spir asked step) (replied_in held.sa.spir asked step.verdict) held.asked;
+    answered = with_taken (response_in held.sa.spir asked step) held.answered;
+  }));
+  elsewhere = λ spir other there. plain-advanced spir asked calls step there of.plain ∙ (λ i. record there {
     nexts = five_of (λ c. after_number (of.unused spir other c i) (five_at there.nexts c));
     highs = five_of (λ c. greatest (five_at there.highs c) (covers.elsewhere spir other c i));
     window = after_received (of.unreceived spir i) there.window;
-    asked = outstanding_after (of.unsent spir other i) (of.unreplied spir other i) there.asked;
-    answered = answered_after (of.unanswered spir other i) there.answered;
-  };
+    asked = outstanding_after false (of.unsent spir other i) (of.unreplied spir other i) there.asked;
+    answered = with_taken (of.unanswered spir other i) there.answered;
+  });
 }

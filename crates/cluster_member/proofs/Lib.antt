@@ -9,10 +9,15 @@ pub mod HeldMessages
 pub mod KeySizes
 pub mod PlaceLemmas
 pub mod Placed
+pub mod Plain
 pub mod Readying
 pub mod ReceiverLemmas
 pub mod Requests
 pub mod Sending
+pub mod SyncHoldings
+pub mod SyncSent
+pub mod SyncTaken
+pub mod SyncTakes
 pub mod Taking
 pub mod Uses
 pub mod UsingIv

@@ -52,5 +52,5 @@ pub dropped-holds : (step : Step) (why : EspDrop) (after : List ℕ) (held : Lis
 dropped-holds step why after held said quiet size s =
     sym (stays-held size task.Receive [] step s refl
     (unmoved task.Receive [] step (none-vain [] refl) (λ spir c. used-receiving end.Cluster spir c step quiet) (λ spir. ap (accepted spir) said)
-    (received-no-message step (out.DroppedEsp why) said (λ spir. refl) (λ spir. refl)) s)
+    (received-no-message step (out.DroppedEsp why) said (λ spir. refl) (λ spir. refl) refl) s)
     (held_at held s))

@@ -1,5 +1,5 @@
 -- What is held after a request was sent, or was refused behind calls that covered numbers.
-use Rattle.std.proofs.Common.{◌≡◌, ℕ, ◌+◌, ◌≤◌, ◌==◌, max, Bool, true, false, Option, Some, None, List, [], refl, ap, sym, ◌∙◌, subst, arith, MatchBool, ⊎_elim, inl, inr, if◌then◌else◌}
+use Rattle.std.proofs.Common.{◌≡◌, ℕ, ◌+◌, ◌≤◌, ◌==◌, max, Bool, true, false, Option, Some, None, List, [], refl, ap, sym, ◌∙◌, subst, arith, MatchBool, inl, inr, if◌then◌else◌}
 use Rattle.std.proofs.lemmas.Bool.{eq-eqb}
 use Rattle.events.specs.declared.turn.Step.{Step}
 use Rattle.events.specs.declared.verdict.Refusal.{Refusal}
@@ -15,11 +15,13 @@ use Rattle.keeper_book.specs.declared.calls.Call.{Call}
 use Rattle.keeper_book.specs.declared.counters.Counter.{Counter}
 use Rattle.keeper_book.specs.declared.counters.Counter.TheVariants as counter
 use Rattle.keeper_book.specs.declared.counters.Five.{Five}
+use Rattle.turn_rules.proofs.NoSynchronisation.{is_of_sync}
 use Rattle.turn_rules.proofs.Readies.{none-vain}
 use Rattle.turn_rules.proofs.Ties.{received-refused, replied-refused, request-refused, response-refused, used-refused}
 use Rattle.turn_rules.specs.Draws.{refusal_of_stop}
 use Rattle.turn_rules.specs.Held.{Held, after_number, first_some, five_of, iv_in, received_in, said_in, used_in}
-use Rattle.turn_rules.specs.IkeState.{answered_after, is_of_spir, kept_under, outstanding_after, replied_in, request_in, request_sent, sealed_iv}
+use Rattle.turn_rules.specs.CountersOf.{is_of_spir}
+use Rattle.turn_rules.specs.IkeState.{with_taken, kept_under, outstanding_after, replied_in, request_in, request_sent, sealed_iv}
 use Rattle.turn_rules.specs.MemberMessages.{HeldAsks, HeldSendsRequest, RefusesThen, held_ike}
 use Rattle.turn_rules.specs.Messages.{SendsRequest, Windowed}
 use Rattle.turn_rules.specs.Steps.{Says}
@@ -77,6 +79,7 @@ module _ (request : List ℕ) (calls : List Call) (step : Step) (held now : Held
       → Advances held asked calls step now
   request-advances high above covers same = message-advances held now asked calls step (with_five counter.Iv above (with_five counter.Ask high held.highs)) covers
       (record {
+        plain = ap is_of_sync sends.said;
         unused = unused;
         unreceived = λ spir. refl;
         unsent = λ spir other. keeps spir ∙ ap (λ b. if b then kept_under held.nexts.ask step.gives else None) other;
@@ -89,13 +92,14 @@ module _ (request : List ℕ) (calls : List Call) (step : Step) (held now : Held
           iv = next_after _ held.nexts.iv (uses-iv held.sa.spir) i;
         };
         highs = record held.highs { ask = high; iv = above };
-        asked = outstanding_after ((keeps held.sa.spir ∙ ap (λ b. if b then kept_under held.nexts.ask step.gives else None) own) i) None held.asked;
+        asked = outstanding_after false ((keeps held.sa.spir ∙ ap (λ b. if b then kept_under held.nexts.ask step.gives else None) own) i) None held.asked;
       }))
 
 -- what was covered stays, though the event was refused
 pub raised-refused : (asked : Task) (calls : List Call) (step : Step) (held now : Held) (highs : Five) (why : Refusal) → AreCoversTo held calls highs → Says (out.Refused why) step → now ≡ record held { highs = highs } → Advances held asked calls step now
 raised-refused asked calls step held now highs why covers says same = message-advances held now asked calls step highs covers
     (record {
+      plain = ap is_of_sync says.said;
       unused = λ spir other c. unused spir c;
       unreceived = λ spir. ap (received_in spir asked) says.said ∙ received-refused spir asked why;
       unsent = λ spir other. request-refused spir asked why step says.said;
@@ -105,8 +109,8 @@ raised-refused asked calls step held now highs why covers says same = message-ad
     (same ∙ sym (λ i. record held {
       nexts = five_of (λ c. after_number (unused held.sa.spir c i) (five_at held.nexts c));
       highs = highs;
-      asked = outstanding_after (request-refused held.sa.spir asked why step says.said i) (unreplied held.sa.spir i) held.asked;
-      answered = answered_after (response-refused held.sa.spir asked why step says.said i) held.answered;
+      asked = outstanding_after false (request-refused held.sa.spir asked why step says.said i) (unreplied held.sa.spir i) held.asked;
+      answered = with_taken (response-refused held.sa.spir asked why step says.said i) held.answered;
     }))
   where
     unused : (spir : ℕ) (c : Counter) → used_in end.Cluster spir c asked step ≡ None

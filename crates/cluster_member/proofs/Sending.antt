@@ -1,5 +1,5 @@
 -- What a holding is once a number that its horizon gave was used or noted, or was refused.
-use Rattle.std.proofs.Common.{◌≡◌, ℕ, ◌+◌, List, [], Result, Ok, Err, ap, ◌∙◌, subst}
+use Rattle.std.proofs.Common.{◌≡◌, ℕ, ◌+◌, Option, List, [], Result, Ok, Err, ap, ◌∙◌, subst}
 use Rattle.events.specs.declared.turn.Step.{Step}
 use Rattle.events.specs.declared.verdict.EspVerdict.{EspVerdict}
 use Rattle.events.specs.declared.verdict.EspVerdict.TheVariants as esp
@@ -24,7 +24,7 @@ use Rattle.cluster_member.proofs.Readying.{no-number, no-stop, same-refusal}
 use Rattle.cluster_member.proofs.Uses.{Notes, UsesNext, received_below, sent_below}
 use Rattle.cluster_member.specs.Holdings.{IsHolding}
 
-module _ (sa : Record) (epoch : ℕ) (esp_out esp_in iv ask answer : Reach) (outbound : Outbound) (inbound : Inbound) (ike : IkeHeld)
+module _ (sa : Record) (epoch : ℕ) (esp_out esp_in iv ask answer : Reach) (outbound : Outbound) (inbound : Inbound) (ike : IkeHeld) (attempt : Option ℕ)
     (is : IsHolding sa epoch esp_out esp_in iv ask answer outbound inbound ike) where
   -- what is held where the horizons of the numbers that are sent and received, and the window, are these
   abbrev pub holding_with : Reach → Reach → Window → Held
@@ -38,6 +38,7 @@ module _ (sa : Record) (epoch : ℕ) (esp_out esp_in iv ask answer : Reach) (out
     asked = ike.asked;
     answered = ike.answered;
     synced = ike.synced;
+    attempt = attempt;
   }
 
   abbrev pub held_now : Held

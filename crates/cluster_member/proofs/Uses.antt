@@ -1,5 +1,5 @@
 -- What is held once numbers were used: the forms in which proofs go from horizons to the rules.
-use Rattle.std.proofs.Common.{ℕ, ◌+◌, ◌≡◌, None, List, [], Result, Ok, Err}
+use Rattle.std.proofs.Common.{ℕ, ◌+◌, ◌≡◌, false, None, List, [], Result, Ok, Err}
 use Rattle.events.specs.declared.turn.Step.{Step}
 use Rattle.events.specs.declared.verdict.EspVerdict.{EspVerdict}
 use Rattle.events.specs.declared.verdict.EspVerdict.TheVariants as esp
@@ -14,7 +14,7 @@ use Rattle.keeper_book.specs.declared.counters.Counter.TheVariants as counter
 use Rattle.sk_payload.specs.declared.open.Opened.{Opened}
 use Rattle.turn_rules.specs.Draws.{counter_name, reach_of, refusal_of_stop}
 use Rattle.turn_rules.specs.Held.{Held}
-use Rattle.turn_rules.specs.IkeState.{answered_after, kept_under, outstanding_after}
+use Rattle.turn_rules.specs.IkeState.{kept_under, outstanding_after, with_taken}
 use Rattle.turn_rules.specs.MemberMessages.{RefusesThen, held_ike}
 use Rattle.turn_rules.specs.MemberPackets.{inbound_of, outbound_of}
 use Rattle.turn_rules.specs.Messages.{AnswersRequest, SendsRequest}
@@ -80,7 +80,7 @@ abbrev pub asked_below : ℕ → ℕ → Step → Held → Held
 asked_below high above step held = record held {
   nexts = record held.nexts { ask = held.nexts.ask + 1; iv = held.nexts.iv + 1 };
   highs = record held.highs { ask = high; iv = above };
-  asked = outstanding_after (kept_under held.nexts.ask step.gives) None held.asked;
+  asked = outstanding_after false (kept_under held.nexts.ask step.gives) None held.asked;
 }
 
 -- a request is sent under the next Message ID and the next IV, once both are ready
@@ -94,7 +94,7 @@ abbrev pub answered_below : ℕ → ℕ → ℕ → Step → Held → Held
 answered_below high above id step held = record held {
   nexts = record held.nexts { iv = held.nexts.iv + 1 };
   highs = record held.highs { answer = high; iv = above };
-  answered = answered_after (kept_under id step.gives) held.answered;
+  answered = with_taken (kept_under id step.gives) held.answered;
 }
 
 -- a new request is answered under the next IV, once its Message ID and the IV are ready

@@ -1,9 +1,8 @@
 -- What a member finds of the associations that messages name.
-use Rattle.std.specs.Prelude.{ℕ, Option}
+use Rattle.std.specs.Prelude.{ℕ, MatchOption, Option}
 use Rattle.std.specs.Option.{option_map}
 use Rattle.ike_sas.specs.Held.{IkeHeld}
-use Rattle.ike_sas.specs.declared.arrival.Arrival.{Arrival}
-use Rattle.ike_sas.specs.declared.arrival.Arrival.TheVariants as arrival
+use Rattle.sk_payload.specs.declared.open.Opened.{Opened}
 use Rattle.turn_rules.specs.Held.{Held}
 use Rattle.turn_rules.specs.MemberMessages.{held_ike, of_spii}
 
@@ -11,7 +10,7 @@ use Rattle.turn_rules.specs.MemberMessages.{held_ike, of_spii}
 abbrev pub ike_under : (ℕ → Option Held) → ℕ → ℕ → Option IkeHeld
 ike_under held spii spir = option_map held_ike (of_spii spii (held spir))
 
--- no member is asked to synchronise
-abbrev pub IsNoSynchronisation : Arrival → Type 0
-IsNoSynchronisation (arrival.Synchronisation request) = ⊥
-IsNoSynchronisation other = Unit {0}
+-- a message that was opened is taken so by what is held of its association
+abbrev pub TakesWhereHeld : (ℕ → Option Held) → Opened → (Held → Type 0) → Type 0
+TakesWhereHeld held opened takes =
+    MatchOption (of_spii opened.header.spii (held opened.header.spir)) ⊥ takes

@@ -1,5 +1,5 @@
 -- The horizons of what a member holds.
-use Rattle.std.specs.Prelude.{ℕ, ◌≡◌, ◌≤◌, ◌==◌}
+use Rattle.std.specs.Prelude.{ℕ, ◌≡◌, ◌≤◌}
 use Rattle.events.specs.declared.verdict.EspVerdict.{EspVerdict}
 use Rattle.events.specs.declared.verdict.EspVerdict.TheVariants as esp
 use Rattle.ha_base.specs.declared.esp_outcomes.EspOpened.{EspOpened}
@@ -41,19 +41,18 @@ pub record AreOfRecord (sa : Record) (esp_in : Reach) (outbound : Outbound)
   pub received_spi : inbound.spi ≡ sa.spi_in
   pub received_base : inbound.window.base ≡ esp_in.base
 
--- IKE messages are sealed and opened with the keys of the record, the next request has the next
--- Message ID, and an epoch has to synchronise unless it is the first
-pub record AreMessages (sa : Record) (epoch : ℕ) (ask : Reach) (ike : IkeHeld) : Type 0 where
+-- IKE messages are sealed and opened with the keys of the record, and the next request has the next
+-- Message ID
+pub record AreMessages (sa : Record) (ask : Reach) (ike : IkeHeld) : Type 0 where
   pub keys : ike.keys ≡ cluster_keys sa
   pub next : ike.next ≡ ask.next
-  pub synced : ike.synced ≡ (epoch == 1)
 
 -- the epoch answers Message IDs from its base on
 pub record IsHolding (sa : Record) (epoch : ℕ) (esp_out esp_in iv ask answer : Reach)
     (outbound : Outbound) (inbound : Inbound) (ike : IkeHeld) : Type 0 where
   pub horizons : AreHorizons sa epoch esp_out esp_in iv ask answer
   pub packets : AreOfRecord sa esp_in outbound inbound
-  pub messages : AreMessages sa epoch ask ike
+  pub messages : AreMessages sa ask ike
   pub answered_from : answer.base ≤ ike.answered.low
 
 -- where a packet is accepted, it is this one

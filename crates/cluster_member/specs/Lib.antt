@@ -5,3 +5,4 @@ pub mod Holdings
 pub mod Members
 pub mod Numbers
 pub mod Places
+pub mod Synchronising

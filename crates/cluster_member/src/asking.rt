@@ -28,7 +28,7 @@ impl Holding {
             × Advances self.old (task.Ask self.old.sa.spir room) calls result self.new) }
         ensures sa { self.new.sa ≡ self.old.sa }
     {
-        if self.epoch != 1 {
+        if !self.ike.synced() {
             return Step::quiet(Verdict::Refused(Refusal::NotSynced));
         }
         match self.ike.may_ask(self.ike.next()) {

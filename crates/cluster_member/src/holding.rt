@@ -30,8 +30,8 @@ use keeper_book::{Keeper, Record, Taken};
 use spend_once::{CounterName, End, Kind};
 use std::marker::Model;
 
-/// What a member holds of an association in an epoch: the record, a horizon for each counter, and
-/// what it sends and receives with.
+/// What a member holds of an association in an epoch: the record, a horizon for each counter, what it
+/// sends and receives with, and the Message ID that it announced last in a request to synchronise.
 #[derive(Drop)]
 pub struct Holding {
     pub(crate) sa: Record,
@@ -44,6 +44,7 @@ pub struct Holding {
     outbound: OutboundSa,
     inbound: InboundSa,
     pub(crate) ike: IkeSa,
+    pub(crate) attempt: Option<u32>,
 }
 
 impl Model for Holding {
@@ -62,6 +63,7 @@ impl Model for Holding {
       asked = h.ike.asked;
       answered = h.ike.answered;
       synced = h.ike.synced;
+      attempt = h.attempt;
     } };
 
     ghost invariant = { λ h. IsHolding h.sa h.epoch h.esp_out h.esp_in h.iv h.ask h.answer h.outbound h.inbound h.ike };
@@ -208,6 +210,7 @@ impl Holding {
                 bases.esp_in,
             ),
             ike,
+            attempt: None,
             sa,
         }
     }

@@ -10,6 +10,7 @@ mod member;
 mod messages;
 mod ready;
 mod refusals;
+mod synchronising;
 
 pub use config::Config;
 pub use member::Member;

@@ -29,7 +29,7 @@ pub struct Member {
     pub(crate) alloc: Global,
     number: u32,
     config: Config,
-    fresh: [u8; 24],
+    pub(crate) fresh: [u8; 24],
     pub(crate) holdings: Holdings,
 }
 

@@ -1,17 +1,18 @@
 ghost use Rattle.std.specs.Prelude.{◌≡◌, ◌<◌, [], IfOk, OnErr};
-ghost use Rattle.cluster_member.specs.Arriving.{IsNoSynchronisation, ike_under};
+ghost use Rattle.cluster_member.specs.Arriving.{TakesWhereHeld, ike_under};
 ghost use Rattle.cluster_member.specs.Members.{HoldsOn, IsAfter};
 ghost use Rattle.ha_base.specs.declared.services.TheConstants.{MOST_REQUESTS};
 ghost use Rattle.ike_sas.specs.Arrivals.{IsNewThere, NewIsNew};
 ghost use Rattle.keeper_book.specs.Asks.{AsksFor};
 ghost use Rattle.request_exchange.specs.Given.{IsAwaited, IsFitting};
 ghost use Rattle.turn_rules.specs.Held.{held_at};
-ghost use Rattle.turn_rules.specs.MemberMessages.{member_listener};
-ghost use Rattle.turn_rules.specs.Messages.{TakesArrival, TakesMessage};
+ghost use Rattle.keeper_book.specs.declared.counters.Counter.TheVariants as counter;
+ghost use Rattle.turn_rules.specs.Draws.{counter_name};
+ghost use Rattle.turn_rules.specs.MemberMessages.{HeldAnswers, member_listener};
+ghost use Rattle.turn_rules.specs.Messages.{TakesArrival, TakesInner, TakesMessage};
 ghost use Rattle.turn_rules.specs.Services.{Serves};
 ghost use Rattle.turn_rules.specs.Steps.{IsQuiet};
 ghost use Rattle.turn_rules.specs.Tasks as task;
-ghost use Rattle.ike_sas.specs.declared.arrival.Arrival.TheVariants as arrival;
 
 use crate::holdings::{Holdings, place_of};
 use crate::member::Member;
@@ -45,11 +46,12 @@ impl Holdings {
         alloc: Global,
         keeper: &mut K,
         service: &mut Box<dyn Service>,
+        fresh: &[u8; 24],
         bytes: &[u8],
     ) -> Result<Step, Memory>
         requires room { count service.old < MOST_REQUESTS }
         ensures takes { IfOk result (λ step. AsksFor K.Keeper keeper.old keeper.new (λ calls.
-            TakesMessage (member_listener (held_at self.old.held)) bytes.now calls step
+            TakesMessage (member_listener fresh.now (held_at self.old.held)) bytes.now calls step
             × HoldsOn task.Receive calls step self.old.held self.new.held)) }
         ensures serves { IfOk result (λ step.
             Serves count last gives service.old step.served service.new) }
@@ -57,7 +59,7 @@ impl Holdings {
             × (service.new ≡ service.old)) }
     {
         let arrival = receive(alloc, End::Cluster, &*self, bytes)?;
-        self.take(alloc, keeper, service, arrival)
+        self.take(alloc, keeper, service, fresh, arrival)
     }
 
     // Does what there is to do with octets that came, by what they are.
@@ -66,14 +68,14 @@ impl Holdings {
         alloc: Global,
         keeper: &mut K,
         service: &mut Box<dyn Service>,
+        fresh: &[u8; 24],
         arrival: Arrival,
     ) -> Result<Step, Memory>
         requires new { NewIsNew (ike_under (held_at self.old.held)) arrival }
         requires fitting { IsFitting (ike_under (held_at self.old.held)) arrival }
-        requires no_synchronisation { IsNoSynchronisation arrival }
         requires room { count service.old < MOST_REQUESTS }
         ensures takes { IfOk result (λ step. AsksFor K.Keeper keeper.old keeper.new (λ calls.
-            TakesArrival (member_listener (held_at self.old.held)) arrival calls step
+            TakesArrival (member_listener fresh.now (held_at self.old.held)) arrival calls step
             × HoldsOn task.Receive calls step self.old.held self.new.held)) }
         ensures serves { IfOk result (λ step.
             Serves count last gives service.old step.served service.new) }
@@ -83,7 +85,7 @@ impl Holdings {
         match arrival {
             Arrival::Dropped(why) => Ok(drop_message(why)),
             Arrival::Resumption(_) => { Ok(drop_message(IkeDrop::Exchange(IKE_SESSION_RESUME))) }
-            Arrival::SyncResponse(_) => Ok(drop_message(IkeDrop::NotAsked)),
+            Arrival::SyncResponse(response) => Ok(self.take_sync(fresh, &response)),
             Arrival::Synchronisation(_) => unreachable!(),
             Arrival::Response(response) => self.take_response(alloc, &response),
             Arrival::Repeat { id, datagram } => Ok(repeat(id, datagram)),
@@ -102,8 +104,8 @@ impl Holdings {
         requires new { IsNewThere (ike_under (held_at self.old.held)) request.now }
         requires room { count service.old < MOST_REQUESTS }
         ensures takes { IfOk result (λ step. AsksFor K.Keeper keeper.old keeper.new (λ calls.
-            TakesArrival (member_listener (held_at self.old.held))
-            (arrival.New request.now) calls step
+            TakesWhereHeld (held_at self.old.held) request.now
+            (λ held. HeldAnswers held request.now calls step)
             × HoldsOn task.Receive calls step self.old.held self.new.held)) }
         ensures serves { IfOk result (λ step.
             Serves count last gives service.old step.served service.new) }
@@ -124,8 +126,8 @@ impl Holdings {
     fn take_response(&mut self, alloc: Global, response: &Opened) -> Result<Step, Memory>
         requires awaited { IsAwaited (ike_under (held_at self.old.held)) response.now }
         ensures takes { IfOk result (λ step.
-            TakesArrival (member_listener (held_at self.old.held))
-            (arrival.Response response.now) [] step
+            TakesWhereHeld (held_at self.old.held) response.now (λ held. TakesInner
+            (counter_name held.sa counter.Ask) response.now.header.id response.now.inner step)
             × HoldsOn task.Receive [] step self.old.held self.new.held) }
         ensures quiet { IfOk result IsQuiet }
         ensures err { OnErr result (self.new.held ≡ self.old.held) }
@@ -144,7 +146,8 @@ impl Member {
     /// Takes an IKE message that came (RFC 7296, sections 1.4, 2.1 to 2.3 and 2.21). A new request
     /// is executed once by the service, or is refused with an error, once its Message ID and the
     /// IV of the response are ready; one that was answered before has the same response once more;
-    /// a response ends its request; every other message is dropped. An error is want of memory;
+    /// a response ends its request; the response to the last request to synchronise is taken on (RFC
+    /// 6311, section 5.1); every other message is dropped. An error is want of memory;
     /// then no keeper was asked, nothing was executed, and the member is as it was.
     pub fn receive_ike<K: Keeper>(
         &mut self,
@@ -154,7 +157,7 @@ impl Member {
     ) -> Result<Step, Memory>
         requires room { count service.old < MOST_REQUESTS }
         ensures takes { IfOk result (λ step. AsksFor K.Keeper keeper.old keeper.new (λ calls.
-            TakesMessage (member_listener (held_at self.old.held)) bytes.now calls step
+            TakesMessage (member_listener self.old.fresh (held_at self.old.held)) bytes.now calls step
             × IsAfter task.Receive calls step self.old self.new)) }
         ensures serves { IfOk result (λ step.
             Serves count last gives service.old step.served service.new) }
@@ -162,6 +165,6 @@ impl Member {
             × (service.new ≡ service.old)) }
     {
         self.holdings
-            .receive_message(self.alloc, keeper, service, bytes)
+            .receive_message(self.alloc, keeper, service, &self.fresh, bytes)
     }
 }

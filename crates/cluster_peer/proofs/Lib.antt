@@ -6,3 +6,4 @@ mod MessageMoves
 mod Moves
 mod SlotLaws
 mod SlotLemmas
+mod SyncMoves

@@ -1,5 +1,5 @@
 -- What the peer holds after its part on an IKE message.
-use Rattle.std.proofs.Common.{◌≡◌, ℕ, ◌<◌, Option, Some, None, Result, List, [], map, length, get_or, refl, unwrap_or, ap, sym, ◌∙◌, subst}
+use Rattle.std.proofs.Common.{◌≡◌, ℕ, ◌<◌, Option, Some, None, Result, List, [], map, length, get_or, refl, unwrap_or, ap, ◌∙◌}
 use Rattle.std.specs.Prelude.{MatchOption}
 use Rattle.std.proofs.Math.ListN.{set}
 use Rattle.events.specs.declared.ike_outcomes.IkeDrop.{IkeDrop}
@@ -12,13 +12,14 @@ use Rattle.ike_window.specs.Kept.{kept_octets}
 use Rattle.keeper_book.specs.declared.counters.Counter.TheVariants as counter
 use Rattle.sk_payload.specs.declared.open.Opened.{Opened}
 use Rattle.turn_rules.specs.Messages.{GivesAgain, Resends, TakesInner}
-use Rattle.turn_rules.specs.PeerMessages.{PeerResends, SlotAnswers, SlotAsks, slot_ike}
+use Rattle.turn_rules.specs.PeerMessages.{PeerResends, SlotAnswers, SlotAsks, SlotSynchronises, slot_ike}
 use Rattle.turn_rules.specs.Peers.{AreDistinct}
 use Rattle.turn_rules.specs.Slots.{Slot, first_slot, has_spir, peer_counter, records, slot_after}
 use Rattle.turn_rules.specs.Steps.{Says}
 use Rattle.turn_rules.specs.Tasks as task
 use Rattle.cluster_peer.proofs.MessageMoves.{answers-others, asks-others, dropped-made, repeated-made, reply-others, resent-made}
 use Rattle.cluster_peer.proofs.Moves.{nothing-after}
+use Rattle.cluster_peer.proofs.SyncMoves.{sync-others}
 use Rattle.cluster_peer.proofs.SlotLaws.{held-after, kept_all, put, refused-kept}
 use Rattle.cluster_peer.specs.Slots.{IsPeerAfter, PeerWithRoom}
 
@@ -40,6 +41,11 @@ module _ (step : Step) (place : ℕ) (slots : List Slot) (slot now : Slot) (with
   replied-after id inner takes goes =
       put (slot_after task.Receive step) place slots slot now within is apart goes
       (λ other differ. nothing-after task.Receive step other (reply-others other.sa.spir slot id inner step differ.spir takes))
+
+  pub synchronised-after : (request : Opened) → SlotSynchronises slot request [] step → now ≡ slot_after task.Receive step slot → set slots place now ≡ map (slot_after task.Receive step) slots
+  synchronised-after request does goes =
+      put (slot_after task.Receive step) place slots slot now within is apart goes
+      (λ other differ. nothing-after task.Receive step other (sync-others other.sa.spir slot request step differ.spir does))
 
 -- what is dropped or repeated leaves all associations
 pub drop-kept : (why : IkeDrop) (step : Step) (slots : List Slot) → Says (out.DroppedIke why) step → slots ≡ map (slot_after task.Receive step) slots

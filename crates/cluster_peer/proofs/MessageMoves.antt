@@ -1,5 +1,5 @@
 -- What a turn of IKE messages changes in an association of the peer.
-use Rattle.std.proofs.Common.{◌≡◌, ◌≢◌, ℕ, ◌+◌, ◌<◌, ◌==◌, max, ◌⊎◌, inl, inr, Bool, true, false, Option, Some, None, Result, Ok, Err, List, [], ◌∷◌, MatchOption, ⊎_elim, refl, ap, sym, ◌∙◌, subst, arith, if◌then◌else◌}
+use Rattle.std.proofs.Common.{◌≡◌, ◌≢◌, ℕ, ◌+◌, ◌<◌, ◌==◌, max, inl, inr, true, false, Option, Some, None, Result, Ok, Err, List, [], MatchOption, ⊎_elim, refl, ap, ◌∙◌, subst, arith, if◌then◌else◌}
 use Rattle.std.proofs.lemmas.Bool.{cases_lt, eq-eqb, ne_eqb}
 use Rattle.events.specs.declared.ike_outcomes.IkeDrop.{IkeDrop}
 use Rattle.events.specs.declared.seals.Seal.{Seal}
@@ -10,7 +10,6 @@ use Rattle.events.specs.declared.verdict.Verdict.TheVariants as out
 use Rattle.events.specs.declared.ike_outcomes.Kept.TheVariants as kept
 use Rattle.ha_base.specs.declared.counter_names.CounterName.{CounterName}
 use Rattle.ha_base.specs.declared.counter_names.End.TheVariants as end
-use Rattle.ha_base.specs.declared.counter_names.Kind.TheVariants as kind
 use Rattle.ike_sas.specs.Answers.{error_of}
 use Rattle.ike_sas.specs.Errors.{first_error}
 use Rattle.ike_sas.specs.declared.answers.RequestError.{RequestError}
@@ -20,14 +19,15 @@ use Rattle.ike_values.specs.declared.header.Header.{Header}
 use Rattle.ike_window.specs.Kept.{KeptMessage}
 use Rattle.keeper_book.specs.CounterEnds.{end_of}
 use Rattle.keeper_book.specs.declared.counters.Counter.TheVariants as counter
-use Rattle.keeper_book.specs.declared.records.Record.{Record}
 use Rattle.sk_payload.specs.declared.open.Opened.{Opened}
 use Rattle.turn_rules.specs.Held.{accepted, first_some, iv_in, said_in, used_in}
-use Rattle.turn_rules.specs.IkeState.{answered_after, is_of_spir, is_same_end, kept_under, number_under, replied_in, request_sent, response_to, sealed_iv, taken_id}
+use Rattle.turn_rules.specs.CountersOf.{is_of_spir, number_under}
+use Rattle.turn_rules.specs.IkeState.{with_taken, heard_in, is_same_end, kept_under, replied_in, request_sent, response_to, sealed_iv, taken_id}
 use Rattle.turn_rules.specs.Messages.{AnswersRequest, ExecutesRequest, GivesAgain, RefusesRequest, SendsMessage, SendsRequest, TakesInner}
-use Rattle.turn_rules.specs.PeerMessages.{SlotAnswers, SlotAsks, SlotSendsRequest, slot_ike}
-use Rattle.turn_rules.specs.Slots.{Slot, peer_counter, slot_after}
+use Rattle.turn_rules.specs.PeerMessages.{SlotAnswers, SlotAsks, slot_ike}
+use Rattle.turn_rules.specs.Slots.{Slot, higher_of, peer_counter, slot_after}
 use Rattle.turn_rules.specs.Steps.{Says}
+use Rattle.turn_rules.specs.Synchronised.{agreed_in, jumped_in}
 use Rattle.turn_rules.specs.Tasks as task
 use Rattle.cluster_peer.proofs.Moves.{Made, Moves, moved-after, nothing, received-made, refused-made}
 
@@ -36,7 +36,7 @@ alone None = refl
 alone (Some n) = refl
 
 -- a message was sealed in an association, and so in no other
-iv-sealed : (other iv : ℕ) (slot : Slot) (header : Header) (payloads : List PayloadValue) (step : Step) → SendsMessage (slot_ike slot) iv header payloads step
+pub iv-sealed : (other iv : ℕ) (slot : Slot) (header : Header) (payloads : List PayloadValue) (step : Step) → SendsMessage (slot_ike slot) iv header payloads step
     → used_in end.Peer other counter.Iv task.Receive step ≡ (if slot.sa.spir == other then Some iv else None)
 iv-sealed other iv slot header payloads step sends =
     let seal : Seal = sends.sent.seal in
@@ -47,16 +47,19 @@ iv-sealed other iv slot header payloads step sends =
     ∙ alone (if slot.sa.spir == other then Some seal.iv else None)
     ∙ ap (λ n. if slot.sa.spir == other then Some n else None) sends.sends.iv_is
 
--- a new request was answered in an association: its response is kept there
-abbrev answered : Option ℕ → Option KeptMessage → Moves
-answered iv response = record { esp = None; received = None; iv = iv; ask = None; request = None; replied = None; response = response }
+-- a new request was answered in an association: its response is kept there, and its Message ID known
+abbrev answered : Option ℕ → Option KeptMessage → Option ℕ → Moves
+answered iv response heard = record nothing { iv = iv; response = response; heard = heard }
 
 module _ (other : ℕ) (slot : Slot) (request : Opened) (step : Step) where
   abbrev its : {X : Type 0} → X → X → X
   its x y = if slot.sa.spir == other then x else y
 
+  abbrev taken : Option ℕ
+  taken = if slot.sa.spir == other then Some request.header.id else None
+
   abbrev kept_response : Option KeptMessage
-  kept_response = response_to (if slot.sa.spir == other then Some request.header.id else None) step.gives
+  kept_response = response_to taken step.gives
 
   stored : (verdict : Verdict) → step.verdict ≡ verdict → taken_id other verdict ≡ number_under other (peer_counter slot.sa counter.Answer) request.header.id
       → response_to (taken_id other step.verdict) step.gives ≡ kept_response
@@ -65,13 +68,19 @@ module _ (other : ℕ) (slot : Slot) (request : Opened) (step : Step) where
       ∙ ap (λ id. response_to id step.gives) taken
       ∙ ap (λ (x : Option ℕ). response_to (if is_of_spir other x then Some request.header.id else None) step.gives) slot.sa.origin_is_own
 
+  known : (verdict : Verdict) → step.verdict ≡ verdict → heard_in other task.Receive verdict ≡ number_under other (peer_counter slot.sa counter.Answer) request.header.id
+      → heard_in other task.Receive step.verdict ≡ taken
+  known verdict said heard =
+      ap (heard_in other task.Receive) said ∙ heard
+      ∙ ap (λ (x : Option ℕ). if is_of_spir other x then Some request.header.id else None) slot.sa.origin_is_own
+
   pub answered-made : AnswersRequest (peer_counter slot.sa counter.Answer) (slot_ike slot) slot.iv request step
-      → Made task.Receive step other (answered (if slot.sa.spir == other then Some slot.iv else None) kept_response)
+      → Made task.Receive step other (answered (if slot.sa.spir == other then Some slot.iv else None) kept_response taken)
   answered-made answers = go (error_of request) answers
     where
       go : (error : Option RequestError) → MatchOption error (ExecutesRequest (peer_counter slot.sa counter.Answer) (slot_ike slot) slot.iv request step)
           (λ e. RefusesRequest (peer_counter slot.sa counter.Answer) (slot_ike slot) slot.iv request e step)
-          → Made task.Receive step other (answered (if slot.sa.spir == other then Some slot.iv else None) kept_response)
+          → Made task.Receive step other (answered (if slot.sa.spir == other then Some slot.iv else None) kept_response taken)
       go None does = record {
         esp = refl;
         received = ap (accepted other) does.said;
@@ -80,6 +89,9 @@ module _ (other : ℕ) (slot : Slot) (request : Opened) (step : Step) where
         request = refl;
         replied = ap (replied_in other task.Receive) does.said;
         response = stored _ does.said refl;
+        heard = known _ does.said refl;
+        agreed = ap (agreed_in other task.Receive) does.said;
+        jump = ap (jumped_in other counter.Ask task.Receive) does.said;
       }
       go (Some error) does = record {
         esp = refl;
@@ -89,17 +101,20 @@ module _ (other : ℕ) (slot : Slot) (request : Opened) (step : Step) where
         request = refl;
         replied = ap (replied_in other task.Receive) does.said;
         response = stored _ does.said refl;
+        heard = known _ does.said refl;
+        agreed = ap (agreed_in other task.Receive) does.said;
+        jump = ap (jumped_in other counter.Ask task.Receive) does.said;
       }
 
 -- in the association
 pub answered-own : (slot : Slot) (request : Opened) (step : Step) → AnswersRequest (peer_counter slot.sa counter.Answer) (slot_ike slot) slot.iv request step
-    → record slot { iv = slot.iv + 1; answered = answered_after (kept_under request.header.id step.gives) slot.answered } ≡ slot_after task.Receive step slot
+    → record slot { iv = slot.iv + 1; answered = with_taken (kept_under request.header.id step.gives) slot.answered; highest = higher_of request.header.id slot.highest } ≡ slot_after task.Receive step slot
 answered-own slot request step answers =
     let same : (slot.sa.spir == slot.sa.spir) ≡ true = eq-eqb slot.sa.spir slot.sa.spir refl in
     let more : slot.iv + 1 ≡ max (slot.iv + 1) slot.iv = omega arith in
-    (λ i. record slot { iv = more i; answered = answered_after (kept_under request.header.id step.gives) slot.answered })
-    ∙ moved-after task.Receive step slot (answered (Some slot.iv) (kept_under request.header.id step.gives))
-    (subst (λ b. Made task.Receive step slot.sa.spir (answered (if b then Some slot.iv else None) (response_to (if b then Some request.header.id else None) step.gives))) same
+    (λ i. record slot { iv = more i; answered = with_taken (kept_under request.header.id step.gives) slot.answered; highest = higher_of request.header.id slot.highest })
+    ∙ moved-after task.Receive step slot (answered (Some slot.iv) (kept_under request.header.id step.gives) (Some request.header.id))
+    (subst (λ b. Made task.Receive step slot.sa.spir (answered (if b then Some slot.iv else None) (response_to (if b then Some request.header.id else None) step.gives) (if b then Some request.header.id else None))) same
     (answered-made slot.sa.spir slot request step answers))
 
 -- and in no other
@@ -107,7 +122,7 @@ pub answers-others : (other : ℕ) (slot : Slot) (request : Opened) (step : Step
 answers-others other slot request step differs answers = ⊎_elim went (λ above. refused-made task.Receive step other refusal.Exhausted (answers.ended above)) (cases_lt slot.iv (end_of slot.sa counter.Iv))
   where
     went : slot.iv < end_of slot.sa counter.Iv → Made task.Receive step other nothing
-    went below = subst (λ b. Made task.Receive step other (answered (if b then Some slot.iv else None) (response_to (if b then Some request.header.id else None) step.gives))) (ne_eqb slot.sa.spir other differs)
+    went below = subst (λ b. Made task.Receive step other (answered (if b then Some slot.iv else None) (response_to (if b then Some request.header.id else None) step.gives) (if b then Some request.header.id else None))) (ne_eqb slot.sa.spir other differs)
         (answered-made other slot request step (answers.within below))
 
 -- a request was sent in an association, and so in no other
@@ -131,6 +146,9 @@ asks-others other spir slot request step own differs (inl fits) =
           request = ap (λ v. if spir == other then request_sent v step.gives else None) sent.said ∙ ap (λ b. if b then kept_under slot.ask step.gives else None) another;
           replied = refl;
           response = refl;
+          heard = refl;
+          agreed = refl;
+          jump = refl;
         }
 
 -- a response came in an association, and so in no other
@@ -139,11 +157,11 @@ pub reply-others : (other : ℕ) (slot : Slot) (id : ℕ) (inner : Result (List 
 reply-others other slot id (Err bad) step differs takes = absurd takes
 reply-others other slot id (Ok payloads) step differs takes =
     received-made other step (out.Reply (peer_counter slot.sa counter.Ask) id takes.reply kept.Plain (first_error payloads)) None takes.says.quiet takes.says.said refl
-    (ap (λ (x : Option ℕ). if is_of_spir other x then Some id else None) slot.sa.origin_is_own ∙ ap (λ b. if b then Some id else None) (ne_eqb slot.sa.spir other differs)) refl
+    (ap (λ (x : Option ℕ). if is_of_spir other x then Some id else None) slot.sa.origin_is_own ∙ ap (λ b. if b then Some id else None) (ne_eqb slot.sa.spir other differs)) refl refl
 
 -- what is dropped changes nothing
 pub dropped-made : (why : IkeDrop) (step : Step) (spir : ℕ) → Says (out.DroppedIke why) step → Made task.Receive step spir nothing
-dropped-made why step spir says = received-made spir step (out.DroppedIke why) None says.quiet says.said refl refl refl
+dropped-made why step spir says = received-made spir step (out.DroppedIke why) None says.quiet says.said refl refl refl refl
 
 -- nor what is given once more
 pub repeated-made : (id : ℕ) (octets : List ℕ) (step : Step) (spir : ℕ) → GivesAgain (out.Repeated id) octets step → Made task.Receive step spir nothing
@@ -155,6 +173,9 @@ repeated-made id octets step spir gives = record {
   request = refl;
   replied = ap (replied_in spir task.Receive) gives.said;
   response = ap (λ v. response_to (taken_id spir v) step.gives) gives.said;
+  heard = ap (heard_in spir task.Receive) gives.said;
+  agreed = ap (agreed_in spir task.Receive) gives.said;
+  jump = ap (jumped_in spir counter.Ask task.Receive) gives.said;
 }
 
 pub resent-made : (asked id : ℕ) (octets : List ℕ) (step : Step) (spir : ℕ) → GivesAgain (out.Resent id) octets step → Made (task.Again asked id) step spir nothing
@@ -166,4 +187,7 @@ resent-made asked id octets step spir gives = record {
   request = refl;
   replied = refl;
   response = refl;
+  heard = refl;
+  agreed = refl;
+  jump = refl;
 }

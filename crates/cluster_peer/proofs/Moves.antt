@@ -1,5 +1,5 @@
 -- What a turn changes in an association of the peer.
-use Rattle.std.proofs.Common.{◌≡◌, ℕ, ◌==◌, Option, Some, None, List, refl, ap, sym, ◌∙◌, if◌then◌else◌}
+use Rattle.std.proofs.Common.{◌≡◌, ℕ, ◌==◌, false, Option, Some, None, List, refl, ap, sym, ◌∙◌, if◌then◌else◌}
 use Rattle.events.specs.declared.turn.Step.{Step}
 use Rattle.events.specs.declared.verdict.Refusal.{Refusal}
 use Rattle.events.specs.declared.verdict.Verdict.{Verdict}
@@ -8,17 +8,20 @@ use Rattle.ha_base.specs.declared.counter_names.CounterName.{CounterName}
 use Rattle.ha_base.specs.declared.counter_names.End.TheVariants as end
 use Rattle.ike_window.specs.Kept.{KeptMessage}
 use Rattle.keeper_book.specs.declared.counters.Counter.TheVariants as counter
+use Rattle.turn_rules.proofs.NoSynchronisation.{agreed-none, heard-refused, heard-taken, is_of_sync, jumped-none}
 use Rattle.turn_rules.proofs.Ties.{received-refused, replied-refused, request-refused, response-refused, used-receiving, used-refused}
 use Rattle.turn_rules.specs.Held.{accepted, after_number, after_received, first_some, iv_in, received_in, said_in, used_in}
-use Rattle.turn_rules.specs.IkeState.{answered_after, sealed_iv, outstanding_after, replied_in, request_in, response_in, response_to, taken_id}
+use Rattle.turn_rules.specs.IkeState.{answered_after, heard_in, heard_said, sealed_iv, outstanding_after, replied_in, request_in, response_in, response_to, taken_id}
 use Rattle.turn_rules.specs.Packets.{SendsEsp}
-use Rattle.turn_rules.specs.Slots.{Slot, slot_after, slot_outbound}
+use Rattle.turn_rules.specs.Slots.{Slot, after_heard, slot_after, slot_outbound}
 use Rattle.turn_rules.specs.Steps.{IsQuiet, Says}
+use Rattle.turn_rules.specs.Synchronised.{Agreed, after_jump, after_rise, agreed_in, ends_in, jumped_in}
 use Rattle.turn_rules.specs.Tasks as task
 use Rattle.turn_rules.specs.Tasks.{Task}
 
 -- The numbers that were used and received, the request that was sent, the one whose response came,
--- and the response to one that was answered.
+-- the response to one that was answered, the Message ID that came to be known, what was agreed on, and
+-- to where the Message IDs jumped.
 pub record Moves : Type 0 where
   pub esp : Option ℕ
   pub received : Option ℕ
@@ -27,19 +30,23 @@ pub record Moves : Type 0 where
   pub request : Option KeptMessage
   pub replied : Option ℕ
   pub response : Option KeptMessage
+  pub heard : Option ℕ
+  pub agreed : Option Agreed
+  pub jump : Option ℕ
 
 abbrev pub nothing : Moves
-nothing = record { esp = None; received = None; iv = None; ask = None; request = None; replied = None; response = None }
+nothing = record { esp = None; received = None; iv = None; ask = None; request = None; replied = None; response = None; heard = None; agreed = None; jump = None }
 
 abbrev pub moved : Moves → Slot → Slot
 moved moves slot = record {
   sa = slot.sa;
-  next = after_number moves.esp slot.next;
+  next = after_rise moves.agreed (after_number moves.esp slot.next);
   window = after_received moves.received slot.window;
   iv = after_number moves.iv slot.iv;
-  ask = after_number moves.ask slot.ask;
-  asked = outstanding_after moves.request moves.replied slot.asked;
-  answered = answered_after moves.response slot.answered;
+  ask = after_jump moves.jump (after_number moves.ask slot.ask);
+  asked = outstanding_after (ends_in moves.agreed) moves.request moves.replied slot.asked;
+  answered = answered_after moves.agreed moves.response slot.answered;
+  highest = after_heard moves.heard slot.highest;
 }
 
 -- the turn changes so much in the association of a responder's SPI
@@ -51,16 +58,20 @@ pub record Made (asked : Task) (step : Step) (spir : ℕ) (moves : Moves) : Type
   pub request : request_in spir asked step ≡ moves.request
   pub replied : replied_in spir asked step.verdict ≡ moves.replied
   pub response : response_in spir asked step ≡ moves.response
+  pub heard : heard_in spir asked step.verdict ≡ moves.heard
+  pub agreed : agreed_in spir asked step.verdict ≡ moves.agreed
+  pub jump : jumped_in spir counter.Ask asked step.verdict ≡ moves.jump
 
 pub moved-after : (asked : Task) (step : Step) (slot : Slot) (moves : Moves) → Made asked step slot.sa.spir moves → moved moves slot ≡ slot_after asked step slot
 moved-after asked step slot moves made i = record {
   sa = slot.sa;
-  next = after_number (sym made.esp i) slot.next;
+  next = after_rise (sym made.agreed i) (after_number (sym made.esp i) slot.next);
   window = after_received (sym made.received i) slot.window;
   iv = after_number (sym made.iv i) slot.iv;
-  ask = after_number (sym made.ask i) slot.ask;
-  asked = outstanding_after (sym made.request i) (sym made.replied i) slot.asked;
-  answered = answered_after (sym made.response i) slot.answered;
+  ask = after_jump (sym made.jump i) (after_number (sym made.ask i) slot.ask);
+  asked = outstanding_after (ends_in (sym made.agreed i)) (sym made.request i) (sym made.replied i) slot.asked;
+  answered = answered_after (sym made.agreed i) (sym made.response i) slot.answered;
+  highest = after_heard (sym made.heard i) slot.highest;
 }
 
 -- a turn that changes nothing leaves a slot
@@ -77,13 +88,16 @@ refused-made asked step spir why says = record {
   request = request-refused spir asked why step says.said;
   replied = ap (replied_in spir asked) says.said ∙ replied-refused spir asked why;
   response = response-refused spir asked why step says.said;
+  heard = ap (heard_in spir asked) says.said ∙ heard-refused spir asked why;
+  agreed = ap (agreed_in spir asked) says.said ∙ agreed-none spir asked (out.Refused why) refl;
+  jump = ap (jumped_in spir counter.Ask asked) says.said ∙ jumped-none spir counter.Ask asked (out.Refused why) refl;
 }
 
 abbrev pub sent_esp : Option ℕ → Moves
-sent_esp number = record { esp = number; received = None; iv = None; ask = None; request = None; replied = None; response = None }
+sent_esp number = record nothing { esp = number }
 
 abbrev pub received_esp : Option ℕ → Moves
-received_esp number = record { esp = None; received = number; iv = None; ask = None; request = None; replied = None; response = None }
+received_esp number = record nothing { received = number }
 
 -- a packet was sent in an association: no IKE message was sealed
 pub sent-made : (other spir number : ℕ) (payload octets : List ℕ) (slot : Slot) (step : Step) → SendsEsp (slot_outbound slot) number octets step → Made (task.Send spir payload) step other (sent_esp (if spir == other then Some number else None))
@@ -95,12 +109,15 @@ sent-made other spir number payload octets slot step sends = record {
   request = refl;
   replied = refl;
   response = refl;
+  heard = refl;
+  agreed = refl;
+  jump = refl;
 }
 
 -- a packet came, and was answered so; nothing was sealed
-pub received-made : (spir : ℕ) (step : Step) (verdict : Verdict) (number : Option ℕ) → IsQuiet step → step.verdict ≡ verdict → accepted spir verdict ≡ number → replied_in spir task.Receive verdict ≡ None → taken_id spir verdict ≡ None
+pub received-made : (spir : ℕ) (step : Step) (verdict : Verdict) (number : Option ℕ) → IsQuiet step → step.verdict ≡ verdict → accepted spir verdict ≡ number → replied_in spir task.Receive verdict ≡ None → taken_id spir verdict ≡ None → is_of_sync verdict ≡ false
     → Made task.Receive step spir (received_esp number)
-received-made spir step verdict number quiet said received replied taken = record {
+received-made spir step verdict number quiet said received replied taken other = record {
   esp = used-receiving end.Peer spir counter.EspOut step quiet;
   received = ap (accepted spir) said ∙ received;
   iv = used-receiving end.Peer spir counter.Iv step quiet;
@@ -108,4 +125,7 @@ received-made spir step verdict number quiet said received replied taken = recor
   request = refl;
   replied = ap (replied_in spir task.Receive) said ∙ replied;
   response = ap (λ v. response_to (taken_id spir v) step.gives) said ∙ ap (λ id. response_to id step.gives) taken;
+  heard = ap (heard_said spir) said ∙ heard-taken spir verdict other ∙ taken;
+  agreed = ap (agreed_in spir task.Receive) said ∙ agreed-none spir task.Receive verdict other;
+  jump = ap (jumped_in spir counter.Ask task.Receive) said ∙ jumped-none spir counter.Ask task.Receive verdict other;
 }

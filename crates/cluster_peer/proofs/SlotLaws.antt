@@ -16,7 +16,7 @@ use Rattle.keeper_book.specs.CounterEnds.{end_of}
 use Rattle.keeper_book.specs.declared.counters.Counter.TheVariants as counter
 use Rattle.keeper_book.specs.declared.records.Record.{Record}
 use Rattle.turn_rules.proofs.SlotTies.{admits-differ, apart-append}
-use Rattle.turn_rules.specs.IkeState.{is_of_spir}
+use Rattle.turn_rules.specs.CountersOf.{is_of_spir}
 use Rattle.turn_rules.specs.Packets.{IsVerdictOf, SendsEsp}
 use Rattle.turn_rules.specs.PeerStates.{PeerHeld}
 use Rattle.turn_rules.specs.Peers.{AreDistinct, Differ, admits}
@@ -105,7 +105,7 @@ module _ (answer : EspVerdict) (after : List ℕ) (step : Step) (worded : IsVerd
   pub dropped-kept : (why : EspDrop) → answer ≡ esp.Dropped why → (slot : Slot) → slot ≡ slot_after task.Receive step slot
   dropped-kept why e slot =
       let said : step.verdict ≡ out.DroppedEsp why = subst (λ a. IsVerdictOf a after step.verdict) e worded in
-      nothing-after task.Receive step slot (received-made slot.sa.spir step (out.DroppedEsp why) None quiet said refl refl refl)
+      nothing-after task.Receive step slot (received-made slot.sa.spir step (out.DroppedEsp why) None quiet said refl refl refl refl)
 
   module _ (place : ℕ) (slots : List Slot) (slot now : Slot) (within : place < length slots) (is : slot ≡ get_or slots place slot) (apart : AreDistinct (records slots)) (noted : now ≡ slot_noted answer slot) where
     -- what the peer holds after an association answered a packet
@@ -126,7 +126,7 @@ module _ (answer : EspVerdict) (after : List ℕ) (step : Step) (worded : IsVerd
         made : (other : Slot) (number : Option ℕ) → (if slot.sa.spir == other.sa.spir then Some packet.number else None) ≡ number → Made task.Receive step other.sa.spir (received_esp number)
         made other number same =
             received-made other.sa.spir step (out.Accepted (peer_counter slot.sa counter.EspIn) packet.number packet.next_header as_said.0) number quiet as_said.2
-            (ap (λ (x : Option ℕ). if is_of_spir other.sa.spir x then Some packet.number else None) slot.sa.origin_is_own ∙ same) refl refl
+            (ap (λ (x : Option ℕ). if is_of_spir other.sa.spir x then Some packet.number else None) slot.sa.origin_is_own ∙ same) refl refl refl
 
     pub packet-after : (octets : List ℕ) → SlotReceives slot octets answer after → set slots place now ≡ map (slot_after task.Receive step) slots
     packet-after octets receives = received-after receives.opened receives.takes

@@ -1,4 +1,4 @@
-ghost use Rattle.std.specs.Prelude.{◌≡◌, ◌+◌, ◌<◌, ◌≤◌, [], IfOk, IsOk, OnErr, length};
+ghost use Rattle.std.specs.Prelude.{◌≡◌, ◌+◌, ◌<◌, ◌≤◌, [], Some, IfOk, IsOk, OnErr, length};
 ghost use Rattle.replay_set.specs.Window.{IsWindowSize};
 ghost use Rattle.keeper_book.specs.CounterEnds.{end_of};
 ghost use Rattle.keeper_book.specs.declared.counters.Counter.TheVariants as counter;
@@ -7,7 +7,7 @@ ghost use Rattle.turn_rules.specs.Peers.{clashes};
 ghost use Rattle.turn_rules.specs.Messages.{Resends, TakesInner};
 ghost use Rattle.turn_rules.specs.PeerMessages.{SlotAnswers, SlotAsks, SlotSendsRequest, has_spis, slot_ike};
 ghost use Rattle.turn_rules.specs.Services.{Serves};
-ghost use Rattle.turn_rules.specs.Slots.{SlotReceives, SlotSends, entered_slot, peer_counter, slot_after};
+ghost use Rattle.turn_rules.specs.Slots.{SlotReceives, SlotSends, entered_slot, peer_counter, higher_of, slot_after};
 ghost use Rattle.turn_rules.specs.Tasks as task;
 ghost use Rattle.ike_window.specs.Asking.{FitsBeside};
 ghost use Rattle.ike_window.specs.Requests.{IsNewRequest};
@@ -29,13 +29,15 @@ use std::alloc::Global;
 use std::marker::Model;
 
 /// An association of the peer: the ESP numbers and the IVs that it may still send, what it sends and
-/// receives packets with, and what it holds of IKE messages.
+/// receives packets with, what it holds of IKE messages, and the greatest Message ID of the cluster's
+/// that it knows of.
 #[derive(Drop)]
 pub struct Association {
-    sa: Record,
-    lot: Lot,
-    ivs: Lot,
-    ike: IkeSa,
+    pub(crate) sa: Record,
+    pub(crate) lot: Lot,
+    pub(crate) ivs: Lot,
+    pub(crate) ike: IkeSa,
+    pub(crate) highest: Option<u32>,
     outbound: OutboundSa,
     inbound: InboundSa,
 }
@@ -54,10 +56,21 @@ impl Model for Association {
       ask = a.ike.next;
       asked = a.ike.asked;
       answered = a.ike.answered;
+      highest = a.highest;
     } };
 
     ghost invariant = { λ a. IsOfRecord a.sa a.lot a.outbound a.inbound
         × IsIkeOfRecord a.sa a.ivs a.ike };
+}
+
+/// The greater of a Message ID and the greatest so far, if there was one.
+pub(crate) fn higher(highest: Option<u32>, id: u32) -> u32
+    ensures { Some result ≡ higher_of id highest }
+{
+    match highest {
+        Some(highest) => id.max(highest),
+        None => id,
+    }
 }
 
 impl Association {
@@ -84,6 +97,7 @@ impl Association {
                 sa.starts.ask as u32,
                 true,
             ),
+            highest: (sa.starts.ask as u32).checked_sub(1),
             outbound: OutboundSa::new(
                 name_at(End::Peer, &sa, Counter::EspOut),
                 sa.child.to_cluster.as_slice(),
@@ -233,6 +247,7 @@ impl Association {
         match self.ivs.draw() {
             Some(iv) => {
                 let name = name_at(End::Peer, &self.sa, Counter::Answer);
+                self.highest = Some(higher(self.highest, request.header.id));
                 request_exchange::answer(&mut self.ike, room, name, request, service, iv)
             }
             None => Step::quiet(Verdict::Refused(Refusal::Exhausted)),

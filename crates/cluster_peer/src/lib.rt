@@ -6,5 +6,6 @@ mod messages;
 mod names;
 mod peer;
 mod slots;
+mod synchronising;
 
 pub use peer::Peer;

@@ -1,14 +1,14 @@
 //! What the peer's associations do with IKE messages (RFC 7296, sections 1.4, 2.1 to 2.3 and 2.21).
 
-ghost use Rattle.std.specs.Prelude.{◌≡◌, ◌<◌, None, [], map, IfOk, IsSome, MatchOption, OnErr};
+ghost use Rattle.std.specs.Prelude.{◌≡◌, ◌<◌, None, [], map, IfOk, MatchOption, OnErr};
 ghost use Rattle.std.specs.Option.{option_map};
 ghost use Rattle.ha_base.specs.declared.services.TheConstants.{MOST_REQUESTS};
-ghost use Rattle.turn_rules.specs.Messages.{TakesArrival, TakesMessage, TakesOrdinary};
+ghost use Rattle.turn_rules.specs.Messages.{TakesArrival, TakesMessage};
 ghost use Rattle.turn_rules.specs.PeerMessages.{PeerAsks, PeerResends, has_spis, peer_listener, slot_ike};
 ghost use Rattle.turn_rules.specs.Services.{Serves};
 ghost use Rattle.turn_rules.specs.Slots.{first_slot, slot_after};
 ghost use Rattle.turn_rules.specs.Tasks as task;
-ghost use Rattle.cluster_peer.specs.Messages.{IsAwaitedThere, IsJudgedThere, IsNewOfSlot, IsRequestThere, IsThere, slot_for};
+ghost use Rattle.cluster_peer.specs.Messages.{IsAwaitedThere, IsNewOfSlot, IsSyncThere, IsThere};
 ghost use Rattle.cluster_peer.specs.Slots.{IsFirstSlot};
 ghost use Rattle.ike_sas.specs.declared.arrival.Arrival.TheVariants as arrival;
 
@@ -16,7 +16,9 @@ use crate::association::Association;
 use crate::slots::{Slots, place_of};
 use events::{IkeDrop, Refusal, Step, Verdict};
 use ha_base::{End, Memory, Service};
-use ike_sas::{Arrival, Associations, IKE_SESSION_RESUME, IkeSa, receive};
+use ike_sas::{
+    Arrival, Associations, Draft, IKE_SESSION_RESUME, IkeSa, SYNC_RESPONSE_OCTETS, receive,
+};
 use request_exchange::{AnswerRoom, RequestRoom, drop_message, repeat};
 use sk_payload::Opened;
 use std::alloc::Global;
@@ -113,49 +115,32 @@ impl Slots {
         match arrival {
             Arrival::Dropped(why) => Ok(drop_message(why)),
             Arrival::Resumption(_) => { Ok(drop_message(IkeDrop::Exchange(IKE_SESSION_RESUME))) }
-            Arrival::SyncResponse(_) => Ok(drop_message(IkeDrop::NotAsked)),
-            Arrival::Synchronisation(request) => self.take_judged(alloc, service, request),
+            Arrival::SyncResponse(_) => unreachable!(),
+            Arrival::Synchronisation(request) => self.synchronise(alloc, &request),
             Arrival::Response(response) => self.take_response(alloc, &response),
             Arrival::Repeat { id, datagram } => Ok(repeat(id, datagram)),
             Arrival::New(request) => self.take_request(alloc, service, &request),
         }
     }
 
-    // Takes a request to synchronise, which is judged as any other.
-    fn take_judged(
-        &mut self,
-        alloc: Global,
-        service: &mut Box<dyn Service>,
-        request: Opened,
-    ) -> Result<Step, Memory>
-        requires held { IsSome (slot_for self.old.slots request) }
-        requires room { count service.old < MOST_REQUESTS }
+    // Answers a request to synchronise in its association. An error is want of memory; then nothing
+    // has changed.
+    fn synchronise(&mut self, alloc: Global, request: &Opened) -> Result<Step, Memory>
+        requires { IsSyncThere self.old.slots request.now }
         ensures takes { IfOk result (TakesArrival (peer_listener self.old.slots)
-            (arrival.Synchronisation request) []) }
+            (arrival.Synchronisation request.now) []) }
         ensures after { IfOk result (λ step.
             self.new.slots ≡ map (slot_after task.Receive step) self.old.slots) }
-        ensures serves { IfOk result (λ step.
-            Serves count last gives service.old step.served service.new) }
+        ensures unserved { IfOk result (λ step. step.served ≡ None) }
         ensures err { OnErr result (self.new ≡ self.old) }
-        ensures unserved { OnErr result (service.new ≡ service.old) }
     {
-        match self.judge(alloc, request)? {
-            Arrival::Dropped(why) => Ok(drop_message(why)),
-            Arrival::Repeat { id, datagram } => Ok(repeat(id, datagram)),
-            Arrival::New(request) => self.take_request(alloc, service, &request),
-            _ => unreachable!(),
-        }
-    }
-
-    // What a request is to the association that has its SPIs. An error is want of memory.
-    fn judge(&self, alloc: Global, request: Opened) -> Result<Arrival, Memory>
-        requires held { IsSome (slot_for self.now.slots request) }
-        ensures judged { IfOk result (IsJudgedThere self.now.slots request) }
-        ensures there { IfOk result (IsRequestThere self.now.slots) }
-    {
+        let draft = Draft::new(alloc, SYNC_RESPONSE_OCTETS)?;
         let header = &request.header;
         match place_of_spis(&self.items, header.spii, header.spir) {
-            Some(place) => self.items[place].ike().judge(alloc, request),
+            Some(place) => {
+                let association = &mut self.items[place];
+                Ok(association.synchronise(draft, request))
+            }
             None => unreachable!(),
         }
     }
@@ -170,7 +155,7 @@ impl Slots {
     ) -> Result<Step, Memory>
         requires new { IsNewOfSlot self.old.slots request.now }
         requires room { count service.old < MOST_REQUESTS }
-        ensures takes { IfOk result (TakesOrdinary (peer_listener self.old.slots)
+        ensures takes { IfOk result (TakesArrival (peer_listener self.old.slots)
             (arrival.New request.now) []) }
         ensures after { IfOk result (λ step.
             self.new.slots ≡ map (slot_after task.Receive step) self.old.slots) }
@@ -193,7 +178,7 @@ impl Slots {
     // Ends the request of an association whose response came. An error is want of memory.
     fn take_response(&mut self, alloc: Global, response: &Opened) -> Result<Step, Memory>
         requires { IsAwaitedThere self.old.slots response.now }
-        ensures takes { IfOk result (TakesOrdinary (peer_listener self.old.slots)
+        ensures takes { IfOk result (TakesArrival (peer_listener self.old.slots)
             (arrival.Response response.now) []) }
         ensures after { IfOk result (λ step.
             self.new.slots ≡ map (slot_after task.Receive step) self.old.slots) }

@@ -2,7 +2,7 @@
 use Rattle.std.proofs.Common.{ap, sym, ◌∙◌}
 use Rattle.std.proofs.lemmas.List.{take_more}
 use Rattle.turn_rules.specs.PeerMessages.{has_spis}
-use Rattle.turn_rules.specs.Slots.{Slot, first_slot}
+use Rattle.turn_rules.specs.Slots.{first_slot}
 use Rattle.cluster_peer.proofs.SlotLemmas.{none_more}
 use Rattle.cluster_peer.proofs.messages.place_of_spis.Goals as goal
 

@@ -1,5 +1,5 @@
 -- A request is answered under the next IV.
-use Rattle.std.proofs.Common.{◌≤◌, ℕ, ap, arith, sym, subst, ◌∙◌}
+use Rattle.std.proofs.Common.{◌≤◌, ℕ, Option, ap, arith, sym, subst, ◌∙◌}
 use Rattle.events.specs.declared.verdict.Refusal.{Refusal}
 use Rattle.events.specs.declared.verdict.Verdict.TheVariants as out
 use Rattle.horizons.specs.Reaches.{Reach}
@@ -43,14 +43,13 @@ invariant_of-self g c =
       messages = record {
         keys = ap (λ (x : IkeHeld). x.keys) held ∙ is.messages.keys;
         next = ap (λ (x : IkeHeld). x.next) held ∙ is.messages.next;
-        synced = ap (λ (x : IkeHeld). x.synced) held ∙ is.messages.synced;
       };
       answered_from = omega (arith, c.ready_with_iv.ensures.same.base, is.answered_from, low);
     }
 
 -- what is held where these are the horizons, and this is held of messages
-abbrev holding_of : Record → ℕ → Reach → Reach → Reach → Window → Reach → Reach → IkeHeld → Held
-holding_of sa epoch esp_out esp_in ask window answer iv ike = record {
+abbrev holding_of : Option ℕ → Record → ℕ → Reach → Reach → Reach → Window → Reach → Reach → IkeHeld → Held
+holding_of attempt sa epoch esp_out esp_in ask window answer iv ike = record {
   sa = sa;
   epoch = epoch;
   bases = record { esp_out = esp_out.base; esp_in = esp_in.base; iv = iv.base; ask = ask.base; answer = answer.base };
@@ -60,6 +59,7 @@ holding_of sa epoch esp_out esp_in ask window answer iv ike = record {
   asked = ike.asked;
   answered = ike.answered;
   synced = ike.synced;
+  attempt = attempt;
 }
 
 pub returns-in-Ok-clause-answers : goal.returns-in-Ok-clause-answers
@@ -67,7 +67,7 @@ returns-in-Ok-clause-answers g c =
     let it = c.ready_with_iv.ensures.calls in
     let id = c.args.request.now.header.id in
     let in_it = c.self.inside in
-    let at = holding_of in_it.sa in_it.epoch in_it.esp_out in_it.esp_in in_it.ask in_it.inbound.window in
+    let at = holding_of in_it.attempt in_it.sa in_it.epoch in_it.esp_out in_it.esp_in in_it.ask in_it.inbound.window in
     let old : Held = at in_it.answer in_it.iv in_it.ike in
     let answer_is = horizon-reach in_it.sa in_it.epoch counter.Answer in_it.answer c.self.invariant.horizons.of_answer in
     let iv_is = horizon-reach in_it.sa in_it.epoch counter.Iv in_it.iv c.self.invariant.horizons.of_iv in
@@ -91,7 +91,7 @@ returns-in-Err-clause-answers g c =
     let it = c.ready_with_iv.ensures.calls in
     let id = c.args.request.now.header.id in
     let in_it = c.self.inside in
-    let at = holding_of in_it.sa in_it.epoch in_it.esp_out in_it.esp_in in_it.ask in_it.inbound.window in
+    let at = holding_of in_it.attempt in_it.sa in_it.epoch in_it.esp_out in_it.esp_in in_it.ask in_it.inbound.window in
     let old : Held = at in_it.answer in_it.iv in_it.ike in
     let answer_is = horizon-reach in_it.sa in_it.epoch counter.Answer in_it.answer c.self.invariant.horizons.of_answer in
     let iv_is = horizon-reach in_it.sa in_it.epoch counter.Iv in_it.iv c.self.invariant.horizons.of_iv in

@@ -19,7 +19,7 @@ returns-in-Ok-clause-draws g c =
     record {
       calls = it.calls;
       follows = draws-are c.args.self.now _ it.calls step
-          (number-used h.sa h.epoch h.esp_out h.esp_in h.iv h.ask h.answer h.outbound h.inbound h.ike c.self.invariant c.send_number.new.self it.calls c.send_number.result step
+          (number-used h.sa h.epoch h.esp_out h.esp_in h.iv h.ask h.answer h.outbound h.inbound h.ike h.attempt c.self.invariant c.send_number.new.self it.calls c.send_number.result step
           c.args.self.now c.self.view_is (λ (held : Held). Says (out.Number (five_at held.nexts counter.EspOut)) step) it.follows c.in-Ok.number c.in-Ok.is says);
       asked = it.asked;
       held = it.held;
@@ -34,7 +34,7 @@ returns-in-Err-clause-draws g c =
     record {
       calls = it.calls;
       follows = draws-are c.args.self.now _ it.calls step
-          (number-stopped h.sa h.epoch h.esp_out h.esp_in h.iv h.ask h.answer h.outbound h.inbound h.ike c.self.invariant c.send_number.new.self it.calls c.send_number.result step
+          (number-stopped h.sa h.epoch h.esp_out h.esp_in h.iv h.ask h.answer h.outbound h.inbound h.ike h.attempt c.self.invariant c.send_number.new.self it.calls c.send_number.result step
           c.args.self.now c.self.view_is (λ (held : Held). Says (out.Number (five_at held.nexts counter.EspOut)) step) it.follows c.in-Err.stop c.in-Err.is says);
       asked = it.asked;
       held = it.held;

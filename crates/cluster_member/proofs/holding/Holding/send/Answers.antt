@@ -20,12 +20,12 @@ returns-in-Ok-clause-sends g c =
     let payload = c.args.payload.now in
     let step = c.send.result in
     let by_it : SendsEsp h.outbound h.esp_out.next payload step = subst (λ n. SendsEsp h.outbound n payload step) (ap (λ (n : Drawn). n.value) c.in-Ok.ensures.number) c.send.ensures in
-    let sent : SendsEsp (outbound_of (held_now h.sa h.epoch h.esp_out h.esp_in h.iv h.ask h.answer h.outbound h.inbound h.ike c.self.invariant)) h.esp_out.next payload step =
-    subst (λ (o : Outbound). SendsEsp o h.esp_out.next payload step) (outbound-is h.sa h.epoch h.esp_out h.esp_in h.iv h.ask h.answer h.outbound h.inbound h.ike c.self.invariant) by_it in
+    let sent : SendsEsp (outbound_of (held_now h.sa h.epoch h.esp_out h.esp_in h.iv h.ask h.answer h.outbound h.inbound h.ike h.attempt c.self.invariant)) h.esp_out.next payload step =
+    subst (λ (o : Outbound). SendsEsp o h.esp_out.next payload step) (outbound-is h.sa h.epoch h.esp_out h.esp_in h.iv h.ask h.answer h.outbound h.inbound h.ike h.attempt c.self.invariant) by_it in
     record {
       calls = it.calls;
       follows = sends-are c.args.self.now _ it.calls step payload
-          (number-used h.sa h.epoch h.esp_out h.esp_in h.iv h.ask h.answer h.outbound h.inbound h.ike c.self.invariant c.send_number.new.self it.calls c.send_number.result step
+          (number-used h.sa h.epoch h.esp_out h.esp_in h.iv h.ask h.answer h.outbound h.inbound h.ike h.attempt c.self.invariant c.send_number.new.self it.calls c.send_number.result step
           c.args.self.now c.self.view_is (λ (held : Held). SendsEsp (outbound_of held) (five_at held.nexts counter.EspOut) payload step) it.follows c.in-Ok.number c.in-Ok.is sent);
       asked = it.asked;
       held = it.held;
@@ -41,7 +41,7 @@ returns-in-Err-clause-sends g c =
     record {
       calls = it.calls;
       follows = sends-are c.args.self.now _ it.calls step payload
-          (number-stopped h.sa h.epoch h.esp_out h.esp_in h.iv h.ask h.answer h.outbound h.inbound h.ike c.self.invariant c.send_number.new.self it.calls c.send_number.result step
+          (number-stopped h.sa h.epoch h.esp_out h.esp_in h.iv h.ask h.answer h.outbound h.inbound h.ike h.attempt c.self.invariant c.send_number.new.self it.calls c.send_number.result step
           c.args.self.now c.self.view_is (λ (held : Held). SendsEsp (outbound_of held) (five_at held.nexts counter.EspOut) payload step) it.follows c.in-Err.stop c.in-Err.is says);
       asked = it.asked;
       held = it.held;

@@ -16,7 +16,7 @@ returns-in-Ok-clause-takes g c =
     record {
       calls = it.calls;
       follows = notes-are c.args.self.now _ it.calls (esp.Accepted c.counter.result packet) (Ok packet)
-          (packet-noted h.sa h.epoch h.esp_out h.esp_in h.iv h.ask h.answer h.outbound h.inbound h.ike c.self.invariant packet c.admit.new.self it.calls c.admit.result
+          (packet-noted h.sa h.epoch h.esp_out h.esp_in h.iv h.ask h.answer h.outbound h.inbound h.ike h.attempt c.self.invariant packet c.admit.new.self it.calls c.admit.result
           c.args.self.now c.self.view_is it.follows (esp.Accepted c.counter.result packet) (search rules) said c.note.new.self.window (search rules));
       asked = it.asked;
       held = it.held;
@@ -31,7 +31,7 @@ returns-in-Err-clause-takes g c =
     record {
       calls = it.calls;
       follows = notes-are c.args.self.now _ it.calls (esp.Refused c.of_stop.result) (Ok packet)
-          (packet-stopped h.sa h.epoch h.esp_out h.esp_in h.iv h.ask h.answer h.outbound h.inbound h.ike c.self.invariant packet c.admit.new.self it.calls c.admit.result
+          (packet-stopped h.sa h.epoch h.esp_out h.esp_in h.iv h.ask h.answer h.outbound h.inbound h.ike h.attempt c.self.invariant packet c.admit.new.self it.calls c.admit.result
           c.args.self.now c.self.view_is it.follows (esp.Refused c.of_stop.result) c.in-Err.stop c.in-Err.is said);
       asked = it.asked;
       held = it.held;

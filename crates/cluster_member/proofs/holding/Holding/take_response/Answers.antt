@@ -1,11 +1,8 @@
 -- The response to an outstanding request ends it.
-use Rattle.std.proofs.Common.{rules, ◌≡◌, Some, ap, subst}
-use Rattle.ha_base.specs.declared.counter_names.CounterName.{CounterName}
+use Rattle.std.proofs.Common.{rules}
 use Rattle.keeper_book.specs.declared.counters.Counter.TheVariants as counter
 use Rattle.turn_rules.proofs.Cases.{ok-map2}
 use Rattle.turn_rules.specs.Draws.{counter_name}
-use Rattle.turn_rules.specs.Held.{Held}
-use Rattle.turn_rules.specs.IkeState.{without_replied}
 use Rattle.turn_rules.specs.Messages.{TakesInner}
 use Rattle.cluster_member.proofs.Answers.{taken-advances}
 use Rattle.cluster_member.proofs.holding.Holding.take_response.Goals as goal

@@ -1,5 +1,5 @@
 -- A packet is received at the place of what receives at its SPI.
-use Rattle.std.proofs.Common.{◌≡◌, [], inl, inr, refl, ap, ◌∙◌, subst}
+use Rattle.std.proofs.Common.{◌≡◌, [], inl, inr, refl, ap, subst}
 use Rattle.esp_packets.specs.Packet.{spi_of}
 use Rattle.ha_base.specs.declared.esp_outcomes.EspDrop.TheVariants as drop
 use Rattle.keeper_book.proofs.Asking.{asks_none}

@@ -1,5 +1,5 @@
 -- A payload is sent at the place of the holding.
-use Rattle.std.proofs.Common.{◌≡◌, None, Some, [], refl, ap, sym, ◌∙◌, subst}
+use Rattle.std.proofs.Common.{◌≡◌, None, [], refl, ap, sym, ◌∙◌, subst}
 use Rattle.events.specs.declared.verdict.Refusal.TheVariants as refusal
 use Rattle.keeper_book.proofs.Asking.{asks_none}
 use Rattle.turn_rules.specs.Fits.{SendsOf}

@@ -1,5 +1,5 @@
 -- A response is taken at the place of the holding.
-use Rattle.std.proofs.Common.{◌≡◌, Some, MatchOption, [], refl, ap, sym, ◌∙◌, subst}
+use Rattle.std.proofs.Common.{◌≡◌, Some, MatchOption, [], ap, sym, subst}
 use Rattle.events.specs.declared.turn.Step.{Step}
 use Rattle.keeper_book.specs.declared.counters.Counter.TheVariants as counter
 use Rattle.turn_rules.proofs.Cases.{ok-map}
@@ -37,7 +37,7 @@ returns-clause-takes c =
     let found : held_at c.args.self.now.held spir ≡ Some held = found-here spir c.in-Some.place items held new place c.index_mut-holding.ensures.value c.take_response.ensures.sa c.args.self.now.held old in
     let named : of_spii response.header.spii (held_at c.args.self.now.held spir) ≡ Some held = (found-there (held_at c.args.self.now.held) response.header.spii spir held there.held found there.found).0 in
     ok-map {P = λ (step : Step). TakesInner (counter_name held.sa counter.Ask) response.header.id response.inner step × Advances held task.Receive [] step new} c.take_response.result (λ step ends. (
-      (refl, subst (λ x. MatchOption x ⊥ (λ h. TakesInner (counter_name h.sa counter.Ask) response.header.id response.inner step)) (sym named) ends.0),
+      subst (λ x. MatchOption x ⊥ (λ h. TakesInner (counter_name h.sa counter.Ask) response.header.id response.inner step)) (sym named) ends.0,
       holds-here spir c.in-Some.place items held new place c.index_mut-holding.ensures.value c.take_response.ensures.sa c.args.self.now.held old (λ k. task.Receive) [] step ends.1,
     )) c.take_response.ensures.takes
 

@@ -1,5 +1,5 @@
 -- The member is what its holdings are then.
-use Rattle.std.proofs.Common.{◌≡◌, IfOk, List, ap, subst}
+use Rattle.std.proofs.Common.{◌≡◌, ℕ, IfOk, List, ap, subst}
 use Rattle.events.specs.declared.turn.Step.{Step}
 use Rattle.keeper_book.specs.Asks.{AsksFor}
 use Rattle.turn_rules.proofs.Cases.{ok-map}
@@ -13,9 +13,10 @@ use Rattle.cluster_member.specs.Members.{Holder, HoldsOn}
 pub returns-clause-takes : goal.returns-clause-takes
 returns-clause-takes g c =
     let old : c.self.inside.holdings.held ≡ c.args.self.now.held = ap (λ (v : Holder). v.held) c.self.view_is in
+    let fresh : c.self.inside.fresh ≡ c.args.self.now.fresh = ap (λ (v : Holder). v.fresh) c.self.view_is in
     let new : List Held = c.receive_message.new.self.held in
     ok-map {P = λ (step : Step). AsksFor g.K.Keeper c.args.keeper.now c.receive_message.new.keeper (λ calls.
-    TakesMessage (member_listener (held_at c.args.self.now.held)) c.args.bytes.now calls step × HoldsOn task.Receive calls step c.args.self.now.held new)} c.receive_message.result
+    TakesMessage (member_listener c.args.self.now.fresh (held_at c.args.self.now.held)) c.args.bytes.now calls step × HoldsOn task.Receive calls step c.args.self.now.held new)} c.receive_message.result
     (λ step it. record {
       calls = it.calls;
       follows = (
@@ -30,5 +31,7 @@ returns-clause-takes g c =
       asked = it.asked;
       held = it.held;
     })
+    (subst (λ (octets : List ℕ). IfOk c.receive_message.result (λ (step : Step). AsksFor g.K.Keeper c.args.keeper.now c.receive_message.new.keeper (λ calls.
+    TakesMessage (member_listener octets (held_at c.args.self.now.held)) c.args.bytes.now calls step × HoldsOn task.Receive calls step c.args.self.now.held new))) fresh
     (subst (λ (hs : List Held). IfOk c.receive_message.result (λ (step : Step). AsksFor g.K.Keeper c.args.keeper.now c.receive_message.new.keeper (λ calls.
-    TakesMessage (member_listener (held_at hs)) c.args.bytes.now calls step × HoldsOn task.Receive calls step hs new))) old c.receive_message.ensures.takes)
+    TakesMessage (member_listener c.self.inside.fresh (held_at hs)) c.args.bytes.now calls step × HoldsOn task.Receive calls step hs new))) old c.receive_message.ensures.takes))

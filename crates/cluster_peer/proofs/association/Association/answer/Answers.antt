@@ -7,7 +7,7 @@ use Rattle.keeper_book.specs.declared.counters.Counter.TheVariants as counter
 use Rattle.spend_once.specs.Lot.{Drawn}
 use Rattle.sk_payload.specs.declared.open.Opened.{Opened}
 use Rattle.events.specs.declared.turn.Step.{Step}
-use Rattle.turn_rules.specs.IkeState.{answered_after, kept_under}
+use Rattle.turn_rules.specs.IkeState.{with_taken, kept_under}
 use Rattle.turn_rules.specs.Messages.{AnswersRequest}
 use Rattle.turn_rules.specs.PeerMessages.{SlotAnswers, peer_keys, slot_ike}
 use Rattle.turn_rules.specs.Slots.{Slot, peer_counter, slot_after}
@@ -38,7 +38,7 @@ returns-in-Some-clause-answers g c =
     let ike = c.self.inside.ike in
     let ivs = c.self.inside.ivs in
     let keeps : IsIkeOfRecord sa ivs ike = c.self.invariant.1 in
-    let old : Slot = record { sa = sa; next = c.self.inside.lot.next; window = c.self.inside.inbound.window; iv = ivs.next; ask = ike.next; asked = ike.asked; answered = ike.answered } in
+    let old : Slot = record { sa = sa; next = c.self.inside.lot.next; window = c.self.inside.inbound.window; iv = ivs.next; ask = ike.next; asked = ike.asked; answered = ike.answered; highest = c.self.inside.highest } in
     let numbered : c.in-Some.iv ≡ record { name = ivs.name; value = ivs.next } = c.in-Some.ensures.number in
     let does = answers old c.name_at-name.result ike c.in-Some.iv.value c.args.request.now c.answer.result c.name_at-name.ensures
     (ike-is old ike keeps.keys keeps.synced refl refl refl) (ap (λ (n : Drawn). n.value) numbered) c.answer.ensures.answers in
@@ -52,12 +52,12 @@ returns-in-Some-clause-after g c =
     let ike = c.self.inside.ike in
     let ivs = c.self.inside.ivs in
     let keeps : IsIkeOfRecord sa ivs ike = c.self.invariant.1 in
-    let old : Slot = record { sa = sa; next = c.self.inside.lot.next; window = c.self.inside.inbound.window; iv = ivs.next; ask = ike.next; asked = ike.asked; answered = ike.answered } in
+    let old : Slot = record { sa = sa; next = c.self.inside.lot.next; window = c.self.inside.inbound.window; iv = ivs.next; ask = ike.next; asked = ike.asked; answered = ike.answered; highest = c.self.inside.highest } in
     let numbered : c.in-Some.iv ≡ record { name = ivs.name; value = ivs.next } = c.in-Some.ensures.number in
     let does = answers old c.name_at-name.result ike c.in-Some.iv.value c.args.request.now c.answer.result c.name_at-name.ensures
     (ike-is old ike keeps.keys keeps.synced refl refl refl) (ap (λ (n : Drawn). n.value) numbered) c.answer.ensures.answers in
     let risen : c.draw.new.self ≡ record ivs { next = ivs.next + 1 } = c.in-Some.ensures.rises in
-    let held : c.answer.new.sa ≡ record ike { answered = answered_after (kept_under c.args.request.now.header.id c.answer.result.gives) ike.answered } = c.answer.ensures.held in
-    (λ i. record { sa = sa; next = c.self.inside.lot.next; window = c.self.inside.inbound.window; iv = (risen i).next; ask = (held i).next; asked = (held i).asked; answered = (held i).answered })
+    let held : c.answer.new.sa ≡ record ike { answered = with_taken (kept_under c.args.request.now.header.id c.answer.result.gives) ike.answered } = c.answer.ensures.held in
+    (λ i. record { sa = sa; next = c.self.inside.lot.next; window = c.self.inside.inbound.window; iv = (risen i).next; ask = (held i).next; asked = (held i).asked; answered = (held i).answered; highest = c.higher.ensures i })
     ∙ answered-own old c.args.request.now c.answer.result does
     ∙ ap (slot_after task.Receive c.answer.result) c.self.view_is

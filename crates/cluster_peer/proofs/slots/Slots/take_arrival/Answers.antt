@@ -8,8 +8,5 @@ returns-in-Dropped-clause-after g c = drop-kept _ c.drop_message.result c.args.s
 pub returns-in-Resumption-clause-after : goal.returns-in-Resumption-clause-after
 returns-in-Resumption-clause-after g c = drop-kept _ c.drop_message-in-Resumption.result c.args.self.now.slots c.drop_message-in-Resumption.ensures
 
-pub returns-in-SyncResponse-clause-after : goal.returns-in-SyncResponse-clause-after
-returns-in-SyncResponse-clause-after g c = drop-kept _ c.drop_message-in-SyncResponse.result c.args.self.now.slots c.drop_message-in-SyncResponse.ensures
-
 pub returns-in-Repeat-clause-after : goal.returns-in-Repeat-clause-after
 returns-in-Repeat-clause-after g c = repeat-kept _ _ c.repeat.result c.args.self.now.slots c.repeat.ensures

@@ -1,5 +1,5 @@
 -- A new request is answered by the association at its place.
-use Rattle.std.proofs.Common.{◌≡◌, Option, Some, ap, sym, ◌∙◌, map, subst}
+use Rattle.std.proofs.Common.{◌≡◌, Some, ap, sym, ◌∙◌, map, subst}
 use Rattle.ike_window.specs.Requests.{IsNewRequest}
 use Rattle.ike_window.specs.Windows.{IsAnswered}
 use Rattle.turn_rules.specs.PeerMessages.{has_spis}
