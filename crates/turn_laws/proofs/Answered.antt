@@ -22,7 +22,8 @@ use Rattle.turn_laws.proofs.Unused.{not-among}
 use Rattle.turn_laws.specs.Holdings.{IsNotIn}
 use Rattle.turn_laws.specs.Turns.{answered, answered_in}
 use Rattle.turn_rules.specs.Held.{grant_of, since}
-use Rattle.turn_rules.specs.IkeState.{is_counter_of, kept_under, number_under, response_in, response_to, taken_id, turn_response}
+use Rattle.turn_rules.specs.CountersOf.{is_counter_of, number_under}
+use Rattle.turn_rules.specs.IkeState.{kept_under, response_in, response_to, taken_id, turn_response}
 use Rattle.turn_rules.specs.Peers.{entered_in}
 use Rattle.turn_rules.specs.Safe.{taken_as}
 use Rattle.turn_rules.specs.Slots.{is_entered, since_entered}

@@ -1,5 +1,5 @@
 -- What an end does with an IKE message: it rests, or answers a request that is new to what it holds.
-use Rattle.std.proofs.Common.{◌≡◌, ℕ, Bool, true, false, Option, Some, None, MatchBool, MatchOption, Result, Ok, Err, List, [], ⊎_elim, refl, ap, sym, ◌∙◌, subst}
+use Rattle.std.proofs.Common.{◌≡◌, ℕ, Option, Some, None, MatchOption, Result, Ok, Err, List, [], ⊎_elim, refl, ap, sym, ◌∙◌, subst}
 use Rattle.std.proofs.lemmas.Option.{same_Some}
 use Rattle.std.specs.Option.{option_map}
 use Rattle.events.specs.declared.ike_outcomes.IkeDrop.TheVariants as drop
@@ -27,7 +27,7 @@ use Rattle.keeper_book.specs.declared.calls.Call.{Call}
 use Rattle.sk_payload.specs.declared.open.Opened.{Opened}
 use Rattle.turn_laws.proofs.Deeds.{IsIdle, Rests, says-rests}
 use Rattle.turn_rules.proofs.Cases.{by_bool}
-use Rattle.turn_rules.specs.Messages.{GivesAgain, Listener, TakesArrival, TakesInner, TakesMessage, TakesOrdinary, held_for}
+use Rattle.turn_rules.specs.Messages.{GivesAgain, Listener, TakesArrival, TakesInner, TakesMessage, held_for}
 use Rattle.std.specs.Prelude.{nat_lt, ◌==◌, ◌&&◌}
 
 by_option : {A X Z : Type 0} {Y : A → Type 0} (o : Option A) → (X → Z) → ((a : A) → Y a → Z) → MatchOption o X Y → Z
@@ -129,11 +129,13 @@ module _ (held_under : ℕ → ℕ → Option IkeHeld) (comes : Arrival) where
       (λ good. message-new side octets good.0 good.2)
       is
 
--- What an end does with the octets of an IKE message: it makes no call and rests, or answers a request that is new to what it holds under the request's SPIs.
+-- What an end does with the octets of an IKE message: it makes no call and rests, or answers a request that is new to what it holds under the request's SPIs, or synchronises.
 pub data Taken {X : Type 0} (listener : Listener X) (calls : List Call) (step : Step) : Type 0 where
   Rested_by : calls ≡ [] → Rests step → Taken listener calls step
   Answered_by : (held : X) (request : Opened) → held_for listener request ≡ Some held → IsNewRequest (listener.ike held).answered.low (IsAnswered (listener.ike held).answered) request.header.id
       → listener.Answers held request calls step → Taken listener calls step
+  Synchronised_by : (held : X) (request : Opened) → held_for listener request ≡ Some held → listener.Synchronises held request calls step → Taken listener calls step
+  Sync_taken_by : (held : X) (response : Opened) → held_for listener response ≡ Some held → listener.TakesSync held response calls step → Taken listener calls step
 
 pub again-rests : (verdict : Verdict) (octets : List ℕ) (step : Step) → IsIdle verdict → GivesAgain verdict octets step → Rests step
 again-rests verdict octets step idle again = record { idle = subst (λ v. IsIdle v) (sym again.said) idle; served = again.served; seals = again.seals }
@@ -159,32 +161,22 @@ module _ {X : Type 0} (listener : Listener X) (calls : List Call) (step : Step) 
   found-response response None takes = absurd takes
   found-response response (Some held) takes = inner-rests (listener.asks held) response.header.id response.inner takes
 
-  ordinary-taken : (comes : Arrival) → IfNewHere comes → TakesOrdinary listener comes calls step → Taken listener calls step
-  ordinary-taken (arrival.Dropped why) new takes = Rested_by takes.0 (says-rests step (out.DroppedIke why) tt takes.1)
-  ordinary-taken (arrival.Repeat id datagram) new takes = Rested_by takes.0 (again-rests (out.Repeated id) datagram.octets.octets step tt takes.1)
-  ordinary-taken (arrival.New request) new takes = found-request request (held_for listener request) refl new takes
-  ordinary-taken (arrival.Response response) new takes = Rested_by takes.0 (found-response response (held_for listener response) takes.1)
-  ordinary-taken (arrival.Resumption message) new takes = absurd takes
-  ordinary-taken (arrival.SyncResponse response) new takes = absurd takes
-  ordinary-taken (arrival.Synchronisation request) new takes = absurd takes
+  found-sync : (request : Opened) (x : Option X) → held_for listener request ≡ x → MatchOption x ⊥ (λ held. listener.Synchronises held request calls step) → Taken listener calls step
+  found-sync request None e takes = absurd takes
+  found-sync request (Some held) e takes = Synchronised_by held request e takes
 
-  sync-taken : (request : Opened) (x : Option X) → held_for listener request ≡ x
-      → MatchOption x ⊥ (λ held. (ordinary : Arrival) × IsOrdinaryRequest (listener.ike held) request ordinary × TakesOrdinary listener ordinary calls step) → Taken listener calls step
-  sync-taken request None e takes = absurd takes
-  sync-taken request (Some held) e takes = ordinary-taken takes.0 (go takes.0 (ordinary-new (listener.ike held) request takes.0 takes.1)) takes.2
-    where
-      go : (x : Arrival) → IsNewAt (listener.ike held) request x → IfNewHere x
-      go (arrival.New other) new = subst (λ r. IsNewHere r) (sym new.0) (λ h is. subst (λ g. IsNewRequest (listener.ike g).answered.low (IsAnswered (listener.ike g).answered) request.header.id) (same_Some held h (sym e ∙ is)) new.1)
-      go x new = tt
+  found-answer : (response : Opened) (x : Option X) → held_for listener response ≡ x → MatchOption x ⊥ (λ held. listener.TakesSync held response calls step) → Taken listener calls step
+  found-answer response None e takes = absurd takes
+  found-answer response (Some held) e takes = Sync_taken_by held response e takes
 
   arrival-taken : (comes : Arrival) → IfNewHere comes → TakesArrival listener comes calls step → Taken listener calls step
+  arrival-taken (arrival.Dropped why) new takes = Rested_by takes.0 (says-rests step (out.DroppedIke why) tt takes.1)
   arrival-taken (arrival.Resumption message) new takes = Rested_by takes.0 (says-rests step (out.DroppedIke (drop.Exchange IKE_SESSION_RESUME)) tt takes.1)
-  arrival-taken (arrival.SyncResponse response) new takes = Rested_by takes.0 (says-rests step (out.DroppedIke drop.NotAsked) tt takes.1)
-  arrival-taken (arrival.Synchronisation request) new takes = sync-taken request (held_for listener request) refl takes
-  arrival-taken (arrival.Dropped why) new takes = ordinary-taken (arrival.Dropped why) new takes
-  arrival-taken (arrival.Repeat id datagram) new takes = ordinary-taken (arrival.Repeat id datagram) new takes
-  arrival-taken (arrival.New request) new takes = ordinary-taken (arrival.New request) new takes
-  arrival-taken (arrival.Response response) new takes = ordinary-taken (arrival.Response response) new takes
+  arrival-taken (arrival.Repeat id datagram) new takes = Rested_by takes.0 (again-rests (out.Repeated id) datagram.octets.octets step tt takes.1)
+  arrival-taken (arrival.New request) new takes = found-request request (held_for listener request) refl new takes
+  arrival-taken (arrival.Response response) new takes = Rested_by takes.0 (found-response response (held_for listener response) takes.1)
+  arrival-taken (arrival.Synchronisation request) new takes = found-sync request (held_for listener request) refl takes
+  arrival-taken (arrival.SyncResponse response) new takes = found-answer response (held_for listener response) refl takes
 
   pub message-taken : (octets : List ℕ) → TakesMessage listener octets calls step → Taken listener calls step
   message-taken octets takes = arrival-taken takes.comes

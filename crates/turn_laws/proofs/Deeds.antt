@@ -98,11 +98,11 @@ none-answering step served taken = record {
   gives = λ some. let no : is_some {T = Request} None ≡ true = subst (λ o. is_some o ≡ true) taken some in absurd (cc);
 }
 
--- the numbers that a member may use of what it holds: the next one that it sends, those that it did not receive, and those of new requests
+-- the numbers that a member may use of what it holds: those from the next one that it sends on, those that it did not receive, and those of new requests
 abbrev pub IsOpen : Held → Counter → ℕ → Type 0
 IsOpen held counter.EspIn n = judged held.window n ≡ Fresh
 IsOpen held counter.Answer n = IsNewRequest held.answered.low (IsAnswered held.answered) n
-IsOpen held c n = n ≡ five_at held.nexts c
+IsOpen held c n = five_at held.nexts c ≤ n
 
 -- and those that the peer may use
 abbrev pub IsOpenTo : Slot → Counter → ℕ → Type 0

@@ -1,5 +1,5 @@
 -- Each draw that is explained is a deed.
-use Rattle.std.proofs.Common.{◌≡◌, ℕ, ◌==◌, false, Some, List, [], refl, ap, sym, ◌∙◌, subst}
+use Rattle.std.proofs.Common.{◌≡◌, ℕ, ◌==◌, false, Some, List, [], refl, ap, sym, ◌∙◌, subst, arith}
 use Rattle.events.specs.declared.event.Event.TheVariants as event
 use Rattle.events.specs.declared.turn.Step.{Step}
 use Rattle.events.specs.declared.turn.Turn.{Turn}
@@ -80,7 +80,7 @@ module _ (past : List Turn) (step : Step) (member spir : ℕ) (held : Held) (own
     number = next;
     by_it = member-performs (event.Draw member spir) step.verdict member refl draw-not_run;
     is_held = subst (λ n. held_by (window_by past) (own (Member member) past) n ≡ Some held) (sym own_spir) is_held;
-    is_open = refl;
+    is_open = omega arith;
     ready = ready-as (reach_of held counter.EspOut) next Stopped (λ why rest. (rest ≡ []) × Rests step) Drew (λ high rest. (rest ≡ []) × UsesOne held.sa.spir counter.EspOut next (event.Draw member spir) step)
         (λ why rest c. (c.no_more, quiet-rests step (subst (λ v. IsIdle v) (sym c.said) tt) quietly.quiet))
         (λ high rest c. (c.no_more, subst (λ n. UsesOne n counter.EspOut next (event.Draw member spir) step) (sym own_spir) (draw-uses c.said)))

@@ -15,16 +15,17 @@ use Rattle.keeper_book.specs.declared.calls.Call.{Call}
 use Rattle.keeper_book.specs.declared.records.Record.{Record}
 use Rattle.turn_laws.proofs.Asking.{enters-deed, refused-deed, takes_over-deed, yields-deed}
 use Rattle.turn_laws.proofs.Deeds.{Deed, Ended, Rested, says-rests}
-use Rattle.turn_laws.proofs.MemberRequests.{asks-deed, member_message-deed, resends-deed}
+use Rattle.turn_laws.proofs.MemberRequests.{asks-deed, member_message-deed, resends-deed, syncs-deed}
 use Rattle.turn_laws.proofs.PeerRequests.{peer_asks-deed, peer_message-deed, peer_resends-deed}
 use Rattle.turn_rules.specs.Deliveries.{MemberGets, PeerGets}
-use Rattle.turn_rules.specs.MemberMessages.{AsksOf}
+use Rattle.turn_rules.specs.MemberMessages.{AsksOf, SyncsOf}
 use Rattle.events.specs.declared.turn.Medium.{Medium}
 use Rattle.events.specs.declared.turn.Medium.TheVariants as medium
 use Rattle.turn_laws.proofs.Drawing.{draws-deed}
 use Rattle.turn_laws.proofs.Members.{own-held}
 use Rattle.turn_laws.proofs.Receiving.{Brings, member_takes-deed, peer_takes-deed}
 use Rattle.turn_laws.proofs.Sending.{peer_sends-deed, sends-deed}
+use Rattle.turn_rules.specs.Configurations.{fresh_octets}
 use Rattle.turn_rules.specs.Datagrams.{PlainDatagram, arrives}
 use Rattle.turn_rules.specs.Draws.{EntersRecord}
 use Rattle.turn_rules.specs.Ends.{Member, own}
@@ -67,8 +68,11 @@ module _ (boxes : ℕ) (past : List Turn) (own_spir : (member spir : ℕ) (held 
       peer_gets medium.Esp takes = peer_takes-deed past event brings datagram.octets calls step takes
   received event (parties.Member member) brings (Ok datagram) gets = member_gets datagram.medium gets
     where
-      member_gets : (m : Medium) → MemberGets m (state.members member).held datagram.octets calls step → Deed past event calls step
-      member_gets medium.Ike takes = member_message-deed boxes past own_spir event calls step member brings datagram.octets takes
+      fresh : List ℕ
+      fresh = fresh_octets (state.members member).given
+
+      member_gets : (m : Medium) → MemberGets m fresh (state.members member).held datagram.octets calls step → Deed past event calls step
+      member_gets medium.Ike takes = member_message-deed boxes past own_spir event calls step member brings fresh datagram.octets takes
       member_gets medium.Esp takes =
           member_takes-deed boxes past own_spir event calls step takes.quiet takes.answer takes.after takes.worded member brings datagram.octets takes.receives
 
@@ -78,6 +82,13 @@ module _ (boxes : ℕ) (past : List Turn) (own_spir : (member spir : ℕ) (held 
       let is_held : held_by (window_by past) (own (Member member) past) spir ≡ Some held = own-held boxes past member spir held e in
       let same : held.sa.spir ≡ spir = own_spir member spir held is_held in
       asks-deed past step member spir request held same (subst (λ k. held_by (window_by past) (own (Member member) past) k ≡ Some held) (sym same) is_held) calls asks
+
+  synced : (member spir : ℕ) (x : Option Held) → (state.members member).held spir ≡ x → SyncsOf (fresh_octets (state.members member).given) x calls step → Deed past (event.Sync member spir) calls step
+  synced member spir None e r = Rested r.0 (says-rests step (out.Refused refusal.NotOwner) tt r.1) refl
+  synced member spir (Some held) e does =
+      let is_held : held_by (window_by past) (own (Member member) past) spir ≡ Some held = own-held boxes past member spir held e in
+      let same : held.sa.spir ≡ spir = own_spir member spir held is_held in
+      syncs-deed past step member spir (fresh_octets (state.members member).given) held (subst (λ k. held_by (window_by past) (own (Member member) past) k ≡ Some held) (sym same) is_held) calls does
 
   -- the run does not refuse an import of these SPIs
   importable : (sa : Record) → run_refusal state (event.Import sa) ≡ None → is_importable sa ≡ true
@@ -100,6 +111,7 @@ module _ (boxes : ℕ) (past : List Turn) (own_spir : (member spir : ℕ) (held 
   performed (event.Ask (parties.Member member) spir request) none asks = asked member spir request ((state.members member).held spir) refl asks
   performed (event.Again parties.Peer spir id) none r = peer_resends-deed past step spir id calls r.0 r.1
   performed (event.Again (parties.Member member) spir id) none r = resends-deed past step member spir id ((state.members member).held spir) calls r
+  performed (event.Sync member spir) none does = synced member spir ((state.members member).held spir) refl does
   performed (event.Deliver which to) none r = received (event.Deliver which to) to (record { performs = λ verdict. refl; receives = λ spir verdict. refl; answers = λ spir verdict. refl; member_receives = refl; peer_receives = refl; no_entry = λ verdict. refl }) (arrives state.datagrams (event.Deliver which to)) r
   performed (event.Alter which to place octet) none r = received (event.Alter which to place octet) to (record { performs = λ verdict. refl; receives = λ spir verdict. refl; answers = λ spir verdict. refl; member_receives = refl; peer_receives = refl; no_entry = λ verdict. refl }) (arrives state.datagrams (event.Alter which to place octet)) r
   performed (event.Cut which to keep) none r = received (event.Cut which to keep) to (record { performs = λ verdict. refl; receives = λ spir verdict. refl; answers = λ spir verdict. refl; member_receives = refl; peer_receives = refl; no_entry = λ verdict. refl }) (arrives state.datagrams (event.Cut which to keep)) r

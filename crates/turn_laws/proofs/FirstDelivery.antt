@@ -34,7 +34,7 @@ use Rattle.turn_rules.proofs.SlotTies.{DoesTold, first-passes}
 use Rattle.turn_rules.proofs.StateLaws.{does-told}
 use Rattle.turn_rules.specs.Datagrams.{Delivery, delivery_of}
 use Rattle.turn_rules.specs.Ends.{Member, Peer, is_by, own, performer, performer_at}
-use Rattle.turn_rules.specs.IkeState.{is_of_spir}
+use Rattle.turn_rules.specs.CountersOf.{is_of_spir}
 use Rattle.turn_rules.specs.Held.{Held, accepted, found, grant_of, held_by, holding, received, received_in, received_of, since, window_by}
 use Rattle.turn_rules.specs.Local.{Explained}
 use Rattle.turn_rules.specs.Safe.{Packet, accepted_as, accepted_in}

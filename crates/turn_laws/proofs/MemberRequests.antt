@@ -1,5 +1,5 @@
 -- Each request that a member asks or answers is a deed.
-use Rattle.std.proofs.Common.{◌≡◌, ◌≢◌, ℕ, ◌==◌, ◌&&◌, Bool, true, false, Option, Some, None, MatchBool, MatchOption, List, [], ◌∷◌, ⊎_elim, refl, ap, sym, ◌∙◌, subst, if◌then◌else◌}
+use Rattle.std.proofs.Common.{◌≡◌, ◌≢◌, ℕ, ◌==◌, ◌&&◌, Bool, true, false, Option, Some, None, MatchBool, MatchOption, List, [], ◌∷◌, ⊎_elim, refl, ap, sym, ◌∙◌, subst, arith, if◌then◌else◌, Result, Ok, Err}
 use Rattle.events.specs.declared.event.Event.{Event}
 use Rattle.events.specs.declared.event.Event.TheVariants as event
 use Rattle.events.specs.declared.event.Party.TheVariants as parties
@@ -20,26 +20,26 @@ use Rattle.keeper_book.specs.declared.calls.Call.{Call}
 use Rattle.keeper_book.specs.declared.counters.Counter.{Counter}
 use Rattle.keeper_book.specs.declared.counters.Counter.TheVariants as counter
 use Rattle.sk_payload.specs.declared.open.Opened.{Opened}
-use Rattle.turn_laws.proofs.Arrivals.{Answered_by, Rested_by, Taken, again-rests, message-taken}
+use Rattle.turn_laws.proofs.Arrivals.{Answered_by, Rested_by, Sync_taken_by, Synchronised_by, Taken, again-rests, message-taken}
 use Rattle.turn_laws.proofs.Covers.{ready-as, ready-calls}
-use Rattle.turn_laws.proofs.Deeds.{AreReady, Deed, IsOpen, Last, Need, Rested, Rests, Used, UsesIt, says-rests}
+use Rattle.turn_laws.proofs.Deeds.{AreReady, Deed, IsOpen, Last, Need, Rested, Rests, Used, UsesIt, UsesOne, says-rests}
 use Rattle.turn_laws.proofs.Members.{member-performs, own-held}
-use Rattle.turn_laws.proofs.Names.{place-ours}
-use Rattle.turn_laws.proofs.Pairs.{Answering, UsesPair, answering-pair, asking-pair, pair-first, pair-it, pair-none, pair-second, request-answering, sealed-here, sends-seals}
+use Rattle.turn_laws.proofs.Names.{number-failed, number-passed, place-ours}
+use Rattle.turn_laws.proofs.Pairs.{Answering, SealsIke, UsesPair, answering-pair, asking-pair, pair-first, pair-it, pair-none, pair-second, request-answering, sealed-here, sealed-spends, sends-seals}
 use Rattle.turn_laws.proofs.Receiving.{Brings}
 use Rattle.turn_laws.proofs.Uses.{number_at, spent_of}
 use Rattle.turn_laws.specs.Listed.{request_at}
 use Rattle.turn_laws.specs.Places.{Ours}
-use Rattle.turn_laws.proofs.Single.{untaken-answered}
-use Rattle.turn_rules.specs.Safe.{taken_as}
-use Rattle.turn_laws.specs.Turns.{answered, number_taken}
+use Rattle.turn_laws.proofs.Single.{second-uses, untaken-answered}
+use Rattle.turn_rules.specs.Safe.{accepted_as, taken_as}
+use Rattle.turn_laws.specs.Turns.{answered, number_taken, uses_of}
 use Rattle.turn_rules.proofs.Refusals.{stop-own}
 use Rattle.turn_rules.proofs.Ties.{said-receiving}
 use Rattle.turn_rules.specs.Draws.{counter_name, reach_of, refusal_of_stop}
 use Rattle.turn_rules.specs.Ends.{Member, is_refused_by_run, own, performer_of}
 use Rattle.turn_rules.specs.Held.{Held, first_some, held_by, said_in, window_by}
-use Rattle.turn_rules.specs.IkeState.{is_of_spir}
-use Rattle.turn_rules.specs.MemberMessages.{HeldAnswers, HeldAsks, HeldSendsRequest, ReadiesWithIv, RefusesThen, ResendsOf, held_ike, member_listener, of_spii}
+use Rattle.turn_rules.specs.CountersOf.{is_of_spir}
+use Rattle.turn_rules.specs.MemberMessages.{HeldAnswers, HeldAsks, HeldSendsRequest, HeldSyncs, HeldTakesSync, ReadiesWithIv, RefusesThen, ResendsOf, SendsSync, TakesSyncAnswer, TakesSyncOf, awaits_sync, cluster_keys, held_ike, member_listener, of_spii, sync_id, sync_ids}
 use Rattle.turn_rules.specs.Messages.{GivesAgain, SendsRequest, TakesMessage, Windowed}
 use Rattle.turn_rules.specs.Peers.{record_entered}
 use Rattle.turn_rules.specs.States.{told_state}
@@ -47,6 +47,11 @@ use Rattle.turn_rules.specs.Steps.{Says}
 use Rattle.turn_rules.specs.Tasks as task
 use Rattle.turn_rules.specs.Tasks.{member_task}
 use Rattle.ike_sas.specs.Held.{request_header}
+use Rattle.ike_sas.specs.declared.synchronising.TheConstants.{SYNC_DELTA}
+use Rattle.sync_exchange.specs.Laws.{request_with}
+use Rattle.sync_exchange.specs.declared.sync_drop.SyncDrop.{SyncDrop}
+use Rattle.sync_exchange.specs.declared.sync_drop.SyncDrop.TheVariants as why
+use Rattle.events.specs.declared.ike_outcomes.IkeDrop.TheVariants as drop
 use Rattle.ike_sas.specs.Answers.{request_payloads}
 
 -- A member uses a number of what it holds and its next IV, once both are ready.
@@ -71,19 +76,19 @@ module _ (past : List Turn) (event : Event) (step : Step) (member : ℕ) (held :
   Goes rest = Last rest (UsesIt (spent_of (Ours held.sa.spir c) n ∷ spent_of (Ours held.sa.spir counter.Iv) iv ∷ []) event step)
 
   abbrev iv_need : List (Need past member)
-  iv_need = record { held = held; c = counter.Iv; number = iv; is_held = is_held; is_open = refl } ∷ []
+  iv_need = record { held = held; c = counter.Iv; number = iv; is_held = is_held; is_open = omega arith } ∷ []
 
   abbrev needs : List (Need past member)
   needs = record { held = held; c = c; number = n; is_held = is_held; is_open = is_open } ∷ iv_need
 
-  pair-not_run : (done → IsPair) → (calls : List Call) → ReadiesWithIv held c n calls step done → is_refused_by_run step.verdict ≡ false
-  pair-not_run pair calls ready = ready-calls (λ calls. is_refused_by_run step.verdict ≡ false) (reach_of held c) n Stopped Sealing
+  pair-not_run : (done → is_refused_by_run step.verdict ≡ false) → (calls : List Call) → ReadiesWithIv held c n calls step done → is_refused_by_run step.verdict ≡ false
+  pair-not_run goes calls ready = ready-calls (λ calls. is_refused_by_run step.verdict ≡ false) (reach_of held c) n Stopped Sealing
       (λ call rest asked is. is)
       (λ why rest s. let said : _ = s.1.said in rw said (stop-own why))
       (λ high rest more. ready-calls (λ calls. is_refused_by_run step.verdict ≡ false) (reach_of held counter.Iv) iv Stopped Done
       (λ call rest asked is. is)
       (λ why rest s. let said : _ = s.1.said in rw said (stop-own why))
-      (λ high rest d. (pair d.1).not_run)
+      (λ high rest d. goes d.1)
       rest more)
       calls ready
 
@@ -95,12 +100,31 @@ module _ (past : List Turn) (event : Event) (step : Step) (member : ℕ) (held :
     member = member;
     needs = needs;
     lot = None;
-    by_it = member-performs event step.verdict member performs (pair-not_run pair calls ready);
+    by_it = member-performs event step.verdict member performs (pair-not_run (λ d. (pair d).not_run) calls ready);
     ready = ready-as (reach_of held c) n Stopped (λ why rest. Last rest (Rests step)) Sealing (λ high rest. AreReady iv_need rest (Rests step) Goes)
         rests
         (λ high rest more. ready-as (reach_of held counter.Iv) iv Stopped (λ why rest. Last rest (Rests step)) Done (λ high rest. Goes rest)
         rests
         (λ high rest d. record { ended = d.0; is = pair-it held.sa.spir c n iv event step apart (pair d.1) (told d.1) (answers d.1) })
+        rest more)
+        calls ready;
+  })
+    where
+      rests : (why : Stop) (rest : List Call) → Stopped why rest → Last rest (Rests step)
+      rests why rest s = record { ended = s.0; is = says-rests step (out.Refused (refusal_of_stop why)) tt s.1 }
+
+  -- the IV alone is used, though a number was ready before it
+  pub second-used : (done → is_refused_by_run step.verdict ≡ false) → (done → UsesOne held.sa.spir counter.Iv iv event step) → (calls : List Call) → ReadiesWithIv held c n calls step done → Deed past event calls step
+  second-used goes uses calls ready = Used (record {
+    member = member;
+    needs = needs;
+    lot = None;
+    by_it = member-performs event step.verdict member performs (pair-not_run goes calls ready);
+    ready = ready-as (reach_of held c) n Stopped (λ why rest. Last rest (Rests step)) Sealing (λ high rest. AreReady iv_need rest (Rests step) Goes)
+        rests
+        (λ high rest more. ready-as (reach_of held counter.Iv) iv Stopped (λ why rest. Last rest (Rests step)) Done (λ high rest. Goes rest)
+        rests
+        (λ high rest d. record { ended = d.0; is = second-uses held.sa.spir c iv n event step (uses d.1) })
         rest more)
         calls ready;
   })
@@ -143,7 +167,7 @@ module _ (past : List Turn) (step : Step) (member spir : ℕ) (request : WithRoo
   asks-deed calls asks = by_synced held.synced asks
     where
       sends : HeldSendsRequest held request.octets calls step → Deed past asked calls step
-      sends ready = pair-used past asked step member held is_held refl counter.Ask id refl Sent (λ same. absurd (cc))
+      sends ready = pair-used past asked step member held is_held refl counter.Ask id (omega arith) Sent (λ same. absurd (cc))
           (λ s. asking-pair asked step (held_ike held) (Ours held.sa.spir counter.Ask) (Ours held.sa.spir counter.Iv) id its_iv request.octets (place-ours held.sa counter.Ask) (place-ours held.sa counter.Iv) s)
           asked-told
           (λ s other. untaken-answered other asked step.verdict (ap taken_as s.said) ∙ sym (ap (λ v. request_at (Ours other counter.Answer) (taken_as v)) s.said))
@@ -156,6 +180,56 @@ module _ (past : List Turn) (step : Step) (member spir : ℕ) (request : WithRoo
           → Deed past asked calls step
       by_synced true w = windowed w
       by_synced false r = refused-then past asked calls step refusal.NotSynced refl r
+
+-- a member asks to synchronise, by what it holds
+module _ (past : List Turn) (step : Step) (member spir : ℕ) (fresh : List ℕ) (held : Held) (is_held : held_by (window_by past) (own (Member member) past) held.sa.spir ≡ Some held) where
+  abbrev syncs : Event
+  syncs = event.Sync member spir
+
+  abbrev its_next : ℕ
+  its_next = five_at held.nexts counter.Iv
+
+  abbrev Syncs : Type 0
+  Syncs = SendsSync fresh held its_next step
+
+  sync-seals : Syncs → SealsIke (counter_name held.sa counter.Iv) its_next step
+  sync-seals s = sends-seals (held_ike held) its_next (request_header (cluster_keys held.sa) 0) (request_with (sync_ids fresh held) SYNC_DELTA) step s.sends
+
+  syncs-told : Syncs → (other : ℕ) (d : Counter) → number_taken other d syncs step ≡ number_at (Ours other d) (Ours held.sa.spir counter.Iv) its_next
+  syncs-told s other counter.EspOut = number-failed (held.sa.spir == other) its_next
+  syncs-told s other counter.EspIn = number-failed (held.sa.spir == other) its_next
+  syncs-told s other counter.Iv = sealed-here held.sa end.Cluster (counter_name held.sa counter.Iv) its_next step refl refl refl (sync-seals s) other ∙ number-passed (held.sa.spir == other) its_next
+  syncs-told s other counter.Ask = number-failed (held.sa.spir == other) its_next
+  syncs-told s other counter.Answer = number-failed (held.sa.spir == other) its_next
+
+  syncs-one : Syncs → UsesOne held.sa.spir counter.Iv its_next syncs step
+  syncs-one s = record {
+    spends = sealed-spends syncs step (counter_name held.sa counter.Iv) (Ours held.sa.spir counter.Iv) its_next (sync-seals s) (place-ours held.sa counter.Iv) s.served (ap taken_as s.said) (ap accepted_as s.said)
+        (ap (λ v. uses_of syncs v step.seals) s.said);
+    told = syncs-told s;
+  }
+
+  pub syncs-deed : (calls : List Call) → HeldSyncs fresh held calls step → Deed past syncs calls step
+  syncs-deed calls does = by_synced held.synced does
+    where
+      by_synced : (b : Bool) → MatchBool b (RefusesThen refusal.NoSync calls step) (ReadiesWithIv held counter.Ask (sync_id held) calls step Syncs) → Deed past syncs calls step
+      by_synced true r = refused-then past syncs calls step refusal.NoSync refl r
+      by_synced false ready = second-used past syncs step member held is_held refl counter.Ask (sync_id held) (omega arith) Syncs (λ s. ap is_refused_by_run s.said) syncs-one calls ready
+
+-- what a member does with a response to a synchronisation uses no number
+sync-taken-rests : (fresh : List ℕ) (held : Held) (response : Opened) (calls : List Call) (step : Step) → HeldTakesSync fresh held response calls step → (calls ≡ []) × Rests step
+sync-taken-rests fresh held response calls step takes = (takes.0, go (awaits_sync held) takes.1)
+  where
+    answered-rests : (answer : Result (ℕ × ℕ) SyncDrop) → TakesSyncAnswer held answer step → Rests step
+    answered-rests (Ok ids) says = says-rests step (out.Synced (counter_name held.sa counter.Answer) ids.0 ids.1) tt says
+    answered-rests (Err why.Nonce) says = says-rests step (out.DroppedIke drop.Nonce) tt says
+    answered-rests (Err why.NotSync) says = absurd says
+    answered-rests (Err (why.NotAbove highest)) says = absurd says
+    answered-rests (Err why.Delta) says = absurd says
+
+    go : (o : Option ℕ) → MatchOption o (Says (out.DroppedIke drop.NotAsked) step) (λ m1. TakesSyncOf fresh held m1 response step) → Rests step
+    go None says = says-rests step (out.DroppedIke drop.NotAsked) tt says
+    go (Some m1) takes = answered-rests takes.answer takes.takes
 
 -- and asks again
 pub resends-deed : (past : List Turn) (step : Step) (member spir id : ℕ) (x : Option Held) (calls : List Call) → ResendsOf x id calls step → Deed past (event.Again (parties.Member member) spir id) calls step
@@ -215,10 +289,14 @@ module _ (boxes : ℕ) (past : List Turn) (own_spir : (member spir : ℕ) (held 
       by_test true is = is
       by_test false is = absurd (cc)
 
-  pub member_message-deed : (octets : List ℕ) → TakesMessage (member_listener ((told_state boxes past).members member).held) octets calls step → Deed past event calls step
-  member_message-deed octets takes = go (message-taken (member_listener ((told_state boxes past).members member).held) calls step octets takes)
+  pub member_message-deed : (fresh octets : List ℕ) → TakesMessage (member_listener fresh ((told_state boxes past).members member).held) octets calls step → Deed past event calls step
+  member_message-deed fresh octets takes = go (message-taken (member_listener fresh ((told_state boxes past).members member).held) calls step octets takes)
     where
-      go : Taken (member_listener ((told_state boxes past).members member).held) calls step → Deed past event calls step
+      go : Taken (member_listener fresh ((told_state boxes past).members member).held) calls step → Deed past event calls step
+      go (Synchronised_by held request found does) = absurd does
+      go (Sync_taken_by held response found takes) =
+          let rests = sync-taken-rests fresh held response calls step takes in
+          Rested rests.0 rests.1 (brings.no_entry step.verdict)
       go (Rested_by none rests) = Rested none rests (brings.no_entry step.verdict)
       go (Answered_by held request found new answers) =
           let spir : ℕ = request.header.spir in

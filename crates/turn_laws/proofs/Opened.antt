@@ -1,5 +1,5 @@
 -- The peer may use the numbers that are open to it: the next one that it sends, and those that its window takes.
-use Rattle.std.proofs.Common.{◌≡◌, ◌≢◌, ℕ, ◌+◌, ◌<◌, ◌≤◌, ◌==◌, ◌&&◌, Bool, true, false, Option, Some, None, List, [], ◌∷◌, ◌++◌, map, option_to_list, append-nil, refl, ap, sym, ◌∙◌, subst, if◌then◌else◌, ⊎_elim}
+use Rattle.std.proofs.Common.{◌≡◌, ◌≢◌, ℕ, ◌+◌, ◌<◌, ◌≤◌, ◌==◌, ◌&&◌, Bool, true, false, Option, Some, None, List, [], ◌∷◌, ◌++◌, map, option_to_list, append-nil, refl, ap, sym, ◌∙◌, subst, if◌then◌else◌, ⊎_elim, arith}
 use Rattle.std.specs.Prelude.{is_some, reverse}
 use Rattle.std.proofs.lemmas.Bool.{eq-eqb, eqb-false, eqb-true, ne_eqb}
 use Rattle.std.proofs.lemmas.Option.{same_Some}
@@ -17,7 +17,7 @@ use Rattle.replay_set.specs.declared.judgement.Judgement.TheVariants as judgemen
 use Rattle.ike_window.specs.Requests.{IsNewRequest}
 use Rattle.ike_window.specs.Windows.{IsAnswered, ResponseWindow}
 use Rattle.turn_laws.proofs.Answered.{answered-peer, ids-answered, new-unused, since_entered-all}
-use Rattle.turn_rules.specs.IkeState.{turn_response}
+use Rattle.turn_rules.specs.IkeState.{turn_agreed, turn_response}
 use Rattle.turn_rules.specs.Tasks.{peer_task}
 use Rattle.turn_laws.proofs.Moved.{rest-listed}
 use Rattle.turn_laws.proofs.Deeds.{Asked, Deed, Ended, IsAnswering, IsOpenTo, PeerUses, Rested, Rests, Used, Used_theirs, number_theirs_of, rest_of, PeerNeed, spent_theirs, IsOfOne, spent_by_spir}
@@ -30,7 +30,10 @@ use Rattle.turn_laws.proofs.Begun.{begun-spir}
 use Rattle.turn_laws.proofs.Same.{is_name-true, is_origin-same}
 use Rattle.turn_laws.proofs.Theirs.{no-packet, not-both, told_theirs-held}
 use Rattle.turn_laws.proofs.Told.{is_end-true}
+use Rattle.turn_laws.proofs.Runs.{greatest-least}
+use Rattle.turn_laws.proofs.Tells.{floor-base}
 use Rattle.turn_laws.proofs.Unused.{fresh-unused, next-unused}
+use Rattle.turn_rules.specs.Synchronised.{Agreed, after_rise}
 use Rattle.turn_laws.proofs.Uses.{number_at, uses-moved, spent_at}
 use Rattle.turn_laws.proofs.Well.{PeerMayUse}
 use Rattle.turn_laws.specs.Acts.{HoldsFor, begun_by, begun_theirs, holding_at}
@@ -44,11 +47,11 @@ use Rattle.turn_rules.proofs.SlotTies.{all-weaker, first-has, records-slots_by}
 use Rattle.turn_rules.proofs.StateLaws.{associations-apart}
 use Rattle.turn_rules.specs.Draws.{child_of, counter_kind}
 use Rattle.turn_rules.specs.Ends.{Peer, is_by, own, performer}
-use Rattle.turn_rules.specs.Held.{first_some, found, greatest, is_counter, received_of, window_by}
+use Rattle.turn_rules.specs.Held.{after_number, first_some, floor_of, found, greatest, is_counter, received_of, window_by}
 use Rattle.turn_rules.specs.Local.{Explained}
 use Rattle.turn_rules.specs.Peers.{AreDistinct, Differ, associations_by, entered_in}
 use Rattle.turn_rules.specs.Safe.{Packet, accepted_in}
-use Rattle.turn_rules.specs.Slots.{Slot, first_slot, is_entered, peer_counter, since_entered, slot_by, slots_by}
+use Rattle.turn_rules.specs.Slots.{Slot, first_slot, is_entered, left_of, next_sent, peer_counter, sent_of, since_entered, slot_by, slots_by}
 
 -- a packet that the peer received in an association is of its counter
 abbrev pub IsNamed : Record → Turn → Type 0
@@ -264,6 +267,18 @@ all-told boxes (turn ∷ past) local c = by_test (all-told boxes past local.1 c)
         (subst (λ b. AreDistinct (associations_by (if b then turn ∷ mine else mine))) t apart))
     by_test before false t apart = subst (λ b. AllByRecursion (IsTold (if b then turn ∷ mine else mine) c) (associations_by (if b then turn ∷ mine else mine))) (sym t) before
 
+-- each number that the peer sent lies below the one that it sends next
+sent-within : (spir start : ℕ) (turns : List Turn) → greatest start (map (λ k. k + 1) (filter_map (sent_of spir) turns)) ≤ next_sent spir start turns
+sent-within spir start [] = omega arith
+sent-within spir start (turn ∷ turns) = go (turn_agreed peer_task spir turn) (sent_of spir turn) (sent-within spir start turns)
+  where
+    go : (agreed : Option Agreed) (sent : Option ℕ) → greatest start (map (λ k. k + 1) (filter_map (sent_of spir) turns)) ≤ next_sent spir start turns
+        → greatest start (map (λ k. k + 1) (cons_option sent (filter_map (sent_of spir) turns))) ≤ after_rise agreed (after_number sent (next_sent spir start turns))
+    go None None below = below
+    go None (Some n) below = omega (arith, below)
+    go (Some agreed) None below = omega (arith, below)
+    go (Some agreed) (Some n) below = omega (arith, below)
+
 slot-among : (size : ℕ) (past : List Turn) (test : Slot → Bool) (slot : Slot) (associations : List Record) → first_slot test (map (slot_by size past) associations) ≡ Some slot → slot ≡ slot_by size past slot.sa
 slot-among size past test slot [] is = absurd (cc)
 slot-among size past test slot (sa ∷ more) is = by_test (slot-among size past test slot more) (test (slot_by size past sa)) refl
@@ -314,25 +329,40 @@ module _ (boxes : ℕ) (past : List Turn) (local : Explained boxes past) (test :
   told_slot = slot-told (window_by past) (own Peer past) test slot is
 
   -- the peer may use the next number of a counter by which it sends
-  may-use-next : (c : Counter) (next n : ℕ) → next ≡ greatest (start_of slot.sa c) (map (λ k. k + 1) (numbers c)) → (n ≡ next) × (n < end_of slot.sa c) → MayUseOf c n
-  may-use-next c next n is_next is_open = may-use-it c n is_open.1 (next-unused (start_of slot.sa c) n (numbers c) (is_open.0 ∙ is_next))
+  may-use-next : (c : Counter) (next n : ℕ) → greatest (start_of slot.sa c) (map (λ k. k + 1) (numbers c)) ≤ next → (n ≡ next) × (n < end_of slot.sa c) → MayUseOf c n
+  may-use-next c next n above is_open = may-use-it c n is_open.1 (next-unused (start_of slot.sa c) n (numbers c) (let is : n ≡ next = is_open.0 in omega (arith, above, is)))
+
+  abbrev its_turns : List Turn
+  its_turns = since_entered slot.sa.spir (own Peer past)
 
   pub peer-may-send : (n : ℕ) → IsOpenTo slot counter.EspOut n → MayUseOf counter.EspOut n
-  peer-may-send n is_open = may-use-next counter.EspOut slot.next n (ap (λ (s : Slot). s.next) told_slot) is_open
+  peer-may-send n is_open =
+      let is : slot.next ≡ next_sent slot.sa.spir slot.sa.starts.esp_in its_turns = ap (λ (s : Slot). s.next) told_slot in
+      let sends : greatest slot.sa.starts.esp_in (map (λ k. k + 1) (numbers counter.EspOut)) ≤ next_sent slot.sa.spir slot.sa.starts.esp_in its_turns = sent-within slot.sa.spir slot.sa.starts.esp_in its_turns in
+      may-use-next counter.EspOut slot.next n (omega (arith, is, sends)) is_open
 
   pub peer-may-seal : (n : ℕ) → IsOpenTo slot counter.Iv n → MayUseOf counter.Iv n
-  peer-may-seal n is_open = may-use-next counter.Iv slot.iv n (ap (λ (s : Slot). s.iv) told_slot) is_open
+  peer-may-seal n is_open =
+      let is : slot.iv ≡ greatest slot.sa.starts.iv (map (λ k. k + 1) (numbers counter.Iv)) = ap (λ (s : Slot). s.iv) told_slot in
+      may-use-next counter.Iv slot.iv n (omega (arith, is)) is_open
 
   pub peer-may-ask : (n : ℕ) → IsOpenTo slot counter.Ask n → MayUseOf counter.Ask n
-  peer-may-ask n is_open = may-use-next counter.Ask slot.ask n (ap (λ (s : Slot). s.ask) told_slot) is_open
+  peer-may-ask n is_open =
+      let used : ℕ = greatest slot.sa.starts.answer (map (λ k. k + 1) (numbers counter.Ask)) in
+      let is : slot.ask ≡ greatest used (filter_map (left_of slot.sa.spir counter.Ask) its_turns) = ap (λ (s : Slot). s.ask) told_slot in
+      let jumps : used ≤ greatest used (filter_map (left_of slot.sa.spir counter.Ask) its_turns) = greatest-least used (filter_map (left_of slot.sa.spir counter.Ask) its_turns) in
+      may-use-next counter.Ask slot.ask n (omega (arith, is, jumps)) is_open
 
   -- and the Message ID of each new request
   pub peer-may-answer : (n : ℕ) → IsOpenTo slot counter.Answer n → MayUseOf counter.Answer n
-  peer-may-answer n is_open = may-use-it counter.Answer n is_open.0
-      (new-unused slot.sa.starts.ask n (filter_map (turn_response peer_task slot.sa.spir) (since_entered slot.sa.spir (own Peer past))) (numbers counter.Answer)
-      (ids-answered peer_task answered-peer slot.sa.spir (since_entered slot.sa.spir (own Peer past))
+  peer-may-answer n is_open =
+      let agreements : List Agreed = filter_map (turn_agreed peer_task slot.sa.spir) its_turns in
+      let unused : (floor_of slot.sa.starts.ask agreements ≤ n) × IsNotIn n (numbers counter.Answer) =
+      new-unused (floor_of slot.sa.starts.ask agreements) n (filter_map (turn_response peer_task slot.sa.spir) its_turns) (numbers counter.Answer)
+      (ids-answered peer_task answered-peer slot.sa.spir its_turns
       (since_entered-all (λ turn. IsAnswering turn.step) slot.sa.spir (own Peer past) (all-filter (λ (turn : Turn). IsAnswering turn.step) (is_by Peer) past (answering-run boxes past local))))
-      (subst (λ (w : ResponseWindow). IsNewRequest w.low (IsAnswered w) n) (ap (λ (s : Slot). s.answered) told_slot) is_open.1))
+      (subst (λ (w : ResponseWindow). IsNewRequest w.low (IsAnswered w) n) (ap (λ (s : Slot). s.answered) told_slot) is_open.1) in
+      may-use-it counter.Answer n is_open.0 (floor-base slot.sa.starts.ask n agreements unused.0, unused.1)
 
   -- and each number that its window takes
   peer-may-take : (n : ℕ) → n < end_of slot.sa counter.EspIn → judged slot.window n ≡ judgement.Fresh → HoldsFor (holding_at (Theirs (peer_counter slot.sa counter.EspIn)) (acts_of past) (End Peer)) n

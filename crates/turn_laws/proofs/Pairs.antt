@@ -21,15 +21,16 @@ use Rattle.keeper_book.specs.declared.counters.Counter.TheVariants as counter
 use Rattle.keeper_book.specs.declared.records.Record.{Record}
 use Rattle.sk_payload.specs.declared.open.Opened.{Opened}
 use Rattle.turn_laws.proofs.Begun.{is_place-true}
-use Rattle.turn_laws.proofs.Deeds.{IsAnswering, UsesIt, none-answering, rest_of}
-use Rattle.turn_laws.proofs.Uses.{AreUses, Counts, Seals_it, number_at, spent_at, spent_of}
+use Rattle.turn_laws.proofs.Deeds.{IsAnswering, Spends, UsesIt, none-answering, rest_of}
+use Rattle.turn_laws.proofs.Uses.{AreUses, Counts, Seals_it, number_at, spent_at, spent_of, used-alone}
 use Rattle.turn_laws.specs.Acts.{Seals, Uses}
 use Rattle.turn_laws.specs.Listed.{request_at}
 use Rattle.turn_laws.specs.Places.{Ours, Place, is_place, place_of}
 use Rattle.turn_laws.specs.Turns.{answered, asked_by, asks_beside, key_iv, number_taken, place_answered, taken_by, uses_of}
 use Rattle.turn_rules.specs.Ends.{is_refused_by_run}
 use Rattle.turn_rules.specs.Held.{accepted, first_some, iv_in}
-use Rattle.turn_rules.specs.IkeState.{is_of_spir, is_same_end, number_under, sealed_iv, taken_id}
+use Rattle.turn_rules.specs.CountersOf.{is_of_spir, number_under}
+use Rattle.turn_rules.specs.IkeState.{is_same_end, sealed_iv, taken_id}
 use Rattle.turn_rules.specs.Messages.{AnswersRequest, ExecutesRequest, RefusesRequest, SendsMessage, SendsRequest}
 use Rattle.turn_rules.specs.Safe.{Packet, accepted_as, request_taken, taken_as}
 
@@ -119,6 +120,17 @@ sealed-elsewhere user name iv step of_iv differs seals other =
     ∙ (ap (λ (n : CounterName). first_some (sealed_iv user other (record seals.seal { name = n }) n.kind) None) seals.named
     ∙ (ap (λ k. first_some (sealed_iv user other (record seals.seal { name = name }) k) None) of_iv
     ∙ ap (λ b. first_some (if b then number_under other name seals.seal.iv else None) None) differs))
+
+-- an IV alone is used by a verdict that uses no number
+pub sealed-spends : (event : Event) (step : Step) (name : CounterName) (p : Place) (iv : ℕ) → SealsIke name iv step → place_of name ≡ p → step.served ≡ None → taken_as step.verdict ≡ None → accepted_as step.verdict ≡ None
+    → uses_of event step.verdict step.seals ≡ [] → Spends p iv event step
+sealed-spends event step name p iv seals place served untaken no_packet uses = record {
+  served = served;
+  untaken = untaken;
+  uses_it = used-alone p iv (Seals (key_iv seals.seal)) (rest_of event step) (Seals_it (key_iv seals.seal) (ap place_of seals.named ∙ place) seals.iv_is refl)
+      (ap (λ us. us ++ map (λ seal. Seals (key_iv seal)) step.seals) uses ∙ ap (λ ss. map (λ seal. Seals (key_iv seal)) ss) seals.one);
+  of_packet = λ packet is. no-packet-is step.verdict packet no_packet is;
+}
 
 -- a request was answered: it was executed, or has an error
 pub record Answering (name : CounterName) (id : ℕ) (sealer : CounterName) (iv : ℕ) (step : Step) : Type 0 where

@@ -1,21 +1,24 @@
 -- Each request that the peer asks or answers is a deed.
-use Rattle.std.proofs.Common.{◌≡◌, ◌≢◌, ℕ, ◌<◌, ◌==◌, Bool, Option, Some, None, MatchOption, List, [], ◌∷◌, ⊎_elim, refl, ap, sym, ◌∙◌, option_to_list, if◌then◌else◌, inl, inr}
+use Rattle.std.proofs.Common.{◌≡◌, ◌≢◌, ℕ, ◌<◌, ◌==◌, Bool, Option, Some, None, MatchOption, List, [], ◌∷◌, ⊎_elim, refl, ap, sym, ◌∙◌, option_to_list, if◌then◌else◌, inl, inr, Result, Ok, Err, false}
 use Rattle.std.proofs.lemmas.Bool.{cases_lt, eqb-true}
 use Rattle.events.specs.declared.event.Event.{Event}
 use Rattle.events.specs.declared.event.Event.TheVariants as event
 use Rattle.events.specs.declared.event.Party.TheVariants as parties
+use Rattle.events.specs.declared.seals.Seal.{Seal}
 use Rattle.events.specs.declared.turn.Step.{Step}
 use Rattle.events.specs.declared.turn.Turn.{Turn}
 use Rattle.events.specs.declared.verdict.Refusal.{Refusal}
 use Rattle.events.specs.declared.verdict.Refusal.TheVariants as refusal
+use Rattle.events.specs.declared.ike_outcomes.IkeDrop.TheVariants as drop
+use Rattle.events.specs.declared.verdict.Verdict.{Verdict}
 use Rattle.events.specs.declared.verdict.Verdict.TheVariants as out
 use Rattle.ha_base.specs.Octets.{WithRoom}
 use Rattle.ha_base.specs.declared.counter_names.CounterName.{CounterName}
 use Rattle.ha_base.specs.declared.counter_names.End.TheVariants as end
 use Rattle.ha_base.specs.declared.counter_names.Kind.{Kind}
 use Rattle.ike_sas.specs.Answers.{request_payloads}
-use Rattle.ike_sas.specs.Held.{request_header}
-use Rattle.ike_window.specs.Kept.{kept_octets}
+use Rattle.ike_sas.specs.Held.{request_header, response_header}
+use Rattle.ike_window.specs.Kept.{kept_octets, message_ids_of}
 use Rattle.ike_window.specs.Requests.{IsNewRequest}
 use Rattle.ike_window.specs.Windows.{IsAnswered}
 use Rattle.keeper_book.specs.CounterEnds.{end_of}
@@ -23,22 +26,32 @@ use Rattle.keeper_book.specs.declared.calls.Call.{Call}
 use Rattle.keeper_book.specs.declared.counters.Counter.{Counter}
 use Rattle.keeper_book.specs.declared.counters.Counter.TheVariants as counter
 use Rattle.sk_payload.specs.declared.open.Opened.{Opened}
-use Rattle.turn_laws.proofs.Arrivals.{Answered_by, Rested_by, Taken, again-rests, message-taken}
-use Rattle.turn_laws.proofs.Deeds.{Deed, IsOpenTo, Rested, Rests, Used_theirs, number_theirs, says-rests}
-use Rattle.turn_laws.proofs.Pairs.{Answering, UsesPair, answering-pair, asking-pair, no-packet-is, pair-at, pair-first, pair-none, pair-second, request-answering, sealed-elsewhere, sealed-here, sends-seals}
+use Rattle.sync_exchange.specs.Counters.{rise_of}
+use Rattle.sync_exchange.specs.Laws.{response_ids, response_of}
+use Rattle.sync_exchange.specs.declared.peer.Accepted.{Accepted}
+use Rattle.sync_exchange.specs.declared.replay_counter.TheConstants.{DELTA_OCTETS}
+use Rattle.sync_exchange.specs.declared.request.SyncRequest.{SyncRequest}
+use Rattle.sync_exchange.specs.declared.sync_drop.SyncDrop.{SyncDrop}
+use Rattle.sync_exchange.specs.declared.sync_drop.SyncDrop.TheVariants as why
+use Rattle.turn_laws.proofs.Arrivals.{Answered_by, Rested_by, Sync_taken_by, Synchronised_by, Taken, again-rests, message-taken}
+use Rattle.turn_laws.proofs.Deeds.{Deed, IsIdle, IsOpenTo, Rested, Rests, Used_theirs, number_theirs, says-rests}
+use Rattle.turn_laws.proofs.Pairs.{Answering, SealsIke, UsesPair, answering-pair, asking-pair, no-packet-is, pair-at, pair-first, pair-none, pair-second, request-answering, sealed-elsewhere, sealed-here, sealed-spends, sends-seals}
 use Rattle.turn_laws.proofs.Receiving.{Brings}
-use Rattle.turn_laws.proofs.Single.{ours-counter}
+use Rattle.turn_laws.proofs.Names.{number-failed, number-passed}
+use Rattle.turn_laws.proofs.Single.{one-peer-used, ours-counter}
 use Rattle.turn_laws.proofs.Uses.{number_at}
 use Rattle.turn_laws.specs.Listed.{request_at}
-use Rattle.turn_rules.specs.Safe.{taken_as}
+use Rattle.turn_rules.specs.Safe.{accepted_as, taken_as}
 use Rattle.turn_laws.specs.Places.{Ours, Place, Theirs}
+use Rattle.turn_laws.specs.Turns.{uses_of}
 use Rattle.turn_rules.proofs.SlotTies.{first-passes}
 use Rattle.turn_rules.proofs.Ties.{said-receiving}
-use Rattle.turn_rules.specs.Ends.{Peer, own, performer_of}
-use Rattle.turn_rules.specs.Held.{first_some, said_in, used, window_by}
-use Rattle.turn_rules.specs.IkeState.{is_of_spir}
+use Rattle.turn_rules.specs.Ends.{Peer, is_refused_by_run, own, performer_of}
+use Rattle.turn_rules.specs.Held.{accepted, first_some, said_in, used, window_by}
+use Rattle.turn_rules.specs.CountersOf.{is_of_spir}
+use Rattle.turn_rules.specs.IkeState.{taken_id}
 use Rattle.turn_rules.specs.Messages.{GivesAgain, Resends, SendsRequest, TakesMessage}
-use Rattle.turn_rules.specs.PeerMessages.{PeerAsks, PeerResends, SlotAnswers, SlotAsks, SlotSendsRequest, has_spis, peer_listener, slot_ike}
+use Rattle.turn_rules.specs.PeerMessages.{AcceptsSync, AnswersSync, PeerAsks, PeerResends, SlotAnswers, SlotAsks, SlotSendsRequest, has_spis, peer_keys, peer_listener, slot_ike}
 use Rattle.turn_rules.specs.Peers.{record_entered}
 use Rattle.turn_rules.specs.Slots.{Slot, first_slot, has_spir, peer_counter, slots_by}
 use Rattle.turn_rules.specs.Steps.{Says}
@@ -147,6 +160,11 @@ peer_resends-deed past step spir id calls none r = Rested none (by_slot (first_s
     by_slot None says = says-rests step (out.Refused refusal.Unknown) tt says
     by_slot (Some slot) again = kept (kept_octets id slot.asked) again
 
+-- what the peer accepts in a synchronisation uses no number but the IV
+accepting-moves : (at : Event) (name : CounterName) (p2 m2 delta : ℕ) (unknown : List ℕ) (seals : List Seal) → uses_of at (out.SyncAccepted name p2 m2 delta unknown) seals ≡ []
+accepting-moves (event.Crash member) name p2 m2 delta unknown seals = refl
+accepting-moves at name p2 m2 delta unknown seals = refl
+
 -- the peer gets an IKE message, by its associations
 module _ (past : List Turn) (event : Event) (calls : List Call) (step : Step) (brings : Brings event parties.Peer) where
   module _ (test : Slot → Bool) (slot : Slot) (is_first : first_slot test (slots_by (window_by past) (own Peer past)) ≡ Some slot) (request : Opened)
@@ -193,9 +211,67 @@ module _ (past : List Turn) (event : Event) (calls : List Call) (step : Step) (b
             (answering-pair event step (peer_counter slot.sa counter.Answer) (peer_counter slot.sa counter.Iv) (Theirs (peer_counter slot.sa counter.Answer)) (Theirs (peer_counter slot.sa counter.Iv)) taken slot.iv refl refl a)
             (brings.performs step.verdict) (brings.no_entry step.verdict) (answered-not_ours a) (λ other. ap (request_at (Ours other counter.Answer)) a.is_taken) (answered-told a) calls s.no_calls
 
+  -- the peer answers a request to synchronise, under its next IV
+  module _ (test : Slot → Bool) (slot : Slot) (is_first : first_slot test (slots_by (window_by past) (own Peer past)) ≡ Some slot) (request : Opened) (asked : SyncRequest) where
+    unsaid_there : (other : ℕ) (d : Counter) → said_in other d (peer_task event) step.verdict ≡ None
+    unsaid_there other d = ap (λ t. said_in other d t step.verdict) brings.peer_receives ∙ said-receiving other d step.verdict
+
+    unsaid_here : (other : ℕ) (d : Counter) → said_in other d (member_task event) step.verdict ≡ None
+    unsaid_here other d = ap (λ t. said_in other d t step.verdict) brings.member_receives ∙ said-receiving other d step.verdict
+
+    module _ (counters : Accepted) (does : AcceptsSync slot request asked counters step) (no_calls : calls ≡ []) (below : slot.iv < end_of slot.sa counter.Iv) where
+      seals : SealsIke (peer_counter slot.sa counter.Iv) slot.iv step
+      seals = sends-seals (slot_ike slot) slot.iv (response_header (peer_keys slot.sa) request.header) (response_of (response_ids asked counters)) step does.responds
+
+      synced-not_ours : (other : ℕ) (d : Counter) → used other d event step ≡ None
+      synced-not_ours other counter.Iv = sealed-elsewhere end.Cluster (peer_counter slot.sa counter.Iv) slot.iv step refl refl seals other
+      synced-not_ours other counter.EspOut = unsaid_here other counter.EspOut
+      synced-not_ours other counter.EspIn = unsaid_here other counter.EspIn
+      synced-not_ours other counter.Ask = unsaid_here other counter.Ask
+      synced-not_ours other counter.Answer = unsaid_here other counter.Answer
+
+      synced-told : (other : ℕ) (d : Counter) → number_theirs other d event step ≡ number_at (Ours other d) (Ours slot.sa.spir counter.Iv) slot.iv
+      synced-told other counter.EspOut = unsaid_there other counter.EspOut ∙ number-failed (slot.sa.spir == other) slot.iv
+      synced-told other counter.EspIn = brings.receives other step.verdict ∙ (ap (accepted other) does.said ∙ number-failed (slot.sa.spir == other) slot.iv)
+      synced-told other counter.Iv = sealed-here slot.sa end.Peer (peer_counter slot.sa counter.Iv) slot.iv step refl refl refl seals other ∙ number-passed (slot.sa.spir == other) slot.iv
+      synced-told other counter.Ask = unsaid_there other counter.Ask ∙ number-failed (slot.sa.spir == other) slot.iv
+      synced-told other counter.Answer = brings.answers other step.verdict ∙ (ap (taken_id other) does.said ∙ number-failed (slot.sa.spir == other) slot.iv)
+
+      accepts-deed : Deed past event calls step
+      accepts-deed = one-peer-used (record {
+        test = test;
+        slot = slot;
+        c = counter.Iv;
+        number = slot.iv;
+        by_it = let run : is_refused_by_run step.verdict ≡ false = ap is_refused_by_run does.said in rw run (brings.performs step.verdict);
+        is_first = is_first;
+        is_open = (refl, below);
+        no_calls = no_calls;
+        spends = sealed-spends event step (peer_counter slot.sa counter.Iv) (Theirs (peer_counter slot.sa counter.Iv)) slot.iv seals refl does.served (ap taken_as does.said) (ap accepted_as does.said)
+            (ap (λ v. uses_of event v step.seals) does.said ∙ accepting-moves event (peer_counter slot.sa counter.Answer) counters.p2 counters.m2 (rise_of DELTA_OCTETS asked) (message_ids_of slot.asked) step.seals);
+        not_ours = synced-not_ours;
+        told = synced-told;
+        no_entry = brings.no_entry step.verdict;
+      })
+
+    says-deed : (verdict : Verdict) → IsIdle verdict → calls ≡ [] → Says verdict step → Deed past event calls step
+    says-deed verdict idle no_calls says = Rested no_calls (says-rests step verdict idle says) (brings.no_entry step.verdict)
+
+    answers-sync-deed : (answer : Result Accepted SyncDrop) → calls ≡ [] → AnswersSync slot request asked answer step → Deed past event calls step
+    answers-sync-deed (Ok counters) no_calls may = ⊎_elim
+        (λ below. accepts-deed counters (may.within below) no_calls below)
+        (λ ended. says-deed (out.Refused refusal.Exhausted) tt no_calls (may.ended ended))
+        (cases_lt slot.iv (end_of slot.sa counter.Iv))
+    answers-sync-deed (Err (why.NotAbove highest)) no_calls says = says-deed (out.DroppedIke (drop.SyncOld highest)) tt no_calls says
+    answers-sync-deed (Err why.Delta) no_calls says = says-deed (out.DroppedIke drop.Delta) tt no_calls says
+    answers-sync-deed (Err why.NotSync) no_calls says = absurd says
+    answers-sync-deed (Err why.Nonce) no_calls says = absurd says
+
   pub peer_message-deed : (octets : List ℕ) → TakesMessage (peer_listener (slots_by (window_by past) (own Peer past))) octets calls step → Deed past event calls step
   peer_message-deed octets takes = go (message-taken (peer_listener (slots_by (window_by past) (own Peer past))) calls step octets takes)
     where
       go : Taken (peer_listener (slots_by (window_by past) (own Peer past))) calls step → Deed past event calls step
       go (Rested_by none rests) = Rested none rests (brings.no_entry step.verdict)
+      go (Synchronised_by slot request found does) = answers-sync-deed (has_spis request.header.spii request.header.spir) slot found request does.asked does.answer does.no_calls does.answers
+      go (Sync_taken_by slot response found takes) = absurd takes
       go (Answered_by slot request found new answers) = slot_answers-deed (has_spis request.header.spii request.header.spir) slot found request new answers

@@ -36,7 +36,8 @@ use Rattle.turn_rules.proofs.Refusals.{stop-own}
 use Rattle.turn_rules.specs.Deliveries.{PeerTakes}
 use Rattle.turn_rules.specs.Draws.{counter_name, reach_of, refusal_of_stop}
 use Rattle.turn_rules.specs.Ends.{Member, Peer, end_of_party, is_refused_by_run, own, performer_of}
-use Rattle.turn_rules.specs.IkeState.{is_of_spir, taken_id}
+use Rattle.turn_rules.specs.CountersOf.{is_of_spir}
+use Rattle.turn_rules.specs.IkeState.{taken_id}
 use Rattle.turn_rules.specs.Held.{Held, accepted, held_by, received, used, used_in, window_by}
 use Rattle.turn_rules.specs.MemberPackets.{DropsQuietly, IsReceived, MemberReceives, TakesPacket, inbound_of}
 use Rattle.turn_rules.specs.Packets.{Drops, IsVerdictOf, OpensEsp}

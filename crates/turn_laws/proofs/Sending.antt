@@ -1,5 +1,5 @@
 -- Each send that is explained is a deed.
-use Rattle.std.proofs.Common.{MatchOption, ◌≡◌, ℕ, ◌<◌, ◌^◌, ◌==◌, false, Option, Some, None, List, [], ◌∷◌, ⊎_elim, refl, ap, sym, ◌∙◌, subst}
+use Rattle.std.proofs.Common.{MatchOption, ◌≡◌, ℕ, ◌<◌, ◌^◌, ◌==◌, false, Option, Some, None, List, [], ◌∷◌, ⊎_elim, refl, ap, sym, ◌∙◌, subst, arith}
 use Rattle.std.proofs.lemmas.Bool.{cases_lt, eqb-true}
 use Rattle.events.specs.declared.event.Event.{Event}
 use Rattle.events.specs.declared.event.Event.TheVariants as event
@@ -131,7 +131,7 @@ module _ (past : List Turn) (step : Step) (member spir : ℕ) (payload : WithRoo
     number = next;
     by_it = member-performs (event.Send (parties.Member member) spir payload) step.verdict member refl send-not_run;
     is_held = subst (λ n. held_by (window_by past) (own (Member member) past) n ≡ Some held) (sym own_spir) is_held;
-    is_open = refl;
+    is_open = omega arith;
     ready = ready-as (reach_of held counter.EspOut) next Stopped (λ why rest. (rest ≡ []) × Rests step) Sent (λ high rest. (rest ≡ []) × UsesOne held.sa.spir counter.EspOut next (event.Send (parties.Member member) spir payload) step)
         (λ why rest s. (s.0, says-rests step (out.Refused (refusal_of_stop why)) tt s.1))
         (λ high rest s. (s.0, send-uses s.1))

@@ -1,6 +1,6 @@
 -- What the services of a run executed, they may give.
-use Rattle.std.proofs.Common.{◌≡◌, ◌↔◌, ℕ, suc, ◌+◌, Bool, true, false, Option, Some, None, IsSome, IsSomeAnd, List, [], ◌∷◌, length, refl, ap, sym, ◌∙◌, subst, add-one}
-use Rattle.std.specs.Prelude.{IfSome, filter, is_some}
+use Rattle.std.proofs.Common.{◌≡◌, ◌↔◌, ℕ, suc, ◌+◌, Bool, true, false, Option, Some, None, IsSome, IsSomeAnd, List, [], ◌∷◌, refl, ap, sym, ◌∙◌, subst, add-one}
+use Rattle.std.specs.Prelude.{IfSome, is_some}
 use Rattle.std.proofs.lemmas.Bool.{eq-eqb}
 use Rattle.events.specs.declared.turn.Served.{Served}
 use Rattle.events.specs.declared.turn.Turn.{Turn}

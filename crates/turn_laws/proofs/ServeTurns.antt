@@ -1,19 +1,17 @@
 -- What one turn makes of the services of a run, one of which was lent to the end that acts.
-use Rattle.std.proofs.Common.{◌≡◌, ℕ, suc, ◌+◌, ◌≤◌, ◌||◌, Bool, true, false, Option, Some, None, IsSome, IsSomeAnd, List, ◌∷◌, length, refl, ap, sym, ◌∙◌, subst, arith, if◌then◌else◌}
+use Rattle.std.proofs.Common.{◌≡◌, ℕ, suc, ◌+◌, ◌≤◌, Bool, true, false, Option, Some, None, IsSome, IsSomeAnd, List, ◌∷◌, length, refl, ap, sym, ◌∙◌, subst, arith, if◌then◌else◌}
 use Rattle.std.specs.Prelude.{is_some}
-use Rattle.std.proofs.lemmas.Bool.{eqb-true, or_parts}
-use Rattle.events.specs.declared.event.Event.{Event}
+use Rattle.std.proofs.lemmas.Bool.{or_parts}
 use Rattle.events.specs.declared.turn.Served.{Served}
 use Rattle.events.specs.declared.turn.Turn.{Turn}
 use Rattle.ha_base.specs.Services.{ReplyRelation}
 use Rattle.turn_laws.proofs.Holdings.{is_performer-true}
 use Rattle.turn_laws.proofs.Serving.{serves-named}
 use Rattle.turn_laws.specs.Serving.{GoesOn, HaveServed, KeepServices, LentFor, ServesNamed, ServesThere, end_named, ends_in, served_for}
-use Rattle.turn_rules.specs.Ends.{Member, Peer, Performer, is_by, is_end, is_performer, performer}
+use Rattle.turn_rules.specs.Ends.{Member, Peer, Performer, is_by, is_end, is_performer}
 use Rattle.turn_rules.specs.Fits.{named_in}
 use Rattle.turn_rules.specs.Genuine.{IsUp}
 use Rattle.turn_rules.specs.Local.{Explained}
-use Rattle.turn_rules.specs.Services.{Executes, Serves}
 use Rattle.turn_rules.specs.States.{ended_in, ends, has_ended, is_number, joins}
 
 module _ {B : Type 0} (count : B → ℕ) (last : B → Option (List ℕ)) (gives : B → ReplyRelation) (places : ℕ) (past : List Turn) (turn : Turn) (old acted new : Performer → Option B) where

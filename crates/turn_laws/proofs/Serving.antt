@@ -76,6 +76,7 @@ module _ (boxes : ℕ) (past : List Turn) (now : Moment) (calls : List Call) (st
   named-of (event.Send from spir payload) does = ap Some (party-named from)
   named-of (event.Ask from spir request) does = ap Some (party-named from)
   named-of (event.Again from spir id) does = ap Some (party-named from)
+  named-of (event.Sync member spir) does = refl
   named-of (event.Deliver which to) does = ap Some (party-named to)
   named-of (event.Alter which to place octet) does = ap Some (party-named to)
   named-of (event.Cut which to keep) does = ap Some (party-named to)

@@ -1,7 +1,7 @@
 -- An event that uses one number, of a member or of the peer.
 use Rattle.turn_rules.specs.Peers.{record_entered}
 use Rattle.turn_rules.specs.Slots.{Slot, first_slot, slots_by, peer_counter}
-use Rattle.std.proofs.Common.{◌≡◌, ℕ, Bool, true, false, Option, Some, None, option_to_list, List, [], ◌∷◌, refl, ap, sym, ◌∙◌, if◌then◌else◌, inl}
+use Rattle.std.proofs.Common.{◌≡◌, ℕ, Bool, true, false, Option, Some, None, option_to_list, List, [], ◌∷◌, refl, ap, sym, ◌∙◌, if◌then◌else◌, inl, inr}
 use Rattle.std.specs.List.{cons_option}
 use Rattle.events.specs.declared.event.Event.{Event}
 use Rattle.events.specs.declared.turn.Step.{Step}
@@ -16,6 +16,7 @@ use Rattle.turn_laws.proofs.Begun.{is_place-true, ours-spir}
 use Rattle.turn_laws.proofs.Uses.{number_at, spent_of}
 use Rattle.events.specs.declared.verdict.Verdict.{Verdict}
 use Rattle.events.specs.declared.verdict.Verdict.TheVariants as out
+use Rattle.turn_rules.proofs.SlotTies.{all-weaker}
 use Rattle.turn_laws.specs.Listed.{request_at}
 use Rattle.turn_laws.specs.Turns.{answered, answered_in}
 use Rattle.turn_rules.specs.Datagrams.{Delivery, delivery_of}
@@ -77,6 +78,22 @@ one-uses spir c n event step it = record {
   named = λ packet accepted other k is.
       (it.spends.of_packet packet accepted).0 ∙ number-here (Ours other counter.EspIn) (Ours spir c) n k (sym (it.told other counter.EspIn) ∙ is);
 }
+
+-- where another number is needed before it, which is not used
+pub second-uses : (spir : ℕ) (c : Counter) (n k : ℕ) (event : Event) (step : Step) → UsesOne spir counter.Iv n event step → UsesIt (spent_of (Ours spir c) k ∷ spent_of (Ours spir counter.Iv) n ∷ []) event step
+second-uses spir c n k event step it =
+    let uses : UsesIt (spent_of (Ours spir counter.Iv) n ∷ []) event step = one-uses spir counter.Iv n event step it in
+    record {
+      ss = uses.ss;
+      were_needed = all-weaker uses.ss (λ s among. inr among) uses.were_needed;
+      answering = uses.answering;
+      answers = uses.answers;
+      uses_them = uses.uses_them;
+      apart = uses.apart;
+      told = uses.told;
+      not_theirs = uses.not_theirs;
+      named = uses.named;
+    }
 
 pub one-used : {past : List Turn} {event : Event} {calls : List Call} {step : Step} → UsesNext past event calls step → Deed past event calls step
 one-used {past} {event} {calls} {step} u = Used (record {

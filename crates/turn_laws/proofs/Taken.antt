@@ -19,8 +19,8 @@ use Rattle.turn_laws.proofs.Records.{answering-run}
 use Rattle.turn_laws.specs.Answered.{KeepsTaken, ids_taken}
 use Rattle.turn_laws.specs.Turns.{answered, answered_in}
 use Rattle.turn_rules.specs.Ends.{Member, Peer, Performer, is_by, own}
-use Rattle.turn_rules.specs.Held.{Held, found, grant_of, held_by, holding, since, window_by}
-use Rattle.turn_rules.specs.IkeState.{turn_response}
+use Rattle.turn_rules.specs.Held.{Held, agreements_of, floor_of, found, grant_of, held_by, holding, since, window_by}
+use Rattle.turn_rules.specs.IkeState.{turn_agreed, turn_response}
 use Rattle.turn_rules.specs.Local.{Explained}
 use Rattle.turn_rules.specs.Slots.{since_entered, slot_by}
 use Rattle.turn_rules.specs.Tasks.{Task, member_task, peer_task}
@@ -48,7 +48,7 @@ holding-keeps : (size spir : ℕ) (mine : List Turn) (held : Held) → AreAnswer
 holding-keeps size spir mine held answering None is = absurd (cc)
 holding-keeps size spir mine held answering (Some taken) is =
     subst (λ (y : Held). KeepsTaken y.answered member_task spir (since spir mine)) (same_Some (holding size spir mine taken) held is)
-    (keeps taken.bases.answer member_task answered-member spir (since spir mine) (since-all (λ turn. IsAnswering turn.step) spir mine answering))
+    (keeps (floor_of taken.bases.answer (agreements_of spir mine)) member_task answered-member spir (since spir mine) (since-all (λ turn. IsAnswering turn.step) spir mine answering))
 
 pub members-keep : (boxes : ℕ) (past : List Turn) → Explained boxes past → (member spir : ℕ) (held : Held)
     → held_by (window_by past) (own (Member member) past) spir ≡ Some held
@@ -58,5 +58,5 @@ members-keep boxes past local member spir held is =
 
 pub peer-keeps : (boxes : ℕ) (past : List Turn) → Explained boxes past → (sa : Record)
     → KeepsTaken (slot_by (window_by past) (own Peer past) sa).answered peer_task sa.spir (since_entered sa.spir (own Peer past))
-peer-keeps boxes past local sa = keeps sa.starts.ask peer_task answered-peer sa.spir (since_entered sa.spir (own Peer past))
+peer-keeps boxes past local sa = keeps (floor_of sa.starts.ask (filter_map (turn_agreed peer_task sa.spir) (since_entered sa.spir (own Peer past)))) peer_task answered-peer sa.spir (since_entered sa.spir (own Peer past))
     (since_entered-all (λ turn. IsAnswering turn.step) sa.spir (own Peer past) (answering-own boxes past local Peer))

@@ -1,5 +1,5 @@
 -- What own turns say that a member holds of a counter, and that what is open to it was not used.
-use Rattle.std.proofs.Common.{◌≡◌, ℕ, ◌+◌, ◌≤◌, Option, Some, None, List, map, refl, ap, sym, ◌∙◌, subst}
+use Rattle.std.proofs.Common.{◌≡◌, ℕ, ◌+◌, ◌≤◌, Option, Some, None, List, map, refl, ap, sym, subst, arith}
 use Rattle.std.proofs.lemmas.Option.{same_Some}
 use Rattle.std.specs.List.{filter_map}
 use Rattle.std.specs.Option.{option_map}
@@ -11,13 +11,21 @@ use Rattle.keeper_book.specs.declared.counters.Counter.TheVariants as counter
 use Rattle.keeper_book.specs.declared.records.Taken.{Taken}
 use Rattle.turn_laws.proofs.Answered.{AreAnswering, answered-member, ids-answered, new-unused, since-all}
 use Rattle.turn_laws.proofs.Deeds.{IsAnswering, IsOpen}
+use Rattle.turn_laws.proofs.Runs.{greatest-least}
 use Rattle.turn_laws.proofs.Unused.{fresh-unused, next-unused}
 use Rattle.turn_laws.specs.Holdings.{Holding, IsNotIn}
 use Rattle.turn_laws.specs.Turns.{turn_taken, told}
 use Rattle.turn_rules.proofs.Ties.{five_at-five_of}
 use Rattle.turn_rules.specs.IkeState.{turn_response}
+use Rattle.turn_rules.specs.Synchronised.{Agreed}
 use Rattle.turn_rules.specs.Tasks.{member_task}
-use Rattle.turn_rules.specs.Held.{Held, found, grant_of, greatest, held_by, high_of, holding, next_number_of, number_of, received_of, since}
+use Rattle.turn_rules.specs.Held.{Held, agreements_of, floor_of, found, grant_of, greatest, held_by, high_of, holding, jump_of, next_number_of, number_of, received_of, since}
+
+-- a Message ID from the floor on lies from where the epoch began on
+pub floor-base : (base n : ℕ) (agreements : List Agreed) → floor_of base agreements ≤ n → base ≤ n
+floor-base base n agreements above =
+    let low : base ≤ floor_of base agreements = greatest-least base (map (λ (a : Agreed). a.floor) agreements) in
+    omega (arith, above, low)
 
 -- what own turns say that a member holds, at one counter
 pub record Tells (mine : List Turn) (spir : ℕ) (c : Counter) (held : Held) (h : Holding) : Type 0 where
@@ -29,8 +37,12 @@ pub record Tells (mine : List Turn) (spir : ℕ) (c : Counter) (held : Held) (h 
   pub unused : (n : ℕ) → AreAnswering mine → IsOpen held c n → (h.base ≤ n) × IsNotIn n h.numbers
 
 module _ (size spir : ℕ) (mine : List Turn) (taken : Taken) where
-  next-open : (c : Counter) (n : ℕ) → n ≡ five_at (holding size spir mine taken).nexts c → (five_at taken.bases c ≤ n) × IsNotIn n (filter_map (number_of spir c) (since spir mine))
-  next-open c n is = next-unused (five_at taken.bases c) n (filter_map (number_of spir c) (since spir mine)) (is ∙ five_at-five_of (λ d. next_number_of spir d taken.bases mine) c)
+  next-open : (c : Counter) (n : ℕ) → five_at (holding size spir mine taken).nexts c ≤ n → (five_at taken.bases c ≤ n) × IsNotIn n (filter_map (number_of spir c) (since spir mine))
+  next-open c n above =
+      let used : ℕ = greatest (five_at taken.bases c) (map (λ k. k + 1) (filter_map (number_of spir c) (since spir mine))) in
+      let next : five_at (holding size spir mine taken).nexts c ≡ greatest used (filter_map (jump_of spir c) (since spir mine)) = five_at-five_of (λ d. next_number_of spir d taken.bases mine) c in
+      let jumps : used ≤ greatest used (filter_map (jump_of spir c) (since spir mine)) = greatest-least used (filter_map (jump_of spir c) (since spir mine)) in
+      next-unused (five_at taken.bases c) n (filter_map (number_of spir c) (since spir mine)) (omega (arith, above, next, jumps))
 
   open-unused : (c : Counter) (n : ℕ) → AreAnswering mine → IsOpen (holding size spir mine taken) c n → (five_at taken.bases c ≤ n) × IsNotIn n (filter_map (turn_taken spir c) (since spir mine))
   open-unused counter.EspOut n all is = next-open counter.EspOut n is
@@ -38,8 +50,11 @@ module _ (size spir : ℕ) (mine : List Turn) (taken : Taken) where
   open-unused counter.Iv n all is = next-open counter.Iv n is
   open-unused counter.Ask n all is = next-open counter.Ask n is
   open-unused counter.Answer n all new =
-      new-unused taken.bases.answer n (filter_map (turn_response member_task spir) (since spir mine)) (filter_map (turn_taken spir counter.Answer) (since spir mine))
-      (ids-answered member_task answered-member spir (since spir mine) (since-all (λ turn. IsAnswering turn.step) spir mine all)) new
+      let floor : ℕ = floor_of taken.bases.answer (agreements_of spir mine) in
+      let unused : (floor ≤ n) × IsNotIn n (filter_map (turn_taken spir counter.Answer) (since spir mine)) =
+      new-unused floor n (filter_map (turn_response member_task spir) (since spir mine)) (filter_map (turn_taken spir counter.Answer) (since spir mine))
+      (ids-answered member_task answered-member spir (since spir mine) (since-all (λ turn. IsAnswering turn.step) spir mine all)) new in
+      (floor-base taken.bases.answer n (agreements_of spir mine) unused.0, unused.1)
 
   abbrev as_told : Counter → Taken → Holding
   as_told c t = record { epoch = t.epoch; base = five_at t.bases c; next = greatest (five_at t.bases c) (map (λ n. n + 1) (filter_map (turn_taken spir c) (since spir mine))); high = high_of spir c t.bases mine; end = end_of t.sa c; numbers = filter_map (turn_taken spir c) (since spir mine) }

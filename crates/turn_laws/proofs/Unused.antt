@@ -10,8 +10,8 @@ use Rattle.turn_laws.proofs.Runs.{greatest-least}
 use Rattle.turn_laws.specs.Holdings.{IsNotIn}
 use Rattle.turn_rules.specs.Held.{greatest}
 
--- a number at which a counter is ready was not used: it is above each that was
-above-used : (base n : ℕ) (numbers : List ℕ) → n ≡ greatest base (map (λ k. k + 1) numbers) → IsNotIn n numbers
+-- a number from the next one of a counter on was not used: it is above each that was
+above-used : (base n : ℕ) (numbers : List ℕ) → greatest base (map (λ k. k + 1) numbers) ≤ n → IsNotIn n numbers
 above-used base n [] is = tt
 above-used base n (k ∷ ks) is =
     ((λ same. absurd (omega arith)), all_below ks (let rest : greatest base (map (λ k. k + 1) ks) ≤ n = omega arith in rest))
@@ -20,7 +20,7 @@ above-used base n (k ∷ ks) is =
     all_below [] below = tt
     all_below (k ∷ ks) below = ((λ same. absurd (omega arith)), all_below ks (omega arith))
 
-pub next-unused : (base n : ℕ) (numbers : List ℕ) → n ≡ greatest base (map (λ k. k + 1) numbers) → (base ≤ n) × IsNotIn n numbers
+pub next-unused : (base n : ℕ) (numbers : List ℕ) → greatest base (map (λ k. k + 1) numbers) ≤ n → (base ≤ n) × IsNotIn n numbers
 next-unused base n numbers is = ((let low : base ≤ greatest base (map (λ k. k + 1) numbers) = greatest-least base (map (λ k. k + 1) numbers) in omega arith), above-used base n numbers is)
 
 pub not-among : (n : ℕ) (numbers : List ℕ) → ¬ Contains numbers n → IsNotIn n numbers

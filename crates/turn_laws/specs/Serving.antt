@@ -1,5 +1,5 @@
 -- What the services of the ends execute over a run.
-use Rattle.std.specs.Prelude.{ℕ, zero, suc, ◌≡◌, ◌≤◌, ◌↔◌, Bool, true, false, Option, Some, None, IsSome, IfSome, IsSomeAnd, List, length, slice_index_or, if◌then◌else◌}
+use Rattle.std.specs.Prelude.{ℕ, zero, suc, ◌≡◌, ◌≤◌, ◌↔◌, Bool, true, false, Option, Some, None, IsSome, IsSomeAnd, List, length, slice_index_or, if◌then◌else◌}
 use Rattle.events.specs.declared.turn.Served.{Served}
 use Rattle.events.specs.declared.turn.Turn.{Turn}
 use Rattle.ha_base.specs.Services.{ReplyRelation}
