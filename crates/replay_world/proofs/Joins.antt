@@ -1,5 +1,5 @@
 -- No more members join than there are services for.
-use Rattle.std.proofs.Common.{◌≡◌, ℕ, suc, ◌+◌, ◌<◌, ◌≤◌, ◌||◌, Bool, true, false, not, Option, Some, None, Result, Ok, Err, MatchOption, List, ◌∷◌, ap, subst, sym, ◌∙◌, refl, arith}
+use Rattle.std.proofs.Common.{◌≡◌, ℕ, suc, ◌<◌, ◌≤◌, ◌||◌, Bool, true, false, not, Option, Some, None, Result, Ok, Err, MatchOption, List, ◌∷◌, ap, subst, sym, ◌∙◌, refl, arith}
 use Rattle.std.specs.Prelude.{nat_le}
 use Rattle.std.proofs.lemmas.Bool.{leb-false, or_parts}
 use Rattle.events.specs.Events.{plain}
@@ -12,7 +12,6 @@ use Rattle.events.specs.declared.turn.Step.{Step}
 use Rattle.events.specs.declared.turn.Turn.{Turn}
 use Rattle.events.specs.declared.verdict.Refusal.{Refusal}
 use Rattle.events.specs.declared.verdict.Refusal.TheVariants as refusal
-use Rattle.events.specs.declared.verdict.Verdict.{Verdict}
 use Rattle.events.specs.declared.verdict.Verdict.TheVariants as out
 use Rattle.ha_base.specs.declared.outside.Moment.{Moment}
 use Rattle.keeper_book.specs.declared.calls.Call.{Call}
@@ -20,12 +19,14 @@ use Rattle.keeper_book.specs.declared.records.Record.{Record}
 use Rattle.run_ends.proofs.Asking.{asks-proper, peer_asks-proper}
 use Rattle.run_ends.proofs.Bounds.{fits_ask, fits_send}
 use Rattle.run_ends.proofs.Performing.{member_gets-said, peer_gets-said}
+use Rattle.run_ends.proofs.Syncing.{syncs-proper}
 use Rattle.run_ends.proofs.Verdicts.{draws-proper, enters-proper, peer_sends-proper, sends-proper, takes-proper}
 use Rattle.run_ends.specs.Runs.{Grows, Run}
 use Rattle.turn_rules.proofs.StateLaws.{does-told, local-explained}
+use Rattle.turn_rules.specs.Configurations.{fresh_octets}
 use Rattle.turn_rules.specs.Datagrams.{PlainDatagram, arrives}
 use Rattle.turn_rules.specs.Draws.{EntersRecord}
-use Rattle.turn_rules.specs.Fits.{Does, MAX_MEMBERS, Performs, Quietly, Receives, Refuses, Refusing, Yields, refused_where, run_refusal}
+use Rattle.turn_rules.specs.Fits.{Does, MAX_MEMBERS, Performs, Quietly, Receives, Refuses, Refusing, refused_where, run_refusal}
 use Rattle.turn_rules.specs.Held.{Held}
 use Rattle.turn_rules.specs.Local.{Local}
 use Rattle.turn_rules.specs.MemberMessages.{ResendsOf, held_ike}
@@ -52,7 +53,7 @@ module _ (state : RunState) (moment : Moment) (calls : List Call) (step : Step) 
   receives-none : (to : Party) (found : Result PlainDatagram Refusal) → Receives state moment to found calls step → NoJoin
   receives-none to (Err why) r = absurd r
   receives-none parties.Peer (Ok datagram) r = (peer_gets-said datagram.medium state.peer.slots datagram.octets calls step r).no_join
-  receives-none (parties.Member member) (Ok datagram) r = (member_gets-said datagram.medium (state.members member).held datagram.octets calls step r).no_join
+  receives-none (parties.Member member) (Ok datagram) r = (member_gets-said datagram.medium (fresh_octets (state.members member).given) (state.members member).held datagram.octets calls step r).no_join
 
   resends-none : (held : IkeHeld) (id : ℕ) → Resends id held step → NoJoin
   resends-none held id = go (kept_octets id held.asked)
@@ -95,6 +96,8 @@ module _ (state : RunState) (moment : Moment) (calls : List Call) (step : Step) 
       never (asks-proper ((state.members member).held spir) request.octets calls step (fits_ask (parties.Member member) spir request fits) p).said.no_join
   performs-joins (event.Again parties.Peer spir id) fits free p = never (peer-resends-none (first_slot (has_spir spir) state.peer.slots) id p.1)
   performs-joins (event.Again (parties.Member member) spir id) fits free p = never (member-resends-none ((state.members member).held spir) id p)
+  performs-joins (event.Sync member spir) fits free p =
+      never (syncs-proper (fresh_octets (state.members member).given) ((state.members member).held spir) calls step p).said.no_join
   performs-joins (event.Deliver which to) fits free p = never (receives-none to (arrives state.datagrams (event.Deliver which to)) p)
   performs-joins (event.Alter which to place octet) fits free p = never (receives-none to (arrives state.datagrams (event.Alter which to place octet)) p)
   performs-joins (event.Cut which to keep) fits free p = never (receives-none to (arrives state.datagrams (event.Cut which to keep)) p)

@@ -1,7 +1,7 @@
 -- What was read of an input tells what the whole of it is played and shown as.
 use Rattle.ha_base.specs.declared.limits.TheConstants.{INPUT_OCTETS}
 use Rattle.std.specs.Io.KnownBytes.{IsAtEnd}
-use Rattle.std.proofs.Common.{◌≡◌, ◌<◌, ◌≤◌, ◌⊎◌, ℕ, List, [], ◌++◌, length, inl, inr, Option, None, ap, ◌∙◌, sym, append-nil, arith}
+use Rattle.std.proofs.Common.{◌≡◌, ◌<◌, ◌≤◌, ◌⊎◌, ℕ, List, ◌++◌, length, inl, inr, Option, None, ap, ◌∙◌, sym, append-nil, arith}
 use Rattle.call_ends.proofs.EndLaws.{closed_ends, is_read, streams}
 use Rattle.call_ends.specs.Closing.{Closes}
 use Rattle.call_ends.specs.Endings.{Ends}

@@ -64,6 +64,7 @@ pub(crate) fn named_in(event: &Event) -> Option<u64>
         Event::Own { member, .. } => Some(*member),
         Event::Draw { member, .. } => Some(*member),
         Event::Crash { member } => Some(*member),
+        Event::Sync { member, .. } => Some(*member),
         Event::Send { from, .. } => member_of(*from),
         Event::Ask { from, .. } => member_of(*from),
         Event::Again { from, .. } => member_of(*from),

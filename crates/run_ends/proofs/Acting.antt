@@ -48,6 +48,7 @@ pub gives-datagrams : (at : Event) (to : Party) → DeliversTo at to → is_of_d
 gives-datagrams (event.Send from spir payload) to d = refl
 gives-datagrams (event.Ask from spir request) to d = refl
 gives-datagrams (event.Again from spir id) to d = refl
+gives-datagrams (event.Sync member spir) to d = refl
 gives-datagrams at to d = ap is_some d.1
 
 -- there is no room for one

@@ -10,5 +10,6 @@ pub mod Performing
 pub mod Plays
 pub mod Seats
 pub mod ShortKept
+pub mod Syncing
 pub mod TurnLaws
 pub mod Verdicts

@@ -1,6 +1,7 @@
 -- How long the IKE messages are that an end sends.
 use Rattle.std.proofs.Common.{◌≡◌, ℕ, ◌+◌, ◌≤◌, ◌⊎◌, Option, Some, None, Result, Ok, Err, List, [], ◌∷◌, length, option_to_list, ap, sym, ◌∙◌, subst, arith}
 use Rattle.std.proofs.lemmas.List.{length-append}
+use Rattle.std.specs.Int.{to_be_bytes, w64}
 use Rattle.std.specs.List.{AllByRecursion}
 use Rattle.std.specs.Option.{option_map}
 use Rattle.aes_gcm.proofs.Seals.{sealing}
@@ -15,7 +16,10 @@ use Rattle.ike_values.specs.Values.{PayloadValue, sk}
 use Rattle.ike_values.specs.Writing.{body_written, chain_written}
 use Rattle.ike_values.specs.declared.fault.Bad.{Bad}
 use Rattle.ike_values.specs.declared.header.Header.{Header}
-use Rattle.ike_values.specs.declared.notify_types.TheConstants.{REPLY_DATA, REQUEST_DATA}
+use Rattle.ike_values.specs.declared.notify_types.TheConstants.{IKEV2_MESSAGE_ID_SYNC, IPSEC_REPLAY_COUNTER_SYNC, REPLY_DATA, REQUEST_DATA}
+use Rattle.sync_exchange.specs.Laws.{request_with, response_of}
+use Rattle.sync_exchange.specs.Notifications.{message_ids_spelling}
+use Rattle.sync_exchange.specs.declared.message_ids.MessageIds.{MessageIds}
 use Rattle.sk_payload.specs.Message.{IsDatagram, associated_data, plain_of}
 use Rattle.sk_payload.specs.declared.open.Opened.{Opened}
 use Rattle.turn_rules.specs.Datagrams.{plain_datagram}
@@ -56,6 +60,17 @@ notify-length kind content = omega (arith, length-append (body_written (notify_o
 -- the payloads of a request
 pub request-few : (request : List ℕ) → length request ≤ 256 → length (chain_written (request_payloads request)) ≤ 264
 request-few request size = omega (arith, size, notify-length REQUEST_DATA request)
+
+-- those of a request to synchronise, and of the response to one
+pub sync-few : (ids : MessageIds) (delta : ℕ) → length (chain_written (request_with ids delta)) ≤ 264
+sync-few ids delta = omega (
+  arith,
+  length-append (body_written (notify_of IKEV2_MESSAGE_ID_SYNC (message_ids_spelling ids))) (chain_written (notify_of IPSEC_REPLAY_COUNTER_SYNC (to_be_bytes w64 delta) ∷ [])),
+  notify-length IPSEC_REPLAY_COUNTER_SYNC (to_be_bytes w64 delta),
+)
+
+pub synced-few : (ids : MessageIds) → length (chain_written (response_of ids)) ≤ 264
+synced-few ids = omega (arith, notify-length IKEV2_MESSAGE_ID_SYNC (message_ids_spelling ids))
 
 -- and of a response
 error-few : (why : RequestError) → length (chain_written (error_payload why ∷ [])) ≤ 264

@@ -32,7 +32,7 @@ use Rattle.ike_sas.specs.declared.exchanges.TheConstants.{IKE_SESSION_RESUME}
 use Rattle.ike_values.specs.Values.{PayloadValue}
 use Rattle.ike_values.specs.declared.fault.Bad.{Bad}
 use Rattle.ike_values.specs.declared.header.Message.{Message}
-use Rattle.ike_window.specs.Kept.{kept_octets}
+use Rattle.ike_window.specs.Kept.{kept_octets, message_ids_of}
 use Rattle.ike_window.specs.declared.judged.Judged.{Judged}
 use Rattle.ike_window.specs.declared.judged.Judged.TheVariants as judged
 use Rattle.keeper_book.specs.CounterEnds.{end_of}
@@ -44,19 +44,25 @@ use Rattle.keeper_book.specs.declared.calls.KeeperAnswer.TheVariants as answer
 use Rattle.keeper_book.specs.declared.counters.Counter.{Counter}
 use Rattle.keeper_book.specs.declared.counters.Counter.TheVariants as counter
 use Rattle.sk_payload.specs.declared.open.Opened.{Opened}
+use Rattle.sync_exchange.specs.Counters.{rise_of}
+use Rattle.sync_exchange.specs.Laws.{response_ids, response_of}
+use Rattle.sync_exchange.specs.declared.peer.Accepted.{Accepted}
+use Rattle.sync_exchange.specs.declared.replay_counter.TheConstants.{DELTA_OCTETS}
+use Rattle.sync_exchange.specs.declared.sync_drop.SyncDrop.{SyncDrop}
+use Rattle.sync_exchange.specs.declared.sync_drop.SyncDrop.TheVariants as why
 use Rattle.turn_rules.proofs.Refusals.{stop-own}
 use Rattle.turn_rules.specs.Datagrams.{plain_datagram}
 use Rattle.turn_rules.specs.Draws.{counter_name, reach_of, refusal_of_stop}
 use Rattle.turn_rules.specs.Ends.{is_of_run}
 use Rattle.turn_rules.specs.Held.{Held}
-use Rattle.turn_rules.specs.MemberMessages.{HeldAnswers, ReadiesWithIv, RefusesThen, held_ike, member_listener, of_spii}
-use Rattle.turn_rules.specs.Messages.{AnswersRequest, DropsMessage, ExecutesRequest, GivesAgain, Listener, RefusesRequest, TakesArrival, TakesInner, TakesMessage, TakesOrdinary, held_for}
-use Rattle.turn_rules.specs.PeerMessages.{SlotAnswers, has_spis, peer_listener, slot_ike}
+use Rattle.turn_rules.specs.MemberMessages.{HeldAnswers, HeldTakesSync, ReadiesWithIv, RefusesThen, TakesSyncAnswer, TakesSyncOf, awaits_sync, held_ike, member_listener, of_spii}
+use Rattle.turn_rules.specs.Messages.{AnswersRequest, DropsMessage, ExecutesRequest, GivesAgain, Listener, RefusesRequest, TakesArrival, TakesInner, TakesMessage, held_for}
+use Rattle.turn_rules.specs.PeerMessages.{AcceptsSync, AnswersSync, SlotAnswers, SlotSynchronises, has_spis, peer_keys, peer_listener, slot_ike}
 use Rattle.turn_rules.specs.Slots.{Slot, first_slot, peer_counter}
 use Rattle.turn_rules.specs.Steps.{Says}
 use Rattle.turn_rules.proofs.KeySizes.{sized_sk_ei, sized_sk_er}
 use Rattle.run_ends.proofs.Holding.{IsOfEnd}
-use Rattle.run_ends.proofs.MessageBounds.{IsBrief, answer-few, sends_message-brief}
+use Rattle.run_ends.proofs.MessageBounds.{IsBrief, answer-few, sends_message-brief, synced-few}
 use Rattle.run_ends.proofs.ShortKept.{AreShort, HeldKeepsShort, KeepsShort, SlotsKeepShort, kept-short}
 use Rattle.run_ends.proofs.Verdicts.{IsProper, none-few, of-refusal, of-verdict, quiet-proper}
 use Rattle.run_ends.specs.Parties.{IsShort}
@@ -147,6 +153,54 @@ held-answered held request calls step a = readies-fold held counter.Answer reque
     (λ why few says. proper-answered calls step (says-proper calls step (refusal_of_stop why) (stop-own why) few says))
     (λ few. answers-answered (counter_name held.sa counter.Answer) (held_ike held) (sized_sk_er held.sa.size held.sa.keys held.sa.child held.sa.key_lengths) (five_at held.nexts counter.Iv) request calls step few)
     a
+
+-- ---- synchronisations
+
+-- what the peer does with a request to synchronise
+slot-synchronised : (slot : Slot) (request : Opened) (calls : List Call) (step : Step) → SlotSynchronises slot request calls step → IsAnswered calls step
+slot-synchronised slot request calls step does = by_answer does.answer does.answers
+  where
+    few : length calls ≤ 2
+    few = none-few calls does.no_calls
+
+    dropped-answered : (why : IkeDrop) → Says (out.DroppedIke why) step → IsAnswered calls step
+    dropped-answered why says = proper-answered calls step (quiet-proper calls step few (of-verdict step.verdict (out.DroppedIke why) (record { no_join = refl; heard = refl }) says.said) says.quiet)
+
+    accepts : (accepted : Accepted) → AcceptsSync slot request does.asked accepted step → IsAnswered calls step
+    accepts accepted a = record {
+      few = few;
+      said = of-verdict step.verdict (out.SyncAccepted (peer_counter slot.sa counter.Answer) accepted.p2 accepted.m2 (rise_of DELTA_OCTETS does.asked) (message_ids_of slot.asked)) (record { no_join = refl; heard = refl }) a.said;
+      brief = sends_message-brief (slot_ike slot) slot.iv (response_header (peer_keys slot.sa) request.header) (response_of (response_ids does.asked accepted)) step
+          (sized_sk_ei slot.sa.size slot.sa.keys slot.sa.child slot.sa.key_lengths) (synced-few (response_ids does.asked accepted)) a.responds;
+    }
+
+    by_answer : (answer : Result Accepted SyncDrop) → AnswersSync slot request does.asked answer step → IsAnswered calls step
+    by_answer (Ok accepted) may = ⊎_elim
+        (λ below. accepts accepted (may.within below))
+        (λ above. proper-answered calls step (says-proper calls step refusal.Exhausted refl few (may.ended above)))
+        (cases_lt slot.iv (end_of slot.sa counter.Iv))
+    by_answer (Err (why.NotAbove highest)) says = dropped-answered (drop.SyncOld highest) says
+    by_answer (Err why.Delta) says = dropped-answered drop.Delta says
+    by_answer (Err why.NotSync) says = absurd says
+    by_answer (Err why.Nonce) says = absurd says
+
+-- and a member with the response to one
+held-took : (fresh : List ℕ) (held : Held) (response : Opened) (calls : List Call) (step : Step) → HeldTakesSync fresh held response calls step → IsAnswered calls step
+held-took fresh held response calls step takes = by_attempt (awaits_sync held) takes.1
+  where
+    says-answered : (verdict : Verdict) → IsOfEnd verdict → Says verdict step → IsAnswered calls step
+    says-answered verdict own says = proper-answered calls step (quiet-proper calls step (none-few calls takes.0) (of-verdict step.verdict verdict own says.said) says.quiet)
+
+    by_answer : (answer : Result (ℕ × ℕ) SyncDrop) → TakesSyncAnswer held answer step → IsAnswered calls step
+    by_answer (Ok ids) says = says-answered (out.Synced (counter_name held.sa counter.Answer) ids.0 ids.1) (record { no_join = refl; heard = refl }) says
+    by_answer (Err why.Nonce) says = says-answered (out.DroppedIke drop.Nonce) (record { no_join = refl; heard = refl }) says
+    by_answer (Err why.NotSync) says = absurd says
+    by_answer (Err (why.NotAbove highest)) says = absurd says
+    by_answer (Err why.Delta) says = absurd says
+
+    by_attempt : (x : Option ℕ) → MatchOption x (Says (out.DroppedIke drop.NotAsked) step) (λ m1. TakesSyncOf fresh held m1 response step) → IsAnswered calls step
+    by_attempt None says = says-answered (out.DroppedIke drop.NotAsked) (record { no_join = refl; heard = refl }) says
+    by_attempt (Some m1) it = by_answer it.answer it.takes
 
 -- ---- responses that are kept
 
@@ -252,9 +306,10 @@ module _ (held_under : ℕ → ℕ → Option IkeHeld) (reader : End) (came : Li
 
 -- ---- what comes
 
--- a message is dropped or a response to a request of one's own, or what is kept is given again, or a new request is answered
+-- a message is dropped or a response to a request of one's own, or what is kept is given again, or a new request is answered, or both ends synchronise
 module _ {X P : Type 0} (listener : Listener X) (octets : List ℕ) (calls : List Call) (step : Step) (quiet : (verdict : Verdict) → IsOfEnd verdict → calls ≡ [] → Says verdict step → P)
-    (repeats : (id : ℕ) (again : List ℕ) → IsKept (λ spii spir. option_map listener.ike (listener.held_under spii spir)) again → calls ≡ [] → GivesAgain (out.Repeated id) again step → P) (answers : (x : X) (request : Opened) → listener.Answers x request calls step → P) where
+    (repeats : (id : ℕ) (again : List ℕ) → IsKept (λ spii spir. option_map listener.ike (listener.held_under spii spir)) again → calls ≡ [] → GivesAgain (out.Repeated id) again step → P) (answers : (x : X) (request : Opened) → listener.Answers x request calls step → P)
+    (synchronises : (x : X) (request : Opened) → listener.Synchronises x request calls step → P) (takes : (x : X) (response : Opened) → listener.TakesSync x response calls step → P) where
   abbrev ike_under : ℕ → ℕ → Option IkeHeld
   ike_under spii spir = option_map listener.ike (listener.held_under spii spir)
 
@@ -273,33 +328,18 @@ module _ {X P : Type 0} (listener : Listener X) (octets : List ℕ) (calls : Lis
   responded response None none t = absurd t
   responded response (Some held) none t = replied (listener.asks held) response.header.id response.inner none t
 
-  -- one that is no synchronisation
-  ordinary : (comes : Arrival) → ((id : ℕ) (datagram : _) → comes ≡ arrival.Repeat id datagram → IsKept ike_under datagram.octets.octets) → TakesOrdinary listener comes calls step → P
-  ordinary (arrival.Dropped why) are_kept t = dropped why t
-  ordinary (arrival.Repeat id datagram) are_kept t = repeats id datagram.octets.octets (are_kept id datagram refl) t.0 t.1
-  ordinary (arrival.New request) are_kept t = answered request (held_for listener request) t
-  ordinary (arrival.Response response) are_kept t = responded response (held_for listener response) t.0 t.1
-  ordinary (arrival.Resumption message) are_kept t = absurd t
-  ordinary (arrival.SyncResponse response) are_kept t = absurd t
-  ordinary (arrival.Synchronisation request) are_kept t = absurd t
+  synchronised : (request : Opened) (x : Option X) → MatchOption x ⊥ (λ held. listener.Synchronises held request calls step) → P
+  synchronised request None t = absurd t
+  synchronised request (Some held) t = synchronises held request t
 
-  not_taken : (request : Opened) (x : Option X) → held_for listener request ≡ x → MatchOption x ⊥ (λ held. (other : Arrival) × IsOrdinaryRequest (listener.ike held) request other × TakesOrdinary listener other calls step) → P
-  not_taken request None there t = absurd t
-  not_taken request (Some held) there t = ordinary t.0
-      (λ id datagram e. record {
-        held = listener.ike held;
-        spii = request.header.spii;
-        spir = request.header.spir;
-        id = request.header.id;
-        there = ap (option_map listener.ike) there;
-        here = ordinary-kept (listener.ike held) request (arrival.Repeat id datagram) datagram.octets.octets refl (λ why never. absurd (cc)) (λ never. absurd (cc)) (subst (IsOrdinaryRequest (listener.ike held) request) e t.1);
-      })
-      t.2
+  took : (response : Opened) (x : Option X) → MatchOption x ⊥ (λ held. listener.TakesSync held response calls step) → P
+  took response None t = absurd t
+  took response (Some held) t = takes held response t
 
   arrived : (comes : Arrival) → IsArrival ike_under listener.end octets comes → TakesArrival listener comes calls step → P
   arrived (arrival.Resumption message) is t = dropped (drop.Exchange IKE_SESSION_RESUME) t
-  arrived (arrival.SyncResponse response) is t = dropped drop.NotAsked t
-  arrived (arrival.Synchronisation request) is t = not_taken request (held_for listener request) refl t
+  arrived (arrival.SyncResponse response) is t = took response (held_for listener response) t
+  arrived (arrival.Synchronisation request) is t = synchronised request (held_for listener request) t
   arrived (arrival.Dropped why) is t = dropped why t
   arrived (arrival.New request) is t = answered request (held_for listener request) t
   arrived (arrival.Response response) is t = responded response (held_for listener response) t.0 t.1
@@ -319,15 +359,23 @@ abbrev ListensShort : {X : Type 0} → Listener X → Type 0
 ListensShort listener = (spii spir : ℕ) → IfSome (listener.held_under spii spir) (λ x. KeepsShort (listener.ike x).asked (listener.ike x).answered)
 
 module _ {X : Type 0} (listener : Listener X) (octets : List ℕ) (calls : List Call) (step : Step) where
-  message-said : ((x : X) (request : Opened) → listener.Answers x request calls step → IsAnswered calls step) → TakesMessage listener octets calls step → IsOfEnd step.verdict
-  message-said answers t = message-elim listener octets calls step
+  abbrev Answering : Type 0
+  Answering = (x : X) (request : Opened) → listener.Answers x request calls step → IsAnswered calls step
+
+  abbrev Synchronising : Type 0
+  Synchronising = ((x : X) (request : Opened) → listener.Synchronises x request calls step → IsAnswered calls step) × ((x : X) (response : Opened) → listener.TakesSync x response calls step → IsAnswered calls step)
+
+  message-said : Answering → Synchronising → TakesMessage listener octets calls step → IsOfEnd step.verdict
+  message-said answers syncs t = message-elim listener octets calls step
       (λ verdict own none says. of-verdict step.verdict verdict own says.said)
       (λ id again are_kept none g. of-verdict step.verdict (out.Repeated id) (record { no_join = refl; heard = refl }) g.said)
       (λ x request a. (answers x request a).said)
+      (λ x request a. (syncs.0 x request a).said)
+      (λ x response a. (syncs.1 x response a).said)
       t
 
-  message-answered : ListensShort listener → ((x : X) (request : Opened) → listener.Answers x request calls step → IsAnswered calls step) → TakesMessage listener octets calls step → IsAnswered calls step
-  message-answered short answers t = message-elim listener octets calls step
+  message-answered : ListensShort listener → Answering → Synchronising → TakesMessage listener octets calls step → IsAnswered calls step
+  message-answered short answers syncs t = message-elim listener octets calls step
       (λ verdict own none says. proper-answered calls step (quiet-proper calls step (none-few calls none) (of-verdict step.verdict verdict own says.said) says.quiet))
       (λ id again are_kept none g. record {
         few = none-few calls none;
@@ -335,18 +383,24 @@ module _ {X : Type 0} (listener : Listener X) (octets : List ℕ) (calls : List 
         brief = again-brief (out.Repeated id) again step (kept-short are_kept.id are_kept.held.answered.responses again
             (responses-short are_kept.held (listener.held_under are_kept.spii are_kept.spir) (short are_kept.spii are_kept.spir) are_kept.there) are_kept.here) g;
       })
-      answers t
+      answers syncs.0 syncs.1 t
     where
       responses-short : (held : IkeHeld) (x : Option X) → IfSome x (λ y. KeepsShort (listener.ike y).asked (listener.ike y).answered) → option_map listener.ike x ≡ Some held → AreShort held.answered.responses
       responses-short held None keeps there = absurd (cc)
       responses-short held (Some y) keeps there = let same : listener.ike y ≡ held = cc in subst (λ (h : IkeHeld). AreShort h.answered.responses) same keeps.of_answered
 
+peer-syncs : (calls : List Call) (step : Step) → ((slot : Slot) (request : Opened) → SlotSynchronises slot request calls step → IsAnswered calls step) × ((slot : Slot) (response : Opened) → ⊥ → IsAnswered calls step)
+peer-syncs calls step = (λ slot request. slot-synchronised slot request calls step, λ slot response never. absurd never)
+
+member-syncs : (fresh : List ℕ) (calls : List Call) (step : Step) → ((held : Held) (request : Opened) → ⊥ → IsAnswered calls step) × ((held : Held) (response : Opened) → HeldTakesSync fresh held response calls step → IsAnswered calls step)
+member-syncs fresh calls step = (λ held request never. absurd never, λ held response. held-took fresh held response calls step)
+
 -- at the peer, and at a member
 pub peer_message-said : (slots : List Slot) (octets : List ℕ) (calls : List Call) (step : Step) → TakesMessage (peer_listener slots) octets calls step → IsOfEnd step.verdict
-peer_message-said slots octets calls step = message-said (peer_listener slots) octets calls step (λ slot request. slot-answered slot request calls step)
+peer_message-said slots octets calls step = message-said (peer_listener slots) octets calls step (λ slot request. slot-answered slot request calls step) (peer-syncs calls step)
 
-pub member_message-said : (held : ℕ → Option Held) (octets : List ℕ) (calls : List Call) (step : Step) → TakesMessage (member_listener held) octets calls step → IsOfEnd step.verdict
-member_message-said held octets calls step = message-said (member_listener held) octets calls step (λ h request. held-answered h request calls step)
+pub member_message-said : (fresh : List ℕ) (held : ℕ → Option Held) (octets : List ℕ) (calls : List Call) (step : Step) → TakesMessage (member_listener fresh held) octets calls step → IsOfEnd step.verdict
+member_message-said fresh held octets calls step = message-said (member_listener fresh held) octets calls step (λ h request. held-answered h request calls step) (member-syncs fresh calls step)
 
 pub first-short : (test : Slot → Bool) (slots : List Slot) → SlotsKeepShort slots → IfSome (first_slot test slots) (λ slot. KeepsShort slot.asked slot.answered)
 first-short test [] all = tt
@@ -357,7 +411,7 @@ first-short test (slot ∷ slots) all = by_test (test slot) (first-short test sl
     by_test false later = later
 
 pub peer_message-answered : (slots : List Slot) (octets : List ℕ) (calls : List Call) (step : Step) → SlotsKeepShort slots → TakesMessage (peer_listener slots) octets calls step → IsAnswered calls step
-peer_message-answered slots octets calls step short = message-answered (peer_listener slots) octets calls step (λ spii spir. first-short (has_spis spii spir) slots short) (λ slot request. slot-answered slot request calls step)
+peer_message-answered slots octets calls step short = message-answered (peer_listener slots) octets calls step (λ spii spir. first-short (has_spis spii spir) slots short) (λ slot request. slot-answered slot request calls step) (peer-syncs calls step)
 
 spii-short : (spii : ℕ) (x : Option Held) → HeldKeepsShort x → HeldKeepsShort (of_spii spii x)
 spii-short spii None short = tt
@@ -367,5 +421,5 @@ spii-short spii (Some held) short = by_spii (held.sa.spii == spii)
     by_spii true = short
     by_spii false = tt
 
-pub member_message-answered : (held : ℕ → Option Held) (octets : List ℕ) (calls : List Call) (step : Step) → ((spir : ℕ) → HeldKeepsShort (held spir)) → TakesMessage (member_listener held) octets calls step → IsAnswered calls step
-member_message-answered held octets calls step short = message-answered (member_listener held) octets calls step (λ spii spir. spii-short spii (held spir) (short spir)) (λ h request. held-answered h request calls step)
+pub member_message-answered : (fresh : List ℕ) (held : ℕ → Option Held) (octets : List ℕ) (calls : List Call) (step : Step) → ((spir : ℕ) → HeldKeepsShort (held spir)) → TakesMessage (member_listener fresh held) octets calls step → IsAnswered calls step
+member_message-answered fresh held octets calls step short = message-answered (member_listener fresh held) octets calls step (λ spii spir. spii-short spii (held spir) (short spir)) (λ h request. held-answered h request calls step) (member-syncs fresh calls step)

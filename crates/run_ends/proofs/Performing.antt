@@ -16,6 +16,7 @@ use Rattle.events.specs.declared.verdict.Verdict.TheVariants as out
 use Rattle.ha_base.specs.declared.outside.Moment.{Moment}
 use Rattle.keeper_book.specs.declared.calls.Call.{Call}
 use Rattle.keeper_book.specs.declared.records.Record.{Record}
+use Rattle.turn_rules.specs.Configurations.{fresh_octets}
 use Rattle.turn_rules.specs.Datagrams.{PlainDatagram, arrives, delivery_of}
 use Rattle.turn_rules.specs.Deliveries.{MemberGets, PeerGets}
 use Rattle.turn_rules.specs.Draws.{EntersRecord}
@@ -30,12 +31,13 @@ use Rattle.run_ends.proofs.Holding.{IsOfEnd}
 use Rattle.run_ends.proofs.MessageBounds.{IsBrief}
 use Rattle.run_ends.proofs.Messages.{member_message-answered, member_message-said, peer_message-answered, peer_message-said}
 use Rattle.run_ends.proofs.ShortKept.{HeldKeepsShort, StateKeepsShort}
+use Rattle.run_ends.proofs.Syncing.{syncs-proper}
 use Rattle.run_ends.proofs.Verdicts.{IsProper, draws-proper, enters-proper, member_takes-proper, none-few, peer_sends-proper, peer_takes-proper, quiet-brief, sends-proper, takes-proper}
 
 -- what a datagram comes to, as an end words it
-pub member_gets-said : (m : Medium) (held : ℕ → Option Held) (octets : List ℕ) (calls : List Call) (step : Step) → MemberGets m held octets calls step → IsOfEnd step.verdict
-member_gets-said medium.Ike held octets calls step t = member_message-said held octets calls step t
-member_gets-said medium.Esp held octets calls step t = (member_takes-proper held octets calls step t).said
+pub member_gets-said : (m : Medium) (fresh : List ℕ) (held : ℕ → Option Held) (octets : List ℕ) (calls : List Call) (step : Step) → MemberGets m fresh held octets calls step → IsOfEnd step.verdict
+member_gets-said medium.Ike fresh held octets calls step t = member_message-said fresh held octets calls step t
+member_gets-said medium.Esp fresh held octets calls step t = (member_takes-proper held octets calls step t).said
 
 pub peer_gets-said : (m : Medium) (slots : List Slot) (octets : List ℕ) (calls : List Call) (step : Step) → PeerGets m slots octets calls step → IsOfEnd step.verdict
 peer_gets-said medium.Ike slots octets calls step t = peer_message-said slots octets calls step t
@@ -56,9 +58,9 @@ module _ (state : RunState) (short : StateKeepsShort state) (moment : Moment) (c
   imports-few sa true r = yields-few (out.Refused refusal.SpiInUse) r
   imports-few sa false quietly = proper-few (enters-proper sa calls step quietly)
 
-  member-few : (m : Medium) (held : ℕ → Option Held) (octets : List ℕ) → ((spir : ℕ) → HeldKeepsShort (held spir)) → MemberGets m held octets calls step → IsFew
-  member-few medium.Ike held octets keeps t = let a = member_message-answered held octets calls step keeps t in (a.few, a.brief)
-  member-few medium.Esp held octets keeps t = proper-few (member_takes-proper held octets calls step t)
+  member-few : (m : Medium) (fresh : List ℕ) (held : ℕ → Option Held) (octets : List ℕ) → ((spir : ℕ) → HeldKeepsShort (held spir)) → MemberGets m fresh held octets calls step → IsFew
+  member-few medium.Ike fresh held octets keeps t = let a = member_message-answered fresh held octets calls step keeps t in (a.few, a.brief)
+  member-few medium.Esp fresh held octets keeps t = proper-few (member_takes-proper held octets calls step t)
 
   peer-few : (m : Medium) (octets : List ℕ) → PeerGets m state.peer.slots octets calls step → IsFew
   peer-few medium.Ike octets t = let a = peer_message-answered state.peer.slots octets calls step short.of_peer t in (a.few, a.brief)
@@ -67,7 +69,7 @@ module _ (state : RunState) (short : StateKeepsShort state) (moment : Moment) (c
   receives-few : (to : Party) (found : Result PlainDatagram Refusal) → Receives state moment to found calls step → IsFew
   receives-few to (Err why) r = absurd r
   receives-few parties.Peer (Ok datagram) r = peer-few datagram.medium datagram.octets r
-  receives-few (parties.Member member) (Ok datagram) r = member-few datagram.medium (state.members member).held datagram.octets (short.of_members member) r
+  receives-few (parties.Member member) (Ok datagram) r = member-few datagram.medium (fresh_octets (state.members member).given) (state.members member).held datagram.octets (short.of_members member) r
 
   performs-few : (at : Event) → Fits (plain at) → Performs state moment at calls step → IsFew
   performs-few (event.Cluster identity lifetime window ticket_key) fits p = yields-few out.Configured p
@@ -86,6 +88,7 @@ module _ (state : RunState) (short : StateKeepsShort state) (moment : Moment) (c
       proper-few (asks-proper ((state.members member).held spir) request.octets calls step (fits_ask (parties.Member member) spir request fits) p)
   performs-few (event.Again parties.Peer spir id) fits p = (none-few calls p.0, (peer_resends-proper spir state.peer.slots id step short.of_peer p.1).brief)
   performs-few (event.Again (parties.Member member) spir id) fits p = proper-few (resends_of-proper ((state.members member).held spir) id calls step (short.of_members member spir) p)
+  performs-few (event.Sync member spir) fits p = proper-few (syncs-proper (fresh_octets (state.members member).given) ((state.members member).held spir) calls step p)
   performs-few (event.Deliver which to) fits p = receives-few to (arrives state.datagrams (event.Deliver which to)) p
   performs-few (event.Alter which to place octet) fits p = receives-few to (arrives state.datagrams (event.Alter which to place octet)) p
   performs-few (event.Cut which to keep) fits p = receives-few to (arrives state.datagrams (event.Cut which to keep)) p
@@ -117,6 +120,7 @@ module _ (state : RunState) (moment : Moment) (calls : List Call) (step : Step) 
   performs-alone (event.Ask (parties.Member member) spir request) fits none p = (asks-proper ((state.members member).held spir) request.octets calls step (fits_ask (parties.Member member) spir request fits) p).alone
   performs-alone (event.Again parties.Peer spir id) fits none p = peer_resends-alone spir state.peer.slots id step p.1
   performs-alone (event.Again (parties.Member member) spir id) fits none p = resends_of-alone ((state.members member).held spir) id calls step p
+  performs-alone (event.Sync member spir) fits none p = (syncs-proper (fresh_octets (state.members member).given) ((state.members member).held spir) calls step p).alone
   performs-alone (event.Deliver which to) fits none p = absurd (cc)
   performs-alone (event.Alter which to place octet) fits none p = absurd (cc)
   performs-alone (event.Cut which to keep) fits none p = absurd (cc)

@@ -21,13 +21,13 @@ use Rattle.keeper_book.specs.declared.calls.Call.{Call}
 use Rattle.keeper_book.specs.declared.keepers.Keeper.{Ghosts}
 use Rattle.keeper_book.specs.declared.records.Record.{Record}
 use Rattle.keeper_book.specs.Asks.{AsksFor}
-use Rattle.turn_rules.specs.Configurations.{Configuration, first_ticket_key, gateway_of}
+use Rattle.turn_rules.specs.Configurations.{Configuration, first_ticket_key, fresh_octets, gateway_of}
 use Rattle.turn_rules.specs.Datagrams.{PlainDatagram, arrives, datagrams_of, delivery_of}
 use Rattle.turn_rules.specs.Deliveries.{MemberGets, PeerGets}
 use Rattle.turn_rules.specs.Draws.{EntersRecord, TakesOver}
 use Rattle.turn_rules.specs.Fits.{DrawsOf, MAX_MEMBERS, Quietly, Receives, Refusing, SendsOf, is_importable, refused_arrival, refused_besides, refused_where, run_refusal}
 use Rattle.turn_rules.specs.Held.{held_at}
-use Rattle.turn_rules.specs.MemberMessages.{AsksOf, ResendsOf}
+use Rattle.turn_rules.specs.MemberMessages.{AsksOf, ResendsOf, SyncsOf}
 use Rattle.turn_rules.specs.PeerMessages.{PeerAsks, PeerResends}
 use Rattle.turn_rules.specs.Peers.{admits}
 use Rattle.turn_rules.specs.PeerStates.{PeerHeld, peer_after}
@@ -42,6 +42,7 @@ use Rattle.run_ends.proofs.Acting.{Brings, acts-plays, brings, does-performed, h
 use Rattle.run_ends.proofs.Holding.{Holds, configured-holds, crash-holds, entered-after, join-holds, not_entered-after, peer-holds}
 use Rattle.run_ends.proofs.Seats.{counted, ended-in_place, joined-in_place, seat_of}
 use Rattle.run_ends.proofs.Asking.{asks-proper, peer_asks-proper, peer_resends-said, resends_of-said}
+use Rattle.run_ends.proofs.Syncing.{syncs-proper}
 use Rattle.run_ends.proofs.Performing.{does-alone, member_gets-said, peer_gets-said}
 use Rattle.run_ends.proofs.Verdicts.{draws-proper, enters-proper, peer_sends-proper, sends-proper, takes-proper}
 use Rattle.run_ends.specs.Arrivals.{MemberTakesIn, PeerTakesIn}
@@ -95,6 +96,13 @@ module _ (past : List Turn) (s : EndsHeld) (moment : Moment) (member place : ℕ
       acts-plays past s moment (event.Again (parties.Member member) spir id) member refl room in_place place x is seat (record { by = λ v. refl; no_config = λ v. refl }) was now calls step new some refl refl
       (resends_of-said (held_at was.held spir) id calls step does) (subst (λ (y : Option Holder). ResendsOf ((member_seen y).held spir) id calls step) (sym its) does) after leaves
 
+  pub syncs : (spir : ℕ) (calls : List Call) (step : Step) → nat_le MAX_DATAGRAMS (length (datagrams_of past)) ≡ false → SyncsOf was.fresh (held_at was.held spir) calls step → IsAfter (task.Sync spir) calls step was now
+      → Plays past s moment (event.Sync member spir) calls step new
+  syncs spir calls step room does after =
+      acts-plays past s moment (event.Sync member spir) member refl room in_place place x is seat (record { by = λ v. refl; no_config = λ v. refl }) was now calls step new some refl refl
+      (syncs-proper was.fresh (held_at was.held spir) calls step does).said
+      (subst (λ (y : Option Holder). SyncsOf (fresh_octets (member_seen y).given) ((member_seen y).held spir) calls step) (sym its) does) after leaves
+
   -- what arrives is taken by a member
   pub takes : (at : Event) → DeliversTo at (parties.Member member) → nat_le MAX_DATAGRAMS (length (datagrams_of past)) ≡ false → (datagram : PlainDatagram) → arrives (datagrams_of past) at ≡ Ok datagram
       → (calls : List Call) (step : Step) → MemberTakesIn datagram.medium datagram.octets calls step was now → Plays past s moment at calls step new
@@ -102,10 +110,10 @@ module _ (past : List Turn) (s : EndsHeld) (moment : Moment) (member place : ℕ
       let facts : Brings at (parties.Member member) = brings at (parties.Member member) to in
       acts-plays past s moment at member facts.named (has-room (state_of past s) at room) in_place place x is seat (record { by = facts.by; no_config = facts.no_config }) was now calls step new some
       (facts.besides (state_of past s) ∙ ap refused_arrival found) (facts.no_end step.verdict)
-      (member_gets-said datagram.medium (held_at was.held) datagram.octets calls step it.0)
+      (member_gets-said datagram.medium was.fresh (held_at was.held) datagram.octets calls step it.0)
       (facts.performs (state_of past s) moment calls step
       (subst (λ r. Receives (state_of past s) moment (parties.Member member) r calls step) (sym found)
-      (subst (λ (y : Option Holder). MemberGets datagram.medium (member_seen y).held datagram.octets calls step) (sym its) it.0)))
+      (subst (λ (y : Option Holder). MemberGets datagram.medium (fresh_octets (member_seen y).given) (member_seen y).held datagram.octets calls step) (sym its) it.0)))
       (subst (λ t. IsAfter t calls step was now) (sym facts.member) it.1) leaves
 
 -- a member ends

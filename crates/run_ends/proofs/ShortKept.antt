@@ -1,5 +1,5 @@
 -- What the ends keep of requests and responses was given once, and so it is short.
-use Rattle.std.proofs.Common.{◌≡◌, ℕ, ◌==◌, ◌≤◌, ◌||◌, Bool, true, false, not, Option, Some, None, List, [], ◌∷◌, ◌++◌, filter, length, nat_le, option_to_list, subst, if◌then◌else◌}
+use Rattle.std.proofs.Common.{◌≡◌, ℕ, ◌==◌, ◌≤◌, ◌||◌, Bool, true, false, not, Option, Some, None, List, [], ◌∷◌, ◌++◌, filter, length, nat_le, option_to_list, subst, if◌then◌else◌, max}
 use Rattle.std.proofs.lemmas.Option.{same_Some}
 use Rattle.std.specs.List.{AllByRecursion}
 use Rattle.std.specs.Option.{option_map}
@@ -20,11 +20,12 @@ use Rattle.turn_rules.specs.Configurations.{Configuration, configured_in, fresh_
 use Rattle.turn_rules.specs.Datagrams.{PlainDatagram, datagrams_of, plain_datagram}
 use Rattle.turn_rules.specs.Ends.{Member, Peer, is_end, performer_at}
 use Rattle.turn_rules.specs.Held.{Held, advanced, first_some, grant_in, held_after, held_begun}
-use Rattle.turn_rules.specs.IkeState.{answered_after, kept_under, outstanding_after, replied_in, request_in, request_sent, response_in, response_to, taken_id, with_sent, without_replied}
+use Rattle.turn_rules.specs.IkeState.{answered_after, kept_under, outstanding_after, replied_in, request_in, request_sent, response_in, response_to, taken_id, with_sent, without_replied, with_taken}
 use Rattle.turn_rules.specs.Peers.{entered_at_task}
 use Rattle.turn_rules.specs.PeerStates.{peer_after, peer_configured}
 use Rattle.turn_rules.specs.Slots.{Slot, entered_slot, slots_after}
 use Rattle.turn_rules.specs.States.{RunState, ends, member_after, member_unless, state_by}
+use Rattle.turn_rules.specs.Synchronised.{Agreed, after_floor, agreed_in, ends_in}
 use Rattle.turn_rules.specs.Tasks as task
 use Rattle.turn_rules.specs.Tasks.{Task, member_task, peer_task}
 use Rattle.run_ends.proofs.MessageBounds.{IsBrief}
@@ -98,8 +99,9 @@ module _ (step : Step) (brief : IsBrief step) (spir : ℕ) where
   response-short task.Receive = to-short (taken_id spir step.verdict)
   response-short asked = tt
 
-outstanding-short : (sent : Option KeptMessage) (replied : Option ℕ) (asked : List KeptMessage) → MaybeShort sent → AreShort asked → AreShort (outstanding_after sent replied asked)
-outstanding-short sent replied asked one all = by_replied replied (by_sent sent one)
+outstanding-short : (ends : Bool) (sent : Option KeptMessage) (replied : Option ℕ) (asked : List KeptMessage) → MaybeShort sent → AreShort asked → AreShort (outstanding_after ends sent replied asked)
+outstanding-short true sent replied asked one all = tt
+outstanding-short false sent replied asked one all = by_replied replied (by_sent sent one)
   where
     by_sent : (x : Option KeptMessage) → MaybeShort x → AreShort (with_sent x asked)
     by_sent None one = all
@@ -109,17 +111,24 @@ outstanding-short sent replied asked one all = by_replied replied (by_sent sent 
     by_replied None all = all
     by_replied (Some id) all = filter-short (λ message. not (message.id == id)) (with_sent sent asked) all
 
-answered-short : (response : Option KeptMessage) (answered : ResponseWindow) → MaybeShort response → AreShort answered.responses → AreShort (answered_after response answered).responses
-answered-short None answered one all = all
-answered-short (Some response) answered one all =
+taken-short : (response : Option KeptMessage) (answered : ResponseWindow) → MaybeShort response → AreShort answered.responses → AreShort (with_taken response answered).responses
+taken-short None answered one all = all
+taken-short (Some response) answered one all =
     let kept = with_kept response answered.responses in
     filter-short (is_repeatable answered.floor (least_free answered.low kept)) kept (with_kept-short response answered.responses one all)
 
+floor-short : (agreed : Option Agreed) (answered : ResponseWindow) → AreShort answered.responses → AreShort (after_floor agreed answered).responses
+floor-short None answered all = all
+floor-short (Some agreed) answered all = filter-short (is_repeatable (max answered.floor agreed.floor) (least_free (max answered.low agreed.floor) answered.responses)) answered.responses all
+
+answered-short : (agreed : Option Agreed) (response : Option KeptMessage) (answered : ResponseWindow) → MaybeShort response → AreShort answered.responses → AreShort (answered_after agreed response answered).responses
+answered-short agreed response answered one all = taken-short response (after_floor agreed answered) one (floor-short agreed answered all)
+
 keeps-after : (step : Step) → IsBrief step → (spir : ℕ) (asked : Task) (requests : List KeptMessage) (answered : ResponseWindow) → KeepsShort requests answered
-    → KeepsShort (outstanding_after (request_in spir asked step) (replied_in spir asked step.verdict) requests) (answered_after (response_in spir asked step) answered)
+    → KeepsShort (outstanding_after (ends_in (agreed_in spir asked step.verdict)) (request_in spir asked step) (replied_in spir asked step.verdict) requests) (answered_after (agreed_in spir asked step.verdict) (response_in spir asked step) answered)
 keeps-after step brief spir asked requests answered short = record {
-  of_asked = outstanding-short (request_in spir asked step) (replied_in spir asked step.verdict) requests (request-short step brief spir asked) short.of_asked;
-  of_answered = answered-short (response_in spir asked step) answered (response-short step brief spir asked) short.of_answered;
+  of_asked = outstanding-short (ends_in (agreed_in spir asked step.verdict)) (request_in spir asked step) (replied_in spir asked step.verdict) requests (request-short step brief spir asked) short.of_asked;
+  of_answered = answered-short (agreed_in spir asked step.verdict) (response_in spir asked step) answered (response-short step brief spir asked) short.of_answered;
 }
 
 -- what the peer holds, and what a member holds

@@ -12,7 +12,8 @@ use Rattle.cluster_peer.specs.Slots.{IsPeerAfter, PeerWithRoom}
 -- an IKE message or an ESP packet is received by its rule
 abbrev pub MemberTakesIn : Medium → List ℕ → List Call → Step → Holder → Holder → Type 0
 MemberTakesIn medium octets calls step old new =
-    MemberGets medium (held_at old.held) octets calls step × IsAfter task.Receive calls step old new
+    MemberGets medium old.fresh (held_at old.held) octets calls step
+    × IsAfter task.Receive calls step old new
 
 abbrev pub PeerTakesIn : Medium → List ℕ → Step → PeerWithRoom → PeerWithRoom → Type 0
 PeerTakesIn medium octets step old new =

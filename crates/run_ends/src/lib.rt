@@ -9,5 +9,6 @@ mod parties;
 mod requests;
 mod sends;
 mod settings;
+mod synchronising;
 
 pub use ends::Ends;

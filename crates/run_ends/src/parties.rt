@@ -149,6 +149,7 @@ impl Parties {
                 request,
             } => return self.ask(keeper, trace, *from, *spir, request.as_slice()),
             Event::Again { from, spir, id } => return self.again(trace, *from, *spir, *id),
+            Event::Sync { member, spir } => return self.sync(keeper, trace, *member, *spir),
             Event::Deliver { to, .. } => {
                 return self.deliver(keeper, service, now, trace, *to, event);
             }

@@ -1,6 +1,6 @@
 -- A run begins with no turn, and an input has no more events than one may have.
-use Rattle.std.proofs.Common.{◌≡◌, ◌+◌, ◌≤◌, ℕ, List, [], length, ap, sym, ◌∙◌, subst, arith}
-use Rattle.event_text.specs.Input.{Contents, contents_of, left_contents}
+use Rattle.std.proofs.Common.{◌+◌, ◌≤◌, List, [], length, sym, subst, arith}
+use Rattle.event_text.specs.Input.{Contents, left_contents}
 use Rattle.event_text.specs.declared.input.TheConstants.{MAX_EVENTS}
 use Rattle.events.specs.declared.turn.Turn.{Turn}
 use Rattle.replay_world.proofs.FewEvents.{input-few}

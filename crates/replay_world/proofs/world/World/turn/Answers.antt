@@ -1,6 +1,5 @@
 -- What holds before and after a turn by the laws of whole runs.
-use Rattle.std.proofs.Common.{◌≡◌, ℕ, Option, List, ◌∷◌, ap, subst, sym, ◌∙◌}
-use Rattle.events.specs.declared.turn.Turn.{Turn}
+use Rattle.std.proofs.Common.{ap, subst}
 use Rattle.run_ends.specs.Runs.{Run}
 use Rattle.turn_rules.proofs.StateLaws.{local-explained}
 use Rattle.turn_rules.specs.Local.{Local}
@@ -8,7 +7,7 @@ use Rattle.replay_world.proofs.OwnedLaws.{local_before, owned_told, replaced_tol
 use Rattle.replay_world.proofs.world.World.turn.Goals as goal
 use Rattle.replay_world.specs.Worlds.{boxes_of, run_of}
 use Rattle.replay_world.proofs.Joins.{run-joins}
-use Rattle.replay_world.proofs.ServedLaws.{dropped, keeps-on, keeps-same, left-of, serve-newest}
+use Rattle.replay_world.proofs.ServedLaws.{keeps-on, keeps-same, left-of, serve-newest}
 
 pub returns-clause-owned_before : goal.returns-clause-owned_before
 returns-clause-owned_before g c =

@@ -6,10 +6,10 @@ use Rattle.events.specs.declared.event.Event.TheVariants as event
 use Rattle.events.specs.declared.verdict.Verdict.TheVariants as out
 use Rattle.cluster_member.specs.Members.{Holder}
 use Rattle.turn_rules.specs.Steps.{Says}
-use Rattle.run_ends.proofs.Acting.{down-plays}
+use Rattle.run_ends.proofs.Acting.{absent-plays, down-plays}
 use Rattle.run_ends.proofs.Plays.{crashes}
 use Rattle.run_ends.proofs.parties.Parties.crash.Goals as goal
-use Rattle.run_ends.specs.Parties.{EndsHeld}
+use Rattle.run_ends.specs.Parties.{EndsHeld, has_member}
 
 some-is : (x : Option Holder) → is_none x ≡ false → (was : Holder) × (x ≡ Some was)
 some-is None e = absurd (cc)
@@ -25,6 +25,13 @@ returns c = record {
       let was = some-is c.index.result.now up in
       crashes past c.args.self.now moment c.args.member c.in-Some.place c.index.result.now c.requires.in_place c.in-Some.ensures (rw members_are at c.index.ensures) was.0 was.1 c.quiet.result says _
       (ap (λ (v : EndsHeld). record v { members = set v.members c.in-Some.place None }) c.self.view_is);
+}
+
+pub returns-in_default : goal.returns-in_default
+returns-in_default c = record {
+  crashes = λ past moment.
+      let none : has_member c.args.member c.args.self.now.members ≡ false = search rules in
+      absent-plays past c.args.self.now moment (event.Crash c.args.member) c.args.member refl refl c.requires.in_place c.refused.result none c.refused.ensures;
 }
 
 none-is : (x : Option Holder) → is_none x ≡ true → x ≡ None

@@ -51,6 +51,9 @@ returns-in-Ask-clause-plays g c = if_ok-as c.ask.result (λ step. asked-as (λ c
 pub returns-in-Again-clause-plays : goal.returns-in-Again-clause-plays
 returns-in-Again-clause-plays g c = if_ok-as c.again.result (λ step it. asks_for_none g.K.Keeper c.args.keeper.now (rw c.in-Again.is (it c.args.now))) c.again.ensures.again
 
+pub returns-in-Sync-clause-plays : goal.returns-in-Sync-clause-plays
+returns-in-Sync-clause-plays g c = if_ok-as c.sync.result (λ step. asked-as (λ calls it. rw c.in-Sync.is (it c.args.now))) c.sync.ensures.syncs
+
 pub ask-requires-clause-size : goal.ask-requires-clause-size
 ask-requires-clause-size g c = let fits : Fits (plain (event.Ask c.in-Ask.from c.in-Ask.spir c.in-Ask.request)) = rw c.in-Ask.is at c.requires.fits in rw c.as_slice-in-Ask.ensures.value (fits_ask c.in-Ask.from c.in-Ask.spir c.in-Ask.request fits)
 
@@ -87,6 +90,9 @@ returns-in-Ask-clause-serves g c = if_ok-as c.ask.result (λ step asks. rw (play
 
 pub returns-in-Again-clause-serves : goal.returns-in-Again-clause-serves
 returns-in-Again-clause-serves g c = if_ok-as c.again.result (λ step asks. rw (plays-alone c.args.trace.now.past c.args.self.now c.args.now c.args.event.now asks.calls step _ c.requires.fits (rw c.in-Again.is refl) asks.follows) refl) (returns-in-Again-clause-plays g c)
+
+pub returns-in-Sync-clause-serves : goal.returns-in-Sync-clause-serves
+returns-in-Sync-clause-serves g c = if_ok-as c.sync.result (λ step asks. rw (plays-alone c.args.trace.now.past c.args.self.now c.args.now c.args.event.now asks.calls step _ c.requires.fits (rw c.in-Sync.is refl) asks.follows) refl) (returns-in-Sync-clause-plays g c)
 
 pub deliver-requires-clause-to : goal.deliver-requires-clause-to
 deliver-requires-clause-to g c = rw c.in-Deliver.is (_, refl)
