@@ -35,6 +35,7 @@ played_whole run fault input more text read p = record {
   local = p.local;
   own_turns = p.own_turns;
   below_ends = p.below_ends;
+  synchronised = p.synchronised;
   serves = p.serves;
   asks = p.asks;
   stands = p.stands;

@@ -17,6 +17,7 @@ use Rattle.run_ends.specs.Asked.{AsksAsSeen}
 use Rattle.run_ends.specs.Runs.{CausedSince, StandsTold}
 use Rattle.turn_laws.specs.OwnTurns.{OwnTurnsTell}
 use Rattle.turn_laws.specs.Replaced.{AreReplacedLater}
+use Rattle.turn_laws.specs.Synchronising.{LeavesGreater}
 use Rattle.turn_laws.specs.Turns.{AreBelowEnds}
 use Rattle.turn_rules.specs.Local.{Local, calls_of}
 use Rattle.turn_rules.specs.Safe.{Safe}
@@ -73,6 +74,8 @@ pub record IsPlayed (run : Handed) (input : List ℕ) (fault : Option InputFault
   pub own_turns : OwnTurnsTell run.boxes trace
   -- no number that was used reaches its counter's end
   pub below_ends : AreBelowEnds trace
+  -- synchronisations leave the greater counters, and no request below them is taken later
+  pub synchronised : LeavesGreater trace
   -- what was executed, the services may give
   pub serves : run.given trace
   -- the calls of its turns were asked of the keeper, in this order, and no others

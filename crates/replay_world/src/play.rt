@@ -19,7 +19,7 @@ use report_text::{write_head, write_turn};
 use std::alloc::Global;
 use turn_laws::{
     all_is_owned, no_number_past_its_end, own_turns_tell_states, replaced_by_later_epochs,
-    runs_are_safe,
+    runs_are_safe, synchronisations_leave_the_greater,
 };
 use word_text::write_end;
 
@@ -167,6 +167,7 @@ fn play_run<K: Keeper>(
     own_turns_tell_states();
     replaced_by_later_epochs();
     runs_are_safe();
+    synchronisations_leave_the_greater();
     let mut world = World::new(alloc, peer_service, services)?;
     let played = play(alloc, input, &mut world, keeper)?;
     Ok(played)

@@ -9,6 +9,7 @@ ghost use Rattle.run_ends.specs.Runs.{CausedSince, Grows, LackMemory, StandsTold
 ghost use Rattle.turn_laws.specs.OwnTurns.{OwnTurnsTell};
 ghost use Rattle.turn_laws.specs.Replaced.{AreReplacedLater};
 ghost use Rattle.turn_laws.specs.Serving.{KeepServices, LentFor};
+ghost use Rattle.turn_laws.specs.Synchronising.{LeavesGreater};
 ghost use Rattle.turn_laws.specs.Turns.{AreBelowEnds};
 ghost use Rattle.turn_rules.specs.Datagrams.{datagrams_of};
 ghost use Rattle.turn_rules.specs.Fits.{named_in};
@@ -26,7 +27,7 @@ use run_ends::Ends;
 use std::alloc::Global;
 use turn_laws::{
     all_is_owned, no_number_past_its_end, own_turns_tell_states, replaced_by_later_epochs,
-    runs_are_safe,
+    runs_are_safe, synchronisations_leave_the_greater,
 };
 
 /// A run: the ends and what they did, and the services that execute requests for them.
@@ -84,6 +85,7 @@ impl World {
         ensures local { Local (run_of self.new).boxes (run_of self.new).past }
         ensures own_turns { OwnTurnsTell (run_of self.new).boxes (run_of self.new).past }
         ensures below_ends { AreBelowEnds (run_of self.new).past }
+        ensures synchronised { LeavesGreater (run_of self.new).past }
         ensures stands { StandsTold (run_of self.old).past (K.book keeper.old.keeper)
             → OnOk result (StandsTold (run_of self.new).past (K.book keeper.new.keeper)) }
         ensures owned_before { StandsTold (run_of self.old).past (K.book keeper.old.keeper)
@@ -114,6 +116,7 @@ impl World {
         own_turns_tell_states();
         replaced_by_later_epochs();
         runs_are_safe();
+        synchronisations_leave_the_greater();
         self.play(keeper, now, event)?;
         let ended = self.last_ended();
         drop_service(&mut self.services, ended);

@@ -31,6 +31,11 @@ mod Sending
 mod Receiving
 mod Arrivals
 mod Pairs
+mod SyncMessages
+mod SyncTurns
+mod PeerSyncs
+mod MemberSyncs
+mod TakenFrom
 mod MemberRequests
 mod PeerRequests
 mod Explained

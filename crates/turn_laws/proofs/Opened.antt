@@ -69,10 +69,10 @@ apart-before (x ∷ xs) sa apart =
     split (y ∷ ys) all = let rest : AllByRecursion (Differ x) ys × Differ x sa = split ys all.1 in ((all.0, rest.0), rest.1)
 
 -- two of them with one responder's SPI are the same
-abbrev SameBySpir : Record → Record → Type 0
+abbrev pub SameBySpir : Record → Record → Type 0
 SameBySpir a b = a.spir ≡ b.spir → a ≡ b
 
-distinct-same : (xs : List Record) → AreDistinct xs → AllByRecursion (λ a. AllByRecursion (SameBySpir a) xs) xs
+pub distinct-same : (xs : List Record) → AreDistinct xs → AllByRecursion (λ a. AllByRecursion (SameBySpir a) xs) xs
 distinct-same [] apart = tt
 distinct-same (x ∷ xs) apart = (
   ((λ same. refl), all-weaker xs (λ y differ same. absurd (differ.spir same)) apart.0),

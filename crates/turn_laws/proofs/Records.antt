@@ -40,7 +40,7 @@ granted-spir test past records spir taken is = found-holds (λ t. t.sa.spir ≡ 
     (all-filter (λ (turn : Turn). AllByRecursion HasItsRecord turn.calls) test past records)) is
 
 -- what a member holds of an association is the association's
-own-spir : (size : ℕ) (past : List Turn) → HaveTheirRecords past → (member spir : ℕ) (held : Held) → held_by size (own (Member member) past) spir ≡ Some held → held.sa.spir ≡ spir
+pub own-spir : (size : ℕ) (past : List Turn) → HaveTheirRecords past → (member spir : ℕ) (held : Held) → held_by size (own (Member member) past) spir ≡ Some held → held.sa.spir ≡ spir
 own-spir size past records member spir held = go (found (grant_of spir) (own (Member member) past)) refl
   where
     go : (x : Option Taken) → found (grant_of spir) (own (Member member) past) ≡ x → option_map (holding size spir (own (Member member) past)) x ≡ Some held → held.sa.spir ≡ spir
@@ -64,7 +64,7 @@ module _ (past : List Turn) (event : Event) (step : Step) where
 deed-with : (boxes : ℕ) (past : List Turn) (turn : Turn) → HaveTheirRecords past → IsByRule boxes past turn → Explained boxes past → Deed past turn.event turn.calls turn.step
 deed-with boxes past turn records explained local = fits-deed boxes past (own-spir (window_by past) past records) turn.moment turn.calls turn.step turn.event (does-told boxes past turn explained local)
 
-local-records : (boxes : ℕ) (past : List Turn) → Explained boxes past → HaveTheirRecords past
+pub local-records : (boxes : ℕ) (past : List Turn) → Explained boxes past → HaveTheirRecords past
 local-records boxes [] local = tt
 local-records boxes (turn ∷ past) local =
     let records : HaveTheirRecords past = local-records boxes past local.1 in

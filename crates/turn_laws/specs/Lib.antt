@@ -12,4 +12,5 @@ pub mod Places
 pub mod Replaced
 pub mod Resumed
 pub mod Serving
+pub mod Synchronising
 pub mod Turns

@@ -1,6 +1,6 @@
 //! The laws of whole traces. Each is the contract of a function that does nothing.
 
-ghost use Rattle.std.specs.Prelude.{◌≡◌, ◌≢◌, ◌<◌, ◌≤◌, ℕ, Some, IsSome, List, ◌∷◌};
+ghost use Rattle.std.specs.Prelude.{◌≡◌, ◌≢◌, ◌<◌, ◌≤◌, ℕ, Some, IsSome, List, ◌∷◌, ◌++◌};
 ghost use Rattle.std.specs.List.{AllByRecursion, filter_map, flat_map};
 ghost use Rattle.events.specs.declared.turn.Turn.{Turn};
 ghost use Rattle.keeper_book.specs.Book.{Answers, Book};
@@ -24,6 +24,7 @@ ghost use Rattle.turn_laws.specs.PeerTurns.{told_theirs};
 ghost use Rattle.turn_laws.specs.Places.{Ours, Place, Theirs};
 ghost use Rattle.turn_laws.specs.Replaced.{AreReplacedLater};
 ghost use Rattle.turn_laws.specs.Serving.{ServesNamed};
+ghost use Rattle.turn_laws.specs.Synchronising.{LeavesGreater, MemberSynchronises, MemberTakesFrom, PeerSynchronises, PeerTakesFrom};
 ghost use Rattle.turn_laws.specs.Turns.{AreBelowEnds, AreOwned, acts_in, acts_of, told};
 ghost use Rattle.turn_rules.specs.Ends.{Member, Peer, own};
 ghost use Rattle.turn_rules.specs.Genuine.{AreAccepted};
@@ -177,6 +178,32 @@ pub fn answered_are_taken()
     ensures peer { (boxes : ℕ) (past : List Turn) → Explained boxes past → (sa : Record)
         → KeepsTaken (slot_by (window_by past) (own Peer past) sa).answered peer_task sa.spir
         (since_entered sa.spir (own Peer past)) }
+{}
+
+/// A synchronisation leaves the greater counters. Where the peer accepts a request, its floor is then
+/// the greater of what the request announces and one above the highest Message ID that it knew, and
+/// its own next Message ID the greater of what the request expects and its own; its ESP number rises
+/// by the delta, and its outstanding requests end. A member that accepts the response has the greater
+/// of its own next Message ID and floor and those of the response.
+pub fn greater_counters_are_left()
+    ensures peer { (boxes : ℕ) (past : List Turn) (turn : Turn) → Explained boxes (turn ∷ past)
+        → PeerSynchronises past turn }
+    ensures member { (boxes : ℕ) (past : List Turn) (turn : Turn) → Explained boxes (turn ∷ past)
+        → MemberSynchronises past turn }
+{}
+
+/// After a synchronisation no request below the new floor is taken in that association of the peer,
+/// or in that holding of the member.
+pub fn none_below_is_taken()
+    ensures peer { (boxes : ℕ) (later past : List Turn) (turn : Turn)
+        → Explained boxes (later ++ turn ∷ past) → PeerTakesFrom later turn }
+    ensures member { (boxes : ℕ) (later past : List Turn) (turn : Turn)
+        → Explained boxes (later ++ turn ∷ past) → MemberTakesFrom later turn }
+{}
+
+/// So it is of each synchronisation of a trace, and of the turns after it.
+pub fn synchronisations_leave_the_greater()
+    ensures { (boxes : ℕ) (past : List Turn) → Explained boxes past → LeavesGreater past }
 {}
 
 /// What a turn executes is executed for the end that its event names, which is up: a member that

@@ -19,6 +19,7 @@ returns-clause-played g c = if_ok-as c.play_run-played.result (λ played p.
       local = p.local;
       own_turns = p.own_turns;
       below_ends = p.below_ends;
+      synchronised = p.synchronised;
       serves = p.serves;
       asks = search rules;
       stands = search rules;

@@ -21,6 +21,7 @@ returns-clause-played g c =
       local = subst (λ n. Local n past) boxes p.local;
       own_turns = c.own_turns_tell_states.ensures _ past (local-explained _ past (subst (λ n. Local n past) boxes p.local));
       below_ends = c.no_number_past_its_end.ensures.uses c.play.new.world.ends.boxes past (local-explained c.play.new.world.ends.boxes past p.local);
+      synchronised = c.synchronisations_leave_the_greater.ensures c.play.new.world.ends.boxes past (local-explained c.play.new.world.ends.boxes past p.local);
       serves = given-run _ c.args.peer_service c.args.services.items c.requires.peer c.requires.services _ past _ (begun-on _ c.args.peer_service _ c.args.services.items _ c.in_ok-world.ensures.peer_service c.in_ok-world.ensures.services _ past _ p.serve);
       asks = p.asks _ (asks-nothing _ _);
       stands = p.stands;

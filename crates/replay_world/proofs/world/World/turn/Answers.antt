@@ -48,6 +48,12 @@ returns-clause-below_ends g c = c.no_number_past_its_end.ensures.uses c.play.new
 pub returns-in_err-play-clause-below_ends : goal.returns-in_err-play-clause-below_ends
 returns-in_err-play-clause-below_ends g c = c.no_number_past_its_end.ensures.uses c.play.new.self.ends.boxes c.play.new.self.ends.past (local-explained c.play.new.self.ends.boxes c.play.new.self.ends.past c.in_err-play.ensures.local)
 
+pub returns-clause-synchronised : goal.returns-clause-synchronised
+returns-clause-synchronised g c = c.synchronisations_leave_the_greater.ensures c.play.new.self.ends.boxes c.play.new.self.ends.past (local-explained c.play.new.self.ends.boxes c.play.new.self.ends.past c.in_ok-play.ensures.local)
+
+pub returns-in_err-play-clause-synchronised : goal.returns-in_err-play-clause-synchronised
+returns-in_err-play-clause-synchronised g c = c.synchronisations_leave_the_greater.ensures c.play.new.self.ends.boxes c.play.new.self.ends.past (local-explained c.play.new.self.ends.boxes c.play.new.self.ends.past c.in_err-play.ensures.local)
+
 pub returns-clause-replaced_later : goal.returns-clause-replaced_later
 returns-clause-replaced_later g c stands =
     let t = c.in_ok-play.ensures in
