@@ -6,6 +6,7 @@ use Rattle.ha_base.specs.declared.outside.Moment.{Moment}
 use Rattle.keeper_book.specs.Book.{Book}
 use Rattle.replay_world.specs.Owning.{OwnedTold}
 use Rattle.run_ends.specs.Runs.{Grows, Run, StandsTold}
+use Rattle.turn_laws.specs.CaughtUp.{AllCatchUp, NoneInvented}
 use Rattle.turn_laws.specs.Replaced.{AreReplacedLater}
 use Rattle.turn_laws.specs.Turns.{AreOwned}
 use Rattle.turn_rules.proofs.StateLaws.{local-explained}
@@ -22,6 +23,9 @@ AllIsOwned = (boxes : ℕ) (past : List Turn) (book : Book) → Explained boxes 
 abbrev pub CallsAreReplacedLater : Type 0
 CallsAreReplacedLater = (boxes : ℕ) (past : List Turn) (book : Book) → Explained boxes past → Stands past book → AreReplacedLater past
 
+abbrev pub SynchronisationsCatchUp : Type 0
+SynchronisationsCatchUp = (boxes : ℕ) (past : List Turn) (book : Book) → Explained boxes past → Stands past book → NoneInvented past → AllCatchUp past
+
 pub owned_told : AllIsOwned → (boxes : ℕ) (past : List Turn) (book : Option Book) → Local boxes past → StandsTold past book → OwnedTold past book
 owned_told law boxes past None local stands = absurd stands
 owned_told law boxes past (Some book) local stands = law boxes past book (local-explained boxes past local) stands
@@ -30,6 +34,12 @@ owned_told law boxes past (Some book) local stands = law boxes past book (local-
 pub replaced_told : CallsAreReplacedLater → (boxes : ℕ) (past : List Turn) (book : Option Book) → Local boxes past → StandsTold past book → AreReplacedLater past
 replaced_told law boxes past None local stands = absurd stands
 replaced_told law boxes past (Some book) local stands = law boxes past book (local-explained boxes past local) stands
+
+-- synchronisations catch up, by the law of whole runs
+pub caught_told : SynchronisationsCatchUp → (boxes : ℕ) (past : List Turn) (book : Option Book) → Local boxes past → StandsTold past book
+    → NoneInvented past → AllCatchUp past
+caught_told law boxes past None local stands = absurd stands
+caught_told law boxes past (Some book) local stands = law boxes past book (local-explained boxes past local) stands
 
 -- and what holds across the ends holds, by the law of whole runs
 pub safe_told : RunsAreSafe → (boxes : ℕ) (past : List Turn) (book : Option Book) → Local boxes past → StandsTold past book → Safe past

@@ -36,12 +36,14 @@ played_whole run fault input more text read p = record {
   own_turns = p.own_turns;
   below_ends = p.below_ends;
   synchronised = p.synchronised;
+  covers = p.covers;
   serves = p.serves;
   asks = p.asks;
   stands = p.stands;
   owned = p.owned;
   safe = p.safe;
   replaced_later = p.replaced_later;
+  catch_up = p.catch_up;
   caused = p.caused;
 }
 

@@ -15,6 +15,7 @@ use Rattle.keeper_book.specs.declared.keepers.Keeper.{Ghosts}
 use Rattle.replay_world.specs.Owning.{OwnedTold}
 use Rattle.run_ends.specs.Asked.{AsksAsSeen}
 use Rattle.run_ends.specs.Runs.{CausedSince, StandsTold}
+use Rattle.turn_laws.specs.CaughtUp.{AllCatchUp, CoversAreCaughtUp, NoneInvented}
 use Rattle.turn_laws.specs.OwnTurns.{OwnTurnsTell}
 use Rattle.turn_laws.specs.Replaced.{AreReplacedLater}
 use Rattle.turn_laws.specs.Synchronising.{LeavesGreater}
@@ -76,6 +77,9 @@ pub record IsPlayed (run : Handed) (input : List ℕ) (fault : Option InputFault
   pub below_ends : AreBelowEnds trace
   -- synchronisations leave the greater counters, and no request below them is taken later
   pub synchronised : LeavesGreater trace
+  -- where no packet that members opened was invented, covers of received ESP numbers, whatever was
+  -- answered, go less than one lead beyond what the peer sends next
+  pub covers : NoneInvented trace → CoversAreCaughtUp trace
   -- what was executed, the services may give
   pub serves : run.given trace
   -- the calls of its turns were asked of the keeper, in this order, and no others
@@ -88,5 +92,7 @@ pub record IsPlayed (run : Handed) (input : List ℕ) (fault : Option InputFault
   pub safe : StandsTold [] run.book → Safe trace
   -- and a cover that was answered `Replaced` was asked in an earlier epoch than the answer names
   pub replaced_later : StandsTold [] run.book → AreReplacedLater trace
+  -- and after a synchronisation with a whole lead the peer sends next what no holding is ahead of
+  pub catch_up : StandsTold [] run.book → NoneInvented trace → AllCatchUp trace
   -- a call failed only where the keeper's count of faults rose
   pub caused : CausedSince run.faults run.now_faults trace

@@ -18,8 +18,9 @@ use keeper_book::{Gate, Keeper};
 use report_text::{write_head, write_turn};
 use std::alloc::Global;
 use turn_laws::{
-    all_is_owned, no_number_past_its_end, own_turns_tell_states, replaced_by_later_epochs,
-    runs_are_safe, synchronisations_leave_the_greater,
+    all_is_owned, all_synchronisations_catch_up, covers_are_caught_up, no_number_past_its_end,
+    own_turns_tell_states, replaced_by_later_epochs, runs_are_safe,
+    synchronisations_leave_the_greater,
 };
 use word_text::write_end;
 
@@ -163,6 +164,8 @@ fn play_run<K: Keeper>(
         input.now played.fault played.report.octets) }
 {
     all_is_owned();
+    all_synchronisations_catch_up();
+    covers_are_caught_up();
     no_number_past_its_end();
     own_turns_tell_states();
     replaced_by_later_epochs();

@@ -6,6 +6,7 @@ ghost use Rattle.keeper_book.specs.Gates.{told_calls};
 ghost use Rattle.ha_base.specs.declared.services.TheConstants.{MOST_REQUESTS};
 ghost use Rattle.run_ends.specs.Asked.{AsksAsSeen, newest_calls};
 ghost use Rattle.run_ends.specs.Runs.{CausedSince, Grows, LackMemory, StandsTold, served_last};
+ghost use Rattle.turn_laws.specs.CaughtUp.{AllCatchUp, CoversAreCaughtUp, NoneInvented};
 ghost use Rattle.turn_laws.specs.OwnTurns.{OwnTurnsTell};
 ghost use Rattle.turn_laws.specs.Replaced.{AreReplacedLater};
 ghost use Rattle.turn_laws.specs.Serving.{KeepServices, LentFor};
@@ -26,8 +27,9 @@ use keeper_book::{Gate, Keeper};
 use run_ends::Ends;
 use std::alloc::Global;
 use turn_laws::{
-    all_is_owned, no_number_past_its_end, own_turns_tell_states, replaced_by_later_epochs,
-    runs_are_safe, synchronisations_leave_the_greater,
+    all_is_owned, all_synchronisations_catch_up, covers_are_caught_up, no_number_past_its_end,
+    own_turns_tell_states, replaced_by_later_epochs, runs_are_safe,
+    synchronisations_leave_the_greater,
 };
 
 /// A run: the ends and what they did, and the services that execute requests for them.
@@ -86,6 +88,8 @@ impl World {
         ensures own_turns { OwnTurnsTell (run_of self.new).boxes (run_of self.new).past }
         ensures below_ends { AreBelowEnds (run_of self.new).past }
         ensures synchronised { LeavesGreater (run_of self.new).past }
+        ensures covers { NoneInvented (run_of self.new).past
+            → CoversAreCaughtUp (run_of self.new).past }
         ensures stands { StandsTold (run_of self.old).past (K.book keeper.old.keeper)
             → OnOk result (StandsTold (run_of self.new).past (K.book keeper.new.keeper)) }
         ensures owned_before { StandsTold (run_of self.old).past (K.book keeper.old.keeper)
@@ -96,6 +100,9 @@ impl World {
             → OnOk result (Safe (run_of self.new).past) }
         ensures replaced_later { StandsTold (run_of self.old).past (K.book keeper.old.keeper)
             → OnOk result (AreReplacedLater (run_of self.new).past) }
+        ensures catch_up { StandsTold (run_of self.old).past (K.book keeper.old.keeper)
+            → OnOk result (NoneInvented (run_of self.new).past
+            → AllCatchUp (run_of self.new).past) }
         ensures caused { (start : ℕ) → CausedSince start (K.faults keeper.old.keeper)
             (run_of self.old).past
             → OnOk result (CausedSince start (K.faults keeper.new.keeper) (run_of self.new).past) }
@@ -112,6 +119,8 @@ impl World {
         ensures held { K.held keeper.new.keeper ≡ K.held keeper.old.keeper }
     {
         all_is_owned();
+        all_synchronisations_catch_up();
+        covers_are_caught_up();
         no_number_past_its_end();
         own_turns_tell_states();
         replaced_by_later_epochs();

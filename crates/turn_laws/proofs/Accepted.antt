@@ -19,7 +19,7 @@ use Rattle.turn_rules.specs.Safe.{IsEachOnce, Packet, Request, accepted_in, take
 
 module _ {X : Type 0} (P : X → Type 0) where
   -- what holds of two lists holds of each
-  all-parts : (xs ys : List X) → AllByRecursion P (xs ++ ys) → AllByRecursion P xs × AllByRecursion P ys
+  pub all-parts : (xs ys : List X) → AllByRecursion P (xs ++ ys) → AllByRecursion P xs × AllByRecursion P ys
   all-parts [] ys all = (tt, all)
   all-parts (x ∷ xs) ys all = let rest : AllByRecursion P xs × AllByRecursion P ys = all-parts xs ys all.1 in ((all.0, rest.0), rest.1)
 

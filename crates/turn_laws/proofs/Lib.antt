@@ -36,6 +36,8 @@ mod SyncTurns
 mod PeerSyncs
 mod MemberSyncs
 mod TakenFrom
+mod CoverTurns
+mod Caught
 mod MemberRequests
 mod PeerRequests
 mod Explained
@@ -61,6 +63,8 @@ mod Listed
 mod Called
 mod Replaced
 mod Receivers
+mod BookHighs
+mod CatchingUp
 pub mod Serving
 pub mod ServeRuns
 pub mod ServeTurns

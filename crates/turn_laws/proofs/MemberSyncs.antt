@@ -60,7 +60,8 @@ awaiting held attempt is = go held.synced refl is
     go false e is = (e, is)
 
 -- what a member holds after a turn of its own without a call
-pub held-own : (past : List Turn) (turn : Turn) (member spir : ℕ) (held : Held) → is_by (Member member) turn ≡ true → grant_in spir turn.calls ≡ None → MemberHolds past member spir held
+pub held-own : (past : List Turn) (turn : Turn) (member spir : ℕ) (held : Held) → is_by (Member member) turn ≡ true → grant_in spir turn.calls ≡ None
+    → MemberHolds past member spir held
     → MemberHolds (turn ∷ past) member spir (advanced spir (member_task turn.event) turn.calls turn.step held)
 held-own past turn member spir held mine none is =
     ap (λ (config : Configuration). held_by config.window (own (Member member) (turn ∷ past)) spir) (own-config (Member member) past turn mine)
@@ -83,7 +84,8 @@ module _ (fresh : List ℕ) (held_of : ℕ → Option Held) (octets : List ℕ) 
   agreed = record { next = t.counters.0; floor = t.counters.1; delta = 0; ends_requests = false }
 
   pub member-agreed : agreed_in spir task.Receive step.verdict ≡ Some agreed
-  member-agreed = ap (agreed_in spir task.Receive) t.says.said ∙ ap (λ b. if b then Some agreed else None) (its-counter held.sa (counter_name held.sa counter.Answer) refl)
+  member-agreed = ap (agreed_in spir task.Receive) t.says.said ∙ ap (λ b. if b then Some agreed else None)
+      (its-counter held.sa (counter_name held.sa counter.Answer) refl)
 
   abbrev after : Held
   after = advanced spir task.Receive calls step held
@@ -96,14 +98,16 @@ module _ (fresh : List ℕ) (held_of : ℕ → Option Held) (octets : List ℕ) 
 
   next-greater : five_at after.nexts counter.Ask ≡ t.counters.0
   next-greater =
-      let jumps : five_at after.nexts counter.Ask ≡ max t.counters.0 (five_at held.nexts counter.Ask) = ap (λ x. after_jump (next_in x) (five_at held.nexts counter.Ask)) member-agreed in
+      let jumps : five_at after.nexts counter.Ask ≡ max t.counters.0 (five_at held.nexts counter.Ask) =
+      ap (λ x. after_jump (next_in x) (five_at held.nexts counter.Ask)) member-agreed in
       let is : t.counters.0 ≡ max (five_at held.nexts counter.Ask) ids.receive = counters-next in
       omega (arith, jumps, is)
 
   floor-greater : after.answered.floor ≡ t.counters.1
   floor-greater =
       let raised : after.answered.floor ≡ max held.answered.floor t.counters.1 =
-      taken-floor (response_in spir task.Receive step) (after_floor (agreed_in spir task.Receive step.verdict) held.answered) ∙ ap (λ x. (after_floor x held.answered).floor) member-agreed in
+      taken-floor (response_in spir task.Receive step) (after_floor (agreed_in spir task.Receive step.verdict) held.answered) ∙ ap
+      (λ x. (after_floor x held.answered).floor) member-agreed in
       let is : t.counters.1 ≡ max held.answered.floor ids.send = counters-floor in
       omega (arith, raised, is)
 
@@ -115,7 +119,8 @@ module _ (boxes : ℕ) (past : List Turn) (turn : Turn) (explained : Explained b
   does : DoesTold boxes past turn
   does = does-told boxes past turn explained.0 explained.1
 
-  module _ (member : ℕ) (octets : List ℕ) (brings : Brings turn.event (parties.Member member)) (arrived : Arrives (told_state boxes past) turn.event octets) where
+  module _ (member : ℕ) (octets : List ℕ) (brings : Brings turn.event (parties.Member member))
+      (arrived : Arrives (told_state boxes past) turn.event octets) where
     abbrev mine : List Turn
     mine = own (Member member) past
 
@@ -135,12 +140,14 @@ module _ (boxes : ℕ) (past : List Turn) (turn : Turn) (explained : Explained b
     had-it t =
         let spir : ℕ = t.response.header.spir in
         let is_held : held_by (window_by past) mine spir ≡ Some t.held = own-held boxes past member spir t.held (was-held t) in
-        subst (λ k. held_by (window_by past) mine k ≡ Some t.held) (sym (own-spir (window_by past) past (local-records boxes past explained.1) member spir t.held is_held)) is_held
+        subst (λ k. held_by (window_by past) mine k ≡ Some t.held)
+        (sym (own-spir (window_by past) past (local-records boxes past explained.1) member spir t.held is_held)) is_held
 
     has-it : (t : Took) → MemberHolds (turn ∷ past) member t.held.sa.spir (advanced t.held.sa.spir task.Receive turn.calls turn.step t.held)
     has-it t =
         subst (λ asked. MemberHolds (turn ∷ past) member t.held.sa.spir (advanced t.held.sa.spir asked turn.calls turn.step t.held)) brings.member_receives
-        (held-own past turn member t.held.sa.spir t.held (ap (is_end (Member member)) by-it ∙ eq-eqb member member refl) (ap (grant_in t.held.sa.spir) t.no_calls) (had-it t))
+        (held-own past turn member t.held.sa.spir t.held (ap (is_end (Member member)) by-it ∙ eq-eqb member member refl)
+        (ap (grant_in t.held.sa.spir) t.no_calls) (had-it t))
 
     taken-by : Took → MemberSynchronised past turn name next floor
     taken-by t =
@@ -162,12 +169,17 @@ module _ (boxes : ℕ) (past : List Turn) (turn : Turn) (explained : Explained b
           came = record { octets = octets; arrived = arrived; message = t.response; opens = t.opens; inner = t.inner };
           answers = t.is.1;
           nonce = t.is.2 ∙ ap (λ fresh. sync_nonce fresh t.attempt)
-              (fresh-told (config_by past) (found fresh_at mine) (held_by (window_by past) mine t.response.header.spir) t.held (has_ended member past) (was-held t));
-          greater_next = next-greater fresh_of ((told_state boxes past).members member).held octets turn.calls turn.step t ∙ counters-next fresh_of ((told_state boxes past).members member).held octets turn.calls turn.step t;
-          greater_floor = floor-greater fresh_of ((told_state boxes past).members member).held octets turn.calls turn.step t ∙ counters-floor fresh_of ((told_state boxes past).members member).held octets turn.calls turn.step t;
+              (fresh-told (config_by past) (found fresh_at mine) (held_by (window_by past) mine t.response.header.spir) t.held (has_ended member past)
+              (was-held t));
+          greater_next = next-greater fresh_of ((told_state boxes past).members member).held octets turn.calls turn.step t ∙ counters-next fresh_of
+              ((told_state boxes past).members member).held octets turn.calls turn.step t;
+          greater_floor = floor-greater fresh_of ((told_state boxes past).members member).held octets turn.calls turn.step t ∙ counters-floor fresh_of
+              ((told_state boxes past).members member).held octets turn.calls turn.step t;
           synced = now-synced fresh_of ((told_state boxes past).members member).held octets turn.calls turn.step t;
-          next_said = let p : next ≡ t.counters.0 = cc in p ∙ sym (next-greater fresh_of ((told_state boxes past).members member).held octets turn.calls turn.step t);
-          floor_said = let p : floor ≡ t.counters.1 = cc in p ∙ sym (floor-greater fresh_of ((told_state boxes past).members member).held octets turn.calls turn.step t);
+          next_said = let p : next ≡ t.counters.0 = cc in p ∙ sym
+              (next-greater fresh_of ((told_state boxes past).members member).held octets turn.calls turn.step t);
+          floor_said = let p : floor ≡ t.counters.1 = cc in p ∙ sym
+              (floor-greater fresh_of ((told_state boxes past).members member).held octets turn.calls turn.step t);
         }
 
   pub member-synchronised : MemberSynchronised past turn name next floor

@@ -45,7 +45,8 @@ use Rattle.turn_rules.specs.Tasks.{Task, peer_task}
 -- ---- the slot of a responder's SPI
 
 -- where one test finds a slot that passes another one, that one finds some slot
-first-some : (test other : Slot → Bool) (slots : List Slot) (slot : Slot) → first_slot test slots ≡ Some slot → other slot ≡ true → (s : Slot) × (first_slot other slots ≡ Some s)
+first-some : (test other : Slot → Bool) (slots : List Slot) (slot : Slot) → first_slot test slots ≡ Some slot → other slot ≡ true
+    → (s : Slot) × (first_slot other slots ≡ Some s)
 first-some test other [] slot is passes = absurd (cc)
 first-some test other (s ∷ ss) slot is passes = by_other (λ found. first-some test other ss slot found passes) (other s) refl
   where
@@ -65,21 +66,27 @@ first-some test other (s ∷ ss) slot is passes = by_other (λ found. first-some
         (more.0, ap (λ b. if b then Some s else first_slot other ss) t ∙ more.1)
 
 -- two slots that are found for one association are the same
-pub one-slot : (boxes : ℕ) (past : List Turn) → Explained boxes past → (test other : Slot → Bool) (slot s : Slot) → first_slot test (slots_by (window_by past) (own Peer past)) ≡ Some slot
+pub one-slot : (boxes : ℕ) (past : List Turn) → Explained boxes past → (test other : Slot → Bool) (slot s : Slot)
+    → first_slot test (slots_by (window_by past) (own Peer past)) ≡ Some slot
     → first_slot other (slots_by (window_by past) (own Peer past)) ≡ Some s → slot.sa.spir ≡ s.sa.spir → slot ≡ s
 one-slot boxes past local test other slot s is found same =
     let mine : List Turn = own Peer past in
     let size : ℕ = window_by past in
     let all : AllByRecursion (λ a. AllByRecursion (SameBySpir a) (records (slots_by size mine))) (records (slots_by size mine)) =
-    subst (λ list. AllByRecursion (λ a. AllByRecursion (SameBySpir a) list) list) (sym (records-slots_by size mine)) (distinct-same (associations_by mine) (associations-apart boxes past local)) in
-    let sas : slot.sa ≡ s.sa = first-has (SameBySpir slot.sa) other (slots_by size mine) s (first-has (λ a. AllByRecursion (SameBySpir a) (records (slots_by size mine))) test (slots_by size mine) slot all is) found same in
+    subst (λ list. AllByRecursion (λ a. AllByRecursion (SameBySpir a) list) list) (sym (records-slots_by size mine))
+    (distinct-same (associations_by mine) (associations-apart boxes past local)) in
+    let sas : slot.sa ≡ s.sa =
+    first-has (SameBySpir slot.sa) other (slots_by size mine) s
+    (first-has (λ a. AllByRecursion (SameBySpir a) (records (slots_by size mine))) test (slots_by size mine) slot all is) found same in
     slot-told size mine test slot is ∙ (ap (slot_by size mine) sas ∙ sym (slot-told size mine other s found))
 
-pub first-spir : (boxes : ℕ) (past : List Turn) → Explained boxes past → (test : Slot → Bool) (slot : Slot) → first_slot test (slots_by (window_by past) (own Peer past)) ≡ Some slot → PeerHolds past slot.sa.spir slot
+pub first-spir : (boxes : ℕ) (past : List Turn) → Explained boxes past → (test : Slot → Bool) (slot : Slot)
+    → first_slot test (slots_by (window_by past) (own Peer past)) ≡ Some slot → PeerHolds past slot.sa.spir slot
 first-spir boxes past local test slot is =
     let some : (s : Slot) × (first_slot (has_spir slot.sa.spir) (slots_by (window_by past) (own Peer past)) ≡ Some s) =
     first-some test (has_spir slot.sa.spir) (slots_by (window_by past) (own Peer past)) slot is (eq-eqb slot.sa.spir slot.sa.spir refl) in
-    let spirs : some.0.sa.spir ≡ slot.sa.spir = eqb-true some.0.sa.spir slot.sa.spir (first-passes (has_spir slot.sa.spir) (slots_by (window_by past) (own Peer past)) some.0 some.1) in
+    let spirs : some.0.sa.spir ≡ slot.sa.spir =
+    eqb-true some.0.sa.spir slot.sa.spir (first-passes (has_spir slot.sa.spir) (slots_by (window_by past) (own Peer past)) some.0 some.1) in
     some.1 ∙ ap Some (sym (one-slot boxes past local test (has_spir slot.sa.spir) slot some.0 is some.1 (sym spirs)))
 
 -- what the peer holds of an association after one more turn of its own
@@ -100,14 +107,17 @@ first-after spir asked step more (s ∷ ss) slot is = by_test (first-after spir 
         ap (λ b. if b then Some (slot_after asked step s) else rest) t
         ∙ later (ap (λ b. if b then Some s else first_slot (has_spir spir) ss) (sym t) ∙ is)
 
-pub holds-own : (boxes : ℕ) (past : List Turn) (turn : Turn) → DoesTold boxes past turn → is_by Peer turn ≡ true → (spir : ℕ) (slot : Slot) → PeerHolds past spir slot
+pub holds-own : (boxes : ℕ) (past : List Turn) (turn : Turn) → DoesTold boxes past turn → is_by Peer turn ≡ true → (spir : ℕ) (slot : Slot)
+    → PeerHolds past spir slot
     → PeerHolds (turn ∷ past) spir (slot_after (peer_task turn.event) turn.step slot)
 holds-own boxes past turn does mine spir slot is =
     ap (first_slot (has_spir spir)) (slots-own boxes past turn does mine)
-    ∙ first-after spir (peer_task turn.event) turn.step (option_to_list (option_map (entered_slot (window_by past)) (entered_at_task (peer_task turn.event) turn.step.verdict)))
+    ∙ first-after spir (peer_task turn.event) turn.step (option_to_list
+    (option_map (entered_slot (window_by past)) (entered_at_task (peer_task turn.event) turn.step.verdict)))
     (slots_by (window_by past) (own Peer past)) slot is
 
-pub holds-other : (boxes : ℕ) (past : List Turn) (turn : Turn) → DoesTold boxes past turn → is_by Peer turn ≡ false → (spir : ℕ) (slot : Slot) → PeerHolds past spir slot → PeerHolds (turn ∷ past) spir slot
+pub holds-other : (boxes : ℕ) (past : List Turn) (turn : Turn) → DoesTold boxes past turn → is_by Peer turn ≡ false → (spir : ℕ) (slot : Slot)
+    → PeerHolds past spir slot → PeerHolds (turn ∷ past) spir slot
 holds-other boxes past turn does other spir slot is = ap (first_slot (has_spir spir)) (slots-other boxes past turn does other) ∙ is
 
 -- ---- the peer knows of no less than its floor
@@ -120,7 +130,8 @@ other-unsynced : (verdict : Verdict) → is_of_sync verdict ≡ false → is_syn
 other-unsynced (out.Synced name next floor) other = absurd (cc)
 other-unsynced verdict other = refl
 
-turn-unsynced : (boxes : ℕ) (past : List Turn) (turn : Turn) → performer turn ≡ Some Peer → SyncTurn (told_state boxes past) turn.event turn.calls turn.step → is_synced turn.step.verdict ≡ false
+turn-unsynced : (boxes : ℕ) (past : List Turn) (turn : Turn) → performer turn ≡ Some Peer → SyncTurn (told_state boxes past) turn.event turn.calls turn.step
+    → is_synced turn.step.verdict ≡ false
 turn-unsynced boxes past turn by (Other other) = other-unsynced turn.step.verdict other
 turn-unsynced boxes past turn by (Announced member spir held asks is_held sends) = ap is_synced sends.said
 turn-unsynced boxes past turn by (Accepted_here octets brings arrived accepted) = ap is_synced accepted.accepts.said
@@ -130,7 +141,8 @@ turn-unsynced boxes past turn by (Taken_here member octets brings arrived taken)
     not-both member (performer turn) mine by
 
 -- what the peer took on is known to it
-agreed-heard : (spir : ℕ) (asked : Task) (verdict : Verdict) → is_synced verdict ≡ false → (agreed : Agreed) → agreed_in spir asked verdict ≡ Some agreed → heard_in spir asked verdict ≡ Some agreed.floor
+agreed-heard : (spir : ℕ) (asked : Task) (verdict : Verdict) → is_synced verdict ≡ false → (agreed : Agreed) → agreed_in spir asked verdict ≡ Some agreed
+    → heard_in spir asked verdict ≡ Some agreed.floor
 agreed-heard spir task.Receive (out.SyncAccepted name p2 m2 delta unknown) peers agreed is = by_test (is_counter_of spir name) is
   where
     taken_on : Agreed
@@ -168,7 +180,8 @@ after-knows asked step peers slot known = go (agreed_in slot.sa.spir asked step.
     response : Option KeptMessage
     response = response_in slot.sa.spir asked step
 
-    go : (x : Option Agreed) → agreed_in slot.sa.spir asked step.verdict ≡ x → (answered_after (agreed_in slot.sa.spir asked step.verdict) response slot.answered).floor ≤ next_after (after_heard heard slot.highest)
+    go : (x : Option Agreed) → agreed_in slot.sa.spir asked step.verdict ≡ x
+        → (answered_after (agreed_in slot.sa.spir asked step.verdict) response slot.answered).floor ≤ next_after (after_heard heard slot.highest)
     go None e =
         let same : (answered_after (agreed_in slot.sa.spir asked step.verdict) response slot.answered).floor ≡ slot.answered.floor =
         taken-floor response (after_floor (agreed_in slot.sa.spir asked step.verdict) slot.answered) ∙ ap (λ x. (after_floor x slot.answered).floor) e in
@@ -179,7 +192,8 @@ after-knows asked step peers slot known = go (agreed_in slot.sa.spir asked step.
         taken-floor response (after_floor (agreed_in slot.sa.spir asked step.verdict) slot.answered) ∙ ap (λ x. (after_floor x slot.answered).floor) e in
         let is : heard ≡ Some agreed.floor = agreed-heard slot.sa.spir asked step.verdict peers agreed e in
         let knows : max slot.answered.floor agreed.floor ≤ next_after (after_heard heard slot.highest) =
-        subst (λ x. max slot.answered.floor agreed.floor ≤ next_after (after_heard x slot.highest)) (sym is) (heard-known agreed.floor slot.highest slot.answered.floor known) in
+        subst (λ x. max slot.answered.floor agreed.floor ≤ next_after (after_heard x slot.highest)) (sym is)
+        (heard-known agreed.floor slot.highest slot.answered.floor known) in
         omega (arith, same, knows)
 
 entered-knows : (size : ℕ) (sa : Record) → KnowsFloor (entered_slot size sa)
@@ -189,7 +203,8 @@ entered-knows size sa = go sa.starts.ask
     go zero = omega arith
     go (suc n) = omega arith
 
-all-after : (asked : Task) (step : Step) → is_synced step.verdict ≡ false → (slots : List Slot) → AllByRecursion KnowsFloor slots → AllByRecursion KnowsFloor (map (slot_after asked step) slots)
+all-after : (asked : Task) (step : Step) → is_synced step.verdict ≡ false → (slots : List Slot) → AllByRecursion KnowsFloor slots
+    → AllByRecursion KnowsFloor (map (slot_after asked step) slots)
 all-after asked step peers [] all = tt
 all-after asked step peers (slot ∷ slots) all = (after-knows asked step peers slot all.0, all-after asked step peers slots all.1)
 
@@ -204,10 +219,12 @@ floors-known boxes (turn ∷ past) local = by_test (floors-known boxes past loca
     entered None = tt
     entered (Some sa) = (entered-knows (window_by past) sa, tt)
 
-    by_test : AllByRecursion KnowsFloor (slots_by (window_by past) (own Peer past)) → (b : Bool) → is_by Peer turn ≡ b → AllByRecursion KnowsFloor (slots_by (window_by (turn ∷ past)) (own Peer (turn ∷ past)))
+    by_test : AllByRecursion KnowsFloor (slots_by (window_by past) (own Peer past)) → (b : Bool) → is_by Peer turn ≡ b
+        → AllByRecursion KnowsFloor (slots_by (window_by (turn ∷ past)) (own Peer (turn ∷ past)))
     by_test before true mine =
         let peers : is_synced turn.step.verdict ≡ false =
-        turn-unsynced boxes past turn (is_end-true Peer (performer turn) mine) (does-sync (told_state boxes past) turn.moment turn.calls turn.step turn.event does) in
+        turn-unsynced boxes past turn (is_end-true Peer (performer turn) mine)
+        (does-sync (told_state boxes past) turn.moment turn.calls turn.step turn.event does) in
         subst (λ slots. AllByRecursion KnowsFloor slots) (sym (slots-own boxes past turn does mine))
         (all-append KnowsFloor (map (slot_after (peer_task turn.event) turn.step) (slots_by (window_by past) (own Peer past)))
         (option_to_list (option_map (entered_slot (window_by past)) (entered_at_task (peer_task turn.event) turn.step.verdict)))
@@ -243,7 +260,8 @@ module _ (slots : List Slot) (octets : List ℕ) (step : Step) (a : AcceptedBy s
   agreed = record { next = a.accepted.p2; floor = a.accepted.m2; delta = rise; ends_requests = true }
 
   pub peer-agreed : agreed_in spir task.Receive step.verdict ≡ Some agreed
-  peer-agreed = ap (agreed_in spir task.Receive) a.accepts.said ∙ ap (λ b. if b then Some agreed else None) (its-counter slot.sa (peer_counter slot.sa counter.Answer) refl)
+  peer-agreed = ap (agreed_in spir task.Receive) a.accepts.said ∙ ap (λ b. if b then Some agreed else None)
+      (its-counter slot.sa (peer_counter slot.sa counter.Answer) refl)
 
   abbrev after : Slot
   after = slot_after task.Receive step slot
@@ -263,7 +281,8 @@ module _ (slots : List Slot) (octets : List ℕ) (step : Step) (a : AcceptedBy s
   floor-rises : KnowsFloor slot → after.answered.floor ≡ a.accepted.m2
   floor-rises known =
       let raised : after.answered.floor ≡ max slot.answered.floor a.accepted.m2 =
-      taken-floor (response_in spir task.Receive step) (after_floor (agreed_in spir task.Receive step.verdict) slot.answered) ∙ ap (λ x. (after_floor x slot.answered).floor) peer-agreed in
+      taken-floor (response_in spir task.Receive step) (after_floor (agreed_in spir task.Receive step.verdict) slot.answered) ∙ ap
+      (λ x. (after_floor x slot.answered).floor) peer-agreed in
       let is : a.accepted.m2 ≡ max a.asked.m1 (next_after slot.highest) = m2-is in
       omega (arith, raised, is, known)
 
@@ -285,11 +304,17 @@ module _ (boxes : ℕ) (past : List Turn) (turn : Turn) (explained : Explained b
   accepted-by : (octets : List ℕ) → Brings turn.event parties.Peer → Arrives (told_state boxes past) turn.event octets
       → AcceptedBy (slots_by (window_by past) (own Peer past)) octets turn.step → PeerSynchronised past turn name p2 m2 delta unknown
   accepted-by octets brings arrived a =
-      let by : performer turn ≡ Some Peer = (let run : is_refused_by_run turn.step.verdict ≡ false = ap is_refused_by_run said in rw run (brings.performs turn.step.verdict)) in
-      let had : PeerHolds past a.slot.sa.spir a.slot = first-spir boxes past explained.1 (has_spis a.request.header.spii a.request.header.spir) a.slot a.found in
-      let has : PeerHolds (turn ∷ past) a.slot.sa.spir (slot_after (peer_task turn.event) turn.step a.slot) = holds-own boxes past turn does (ap (is_end Peer) by) a.slot.sa.spir a.slot had in
-      let known : KnowsFloor a.slot = first-all KnowsFloor (has_spir a.slot.sa.spir) (slots_by (window_by past) (own Peer past)) a.slot (floors-known boxes past explained.1) had in
-      let same : out.SyncAccepted name p2 m2 delta unknown ≡ out.SyncAccepted (peer_counter a.slot.sa counter.Answer) a.accepted.p2 a.accepted.m2 (rise_of DELTA_OCTETS a.asked) (message_ids_of a.slot.asked) = sym said ∙ a.accepts.said in
+      let by : performer turn ≡ Some Peer =
+      (let run : is_refused_by_run turn.step.verdict ≡ false = ap is_refused_by_run said in rw run (brings.performs turn.step.verdict)) in
+      let had : PeerHolds past a.slot.sa.spir a.slot =
+      first-spir boxes past explained.1 (has_spis a.request.header.spii a.request.header.spir) a.slot a.found in
+      let has : PeerHolds (turn ∷ past) a.slot.sa.spir (slot_after (peer_task turn.event) turn.step a.slot) =
+      holds-own boxes past turn does (ap (is_end Peer) by) a.slot.sa.spir a.slot had in
+      let known : KnowsFloor a.slot =
+      first-all KnowsFloor (has_spir a.slot.sa.spir) (slots_by (window_by past) (own Peer past)) a.slot (floors-known boxes past explained.1) had in
+      let same : out.SyncAccepted name p2 m2 delta unknown ≡ out.SyncAccepted (peer_counter a.slot.sa counter.Answer) a.accepted.p2 a.accepted.m2
+      (rise_of DELTA_OCTETS a.asked) (message_ids_of a.slot.asked) =
+      sym said ∙ a.accepts.said in
       record {
         before = a.slot;
         after = slot_after task.Receive turn.step a.slot;

@@ -33,7 +33,7 @@ use Rattle.turn_rules.specs.Held.{Held, first_some, found, grant_of, granted, he
 use Rattle.turn_rules.specs.Local.{Explained, Stands}
 
 -- the record of an association stays, and no two are found at one SPI
-abbrev AreApart : (ℕ → Option Record) → Type 0
+abbrev pub AreApart : (ℕ → Option Record) → Type 0
 AreApart record_at = (a b : ℕ) (r s : Record) → record_at a ≡ Some r → record_at b ≡ Some s → r.spi_in ≡ s.spi_in → a ≡ b
 
 -- an association that is new shares no SPI with one that the book has
@@ -130,10 +130,10 @@ module _ (old : Book) where
       by_test false t = grant-answered new spir taken call.asked call.answer enters (sym (ap (λ b. granted spir call.asked (if b then answer.Refused fault.Failed else call.answer)) t) ∙ is)
 
 -- what was granted is in the book
-abbrev IsInBook : Book → Call → Type 0
+abbrev pub IsInBook : Book → Call → Type 0
 IsInBook book call = (spir : ℕ) (taken : Taken) → granted spir call.asked (seen call) ≡ Some taken → record_of book spir ≡ Some taken.sa
 
-record Recorded (acts : List Act) (book : Book) : Type 0 where
+pub record Recorded (acts : List Act) (book : Book) : Type 0 where
   pub apart : AreApart (record_of book)
   pub grants : HoldOfCalls (IsInBook book) acts
 
@@ -177,7 +177,7 @@ lawful-recorded (act ∷ acts) book lawful = by_move act.move refl lawful.3 (law
     by_move Ends is writes before = still Ends is tt (λ spir. ap (λ (b : Book). record_of b spir) (subst (λ move. WritesBook lawful.0 move book) is writes)) before
 
 module _ (boxes : ℕ) (past : List Turn) (book : Book) (local : Explained boxes past) (stands : Stands past book) where
-  recorded : Recorded (acts_of past) book
+  pub recorded : Recorded (acts_of past) book
   recorded = lawful-recorded (acts_of past) book (lawful-run boxes past book local stands)
 
   -- what a member holds is a record of the book

@@ -98,7 +98,8 @@ module _ (held : IkeHeld) (opened : Opened) (comes : Arrival) where
 
 -- a message opens under the keys of what is held under its SPIs
 abbrev OpensUnder : (ℕ → ℕ → Option IkeHeld) → List ℕ → Opened → Type 0
-OpensUnder held_under octets opened = (held : IkeHeld) × (held_under opened.header.spii opened.header.spir ≡ Some held) × IsOpening held.keys.receiving.octets octets (Ok opened)
+OpensUnder held_under octets opened = (held : IkeHeld) × (held_under opened.header.spii opened.header.spir ≡ Some held)
+    × IsOpening held.keys.receiving.octets octets (Ok opened)
 
 -- so does one of a synchronisation
 abbrev SyncOpens : (ℕ → ℕ → Option IkeHeld) → List ℕ → Arrival → Type 0
@@ -118,10 +119,12 @@ module _ (held_under : ℕ → ℕ → Option IkeHeld) (octets : List ℕ) (come
       go (arrival.SyncResponse response) same = subst (λ r. OpensUnder held_under octets r) (sym same) opens
       go x is = tt
 
-  at-sync : (held : IkeHeld) (message : Message) → held_under message.header.spii message.header.spir ≡ Some held → IsArrivalAt held octets message comes → SyncOpens held_under octets comes
+  at-sync : (held : IkeHeld) (message : Message) → held_under message.header.spii message.header.spir ≡ Some held → IsArrivalAt held octets message comes
+      → SyncOpens held_under octets comes
   at-sync held message found is = ⊎_elim
       (λ none. no-sync (arrival.Dropped drop.NotOpened) tt none.1)
-      (λ got. under-sync got.0 (held, subst (λ header. held_under header.spii header.spir ≡ Some held) (sym got.2) found, got.1) (opened-sync held got.0 comes got.3))
+      (λ got. under-sync got.0 (held, subst (λ header. held_under header.spii header.spir ≡ Some held) (sym got.2) found, got.1)
+      (opened-sync held got.0 comes got.3))
       is
 
   message-sync : (side : End) (message : Message) → IsMessageArrival held_under side octets message comes → SyncOpens held_under octets comes
@@ -132,7 +135,8 @@ module _ (held_under : ℕ → ℕ → Option IkeHeld) (octets : List ℕ) (come
       (λ b. by_bool (is_sealed message) (found (held_under message.header.spii message.header.spir) refl)
       (λ e. no-sync (arrival.Dropped (drop.Exchange message.header.exchange)) tt e) b) a) is
     where
-      found : (x : Option IkeHeld) → held_under message.header.spii message.header.spir ≡ x → MatchOption x (comes ≡ arrival.Dropped drop.UnknownSpi) (λ held. IsArrivalAt held octets message comes) → SyncOpens held_under octets comes
+      found : (x : Option IkeHeld) → held_under message.header.spii message.header.spir ≡ x
+          → MatchOption x (comes ≡ arrival.Dropped drop.UnknownSpi) (λ held. IsArrivalAt held octets message comes) → SyncOpens held_under octets comes
       found None e is = no-sync (arrival.Dropped drop.UnknownSpi) tt is
       found (Some held) e is = at-sync held message e is
 
@@ -163,12 +167,20 @@ module _ {X : Type 0} (listener : Listener X) (octets : List ℕ) (calls : List 
   abbrev under : ℕ → ℕ → Option IkeHeld
   under spii spir = option_map listener.ike (listener.held_under spii spir)
 
-  taken-there : (takes : X → Opened → Type 0) (message : Opened) → OpensUnder under octets message → (x : Option X) → held_for listener message ≡ x → MatchOption x ⊥ (λ there. takes there message)
+  taken-there : (takes : X → Opened → Type 0) (message : Opened) → OpensUnder under octets message → (x : Option X) → held_for listener message ≡ x
+      → MatchOption x ⊥ (λ there. takes there message)
       → TakenThere listener octets takes
   taken-there takes message opens None e does = absurd does
   taken-there takes message opens (Some there) e does =
       let same : listener.ike there ≡ opens.0 = same_Some (listener.ike there) opens.0 (sym (ap (option_map listener.ike) e) ∙ opens.1) in
-      record { there = there; message = message; found = e; opens = subst (λ (h : IkeHeld). IsOpening h.keys.receiving.octets octets (Ok message)) (sym same) opens.2; does = does }
+      record {
+        there = there;
+        message = message;
+        found = e;
+        opens = subst (λ (h : IkeHeld). IsOpening h.keys.receiving.octets octets (Ok message))
+            (sym same) opens.2;
+        does = does;
+      }
 
   new-answered : (request : Opened) (x : Option X) → MatchOption x ⊥ (λ there. listener.Answers there request calls step) → Heard listener octets calls step
   new-answered request None does = absurd does
@@ -178,7 +190,8 @@ module _ {X : Type 0} (listener : Listener X) (octets : List ℕ) (calls : List 
   inner-said name id (Ok payloads) takes = ap is_of_sync takes.says.said
   inner-said name id (Err bad) takes = absurd takes
 
-  response-said : (response : Opened) (x : Option X) → MatchOption x ⊥ (λ there. TakesInner (listener.asks there) response.header.id response.inner step) → IsOther step
+  response-said : (response : Opened) (x : Option X) → MatchOption x ⊥ (λ there. TakesInner (listener.asks there) response.header.id response.inner step)
+      → IsOther step
   response-said response None does = absurd does
   response-said response (Some there) does = inner-said (listener.asks there) response.header.id response.inner does
 
@@ -200,7 +213,8 @@ module _ {X : Type 0} (listener : Listener X) (octets : List ℕ) (calls : List 
 request-said : (name : CounterName) (held : IkeHeld) (iv : ℕ) (request : Opened) (step : Step) → AnswersRequest name held iv request step → IsOther step
 request-said name held iv request step answers = go (error_of request) answers
   where
-    go : (x : Option RequestError) → MatchOption x (ExecutesRequest name held iv request step) (λ error. RefusesRequest name held iv request error step) → IsOther step
+    go : (x : Option RequestError) → MatchOption x (ExecutesRequest name held iv request step) (λ error. RefusesRequest name held iv request error step)
+        → IsOther step
     go None executes = ap is_of_sync executes.said
     go (Some error) refuses = ap is_of_sync refuses.said
 
@@ -237,9 +251,22 @@ module _ (slots : List Slot) (octets : List ℕ) (calls : List Call) (step : Ste
       asked : SyncRequest
       asked = taken.does.asked
 
-      go : (answer : Result Accepted SyncDrop) → IsPeerAnswer (sync_state slot) asked answer → AnswersSync slot taken.message asked answer step → IsOther step ⊎ AcceptedBy slots octets step
+      go : (answer : Result Accepted SyncDrop) → IsPeerAnswer (sync_state slot) asked answer → AnswersSync slot taken.message asked answer step
+          → IsOther step ⊎ AcceptedBy slots octets step
       go (Ok accepted) is may = ⊎_elim
-          (λ below. inr (record { slot = slot; request = taken.message; found = taken.found; opens = taken.opens; payloads = taken.does.payloads; inner = taken.does.inner; asked = asked; reads = taken.does.reads; accepted = accepted; is = is; accepts = may.within below }))
+          (λ below. inr (record {
+            slot = slot;
+            request = taken.message;
+            found = taken.found;
+            opens = taken.opens;
+            payloads = taken.does.payloads;
+            inner = taken.does.inner;
+            asked = asked;
+            reads = taken.does.reads;
+            accepted = accepted;
+            is = is;
+            accepts = may.within below;
+          }))
           (λ ended. inl (ap is_of_sync (may.ended ended).said))
           (cases_lt slot.iv (end_of slot.sa counter.Iv))
       go (Err (why.NotAbove highest)) is says = inl (ap is_of_sync says.said)
@@ -258,9 +285,11 @@ module _ (slots : List Slot) (octets : List ℕ) (calls : List Call) (step : Ste
       go (Response_heard taken) = absurd taken.does
 
 -- where numbers get ready first, it is said in what is done then
-pub readies-said : (held : Held) (c : Counter) (at : ℕ) (step : Step) (done : Type 0) → (done → IsOther step) → (calls : List Call) → ReadiesWithIv held c at calls step done → IsOther step
+pub readies-said : (held : Held) (c : Counter) (at : ℕ) (step : Step) (done : Type 0) → (done → IsOther step) → (calls : List Call)
+    → ReadiesWithIv held c at calls step done → IsOther step
 readies-said held c at step done said calls ready =
-    ready-calls (λ calls. IsOther step) (reach_of held c) at Stopped (λ high rest. Ready (reach_of held counter.Iv) iv rest Stopped (λ high rest. (rest ≡ []) × done))
+    ready-calls (λ calls. IsOther step) (reach_of held c) at Stopped
+    (λ high rest. Ready (reach_of held counter.Iv) iv rest Stopped (λ high rest. (rest ≡ []) × done))
     (λ call rest asked is. is)
     (λ reason rest s. ap is_of_sync s.1.said)
     (λ high rest more. ready-calls (λ calls. IsOther step) (reach_of held counter.Iv) iv Stopped (λ high rest. (rest ≡ []) × done)
@@ -295,22 +324,40 @@ module _ (fresh : List ℕ) (held_of : ℕ → Option Held) (octets : List ℕ) 
   abbrev members : Listener Held
   members = member_listener fresh held_of
 
-  held-heard : TakenThere members octets (λ held response. HeldTakesSync fresh held response calls step) → IsOther step ⊎ TakenBy fresh held_of octets calls step
+  held-heard : TakenThere members octets (λ held response. HeldTakesSync fresh held response calls step)
+      → IsOther step ⊎ TakenBy fresh held_of octets calls step
   held-heard taken = awaits (awaits_sync held) refl taken.does.1
     where
       held : Held
       held = taken.there
 
-      go : (attempt : ℕ) → awaits_sync held ≡ Some attempt → (payloads : List PayloadValue) → taken.message.inner ≡ Ok payloads → (answer : Result (ℕ × ℕ) SyncDrop)
-          → IsMemberAnswer (five_at held.nexts counter.Ask) held.answered.floor (sync_nonce fresh attempt) payloads answer → TakesSyncAnswer held answer step → IsOther step ⊎ TakenBy fresh held_of octets calls step
+      go : (attempt : ℕ) → awaits_sync held ≡ Some attempt → (payloads : List PayloadValue) → taken.message.inner ≡ Ok payloads
+          → (answer : Result (ℕ × ℕ) SyncDrop)
+          → IsMemberAnswer (five_at held.nexts counter.Ask) held.answered.floor (sync_nonce fresh attempt) payloads answer → TakesSyncAnswer held answer step
+          → IsOther step ⊎ TakenBy fresh held_of octets calls step
       go attempt e payloads inner (Ok counters) is says =
-          inr (record { held = held; response = taken.message; found = taken.found; opens = taken.opens; no_calls = taken.does.0; attempt = attempt; awaited = e; payloads = payloads; inner = inner; counters = counters; is = is; says = says })
+          inr (record {
+            held = held;
+            response = taken.message;
+            found = taken.found;
+            opens = taken.opens;
+            no_calls = taken.does.0;
+            attempt = attempt;
+            awaited = e;
+            payloads = payloads;
+            inner = inner;
+            counters = counters;
+            is = is;
+            says = says;
+          })
       go attempt e payloads inner (Err why.Nonce) is says = inl (ap is_of_sync says.said)
       go attempt e payloads inner (Err (why.NotAbove highest)) is says = absurd says
       go attempt e payloads inner (Err why.Delta) is says = absurd says
       go attempt e payloads inner (Err why.NotSync) is says = absurd says
 
-      awaits : (x : Option ℕ) → awaits_sync held ≡ x → MatchOption x (Says (out.DroppedIke drop.NotAsked) step) (λ id. TakesSyncOf fresh held id taken.message step) → IsOther step ⊎ TakenBy fresh held_of octets calls step
+      awaits : (x : Option ℕ) → awaits_sync held ≡ x
+          → MatchOption x (Says (out.DroppedIke drop.NotAsked) step) (λ id. TakesSyncOf fresh held id taken.message step)
+          → IsOther step ⊎ TakenBy fresh held_of octets calls step
       awaits None e says = inl (ap is_of_sync says.said)
       awaits (Some attempt) e takes = go attempt e takes.payloads takes.inner takes.answer takes.is takes.takes
 

@@ -99,14 +99,16 @@ entered-other sa step (call ∷ []) is = go (seen call) is.1
     go (answer.First first) is = absurd is
     go (answer.Look spent) is = absurd is
 
-imported-other : (sa : Record) (calls : List Call) (step : Step) (b : Bool) → Refusing b refusal.SpiInUse calls step (Quietly (EntersRecord sa) calls step) → IsOther step
+imported-other : (sa : Record) (calls : List Call) (step : Step) (b : Bool) → Refusing b refusal.SpiInUse calls step (Quietly (EntersRecord sa) calls step)
+    → IsOther step
 imported-other sa calls step true r = ap is_of_sync r.says.said
 imported-other sa calls step false quietly = entered-other sa step calls quietly.follows
 
 drawn-other : (x : Option Held) (calls : List Call) (step : Step) → DrawsOf x calls step → IsOther step
 drawn-other None calls step r = ap is_of_sync r.says.said
 drawn-other (Some held) calls step quietly = ready-calls (λ calls. IsOther step) (reach_of held counter.EspOut) (five_at held.nexts counter.EspOut)
-    (λ why rest. Concludes rest step.verdict (out.Refused (refusal_of_stop why))) (λ high rest. Concludes rest step.verdict (out.Number (five_at held.nexts counter.EspOut)))
+    (λ why rest. Concludes rest step.verdict (out.Refused (refusal_of_stop why)))
+    (λ high rest. Concludes rest step.verdict (out.Number (five_at held.nexts counter.EspOut)))
     (λ call rest asked is. is)
     (λ why rest c. ap is_of_sync c.said)
     (λ high rest c. ap is_of_sync c.said)
@@ -115,13 +117,15 @@ drawn-other (Some held) calls step quietly = ready-calls (λ calls. IsOther step
 sent-other : (payload : List ℕ) (x : Option Held) (calls : List Call) (step : Step) → SendsOf x payload calls step → IsOther step
 sent-other payload None calls step r = ap is_of_sync r.says.said
 sent-other payload (Some held) calls step sends = ready-calls (λ calls. IsOther step) (reach_of held counter.EspOut) (five_at held.nexts counter.EspOut)
-    (λ why rest. (rest ≡ []) × Says (out.Refused (refusal_of_stop why)) step) (λ high rest. (rest ≡ []) × SendsEsp (outbound_of held) (five_at held.nexts counter.EspOut) payload step)
+    (λ why rest. (rest ≡ []) × Says (out.Refused (refusal_of_stop why)) step)
+    (λ high rest. (rest ≡ []) × SendsEsp (outbound_of held) (five_at held.nexts counter.EspOut) payload step)
     (λ call rest asked is. is)
     (λ why rest s. ap is_of_sync s.1.said)
     (λ high rest s. ap is_of_sync s.1.said)
     calls sends
 
-slot_sent-other : (payload : List ℕ) (x : Option Slot) (step : Step) → MatchOption x (Says (out.Refused refusal.Unknown) step) (λ slot. SlotSends slot payload step) → IsOther step
+slot_sent-other : (payload : List ℕ) (x : Option Slot) (step : Step)
+    → MatchOption x (Says (out.Refused refusal.Unknown) step) (λ slot. SlotSends slot payload step) → IsOther step
 slot_sent-other payload None step says = ap is_of_sync says.said
 slot_sent-other payload (Some slot) step sends = ⊎_elim
     (λ below. ap is_of_sync (sends.within below).said)
@@ -131,7 +135,8 @@ slot_sent-other payload (Some slot) step sends = ⊎_elim
 resent-other : (id : ℕ) (held : IkeHeld) (step : Step) → Resends id held step → IsOther step
 resent-other id held step r = go (kept_octets id held.asked) r
   where
-    go : (o : Option (List ℕ)) → MatchOption o (Says (out.Refused (refusal.NotOutstanding id)) step) (λ octets. GivesAgain (out.Resent id) octets step) → IsOther step
+    go : (o : Option (List ℕ)) → MatchOption o (Says (out.Refused (refusal.NotOutstanding id)) step) (λ octets. GivesAgain (out.Resent id) octets step)
+        → IsOther step
     go None says = ap is_of_sync says.said
     go (Some octets) again = again-other (out.Resent id) octets step refl again
 
@@ -139,7 +144,8 @@ resends-other : (id : ℕ) (x : Option Held) (calls : List Call) (step : Step) �
 resends-other id None calls step r = ap is_of_sync r.1.said
 resends-other id (Some held) calls step r = resent-other id (held_ike held) step r.1
 
-slot_resends-other : (id : ℕ) (x : Option Slot) (step : Step) → MatchOption x (Says (out.Refused refusal.Unknown) step) (λ slot. Resends id (slot_ike slot) step) → IsOther step
+slot_resends-other : (id : ℕ) (x : Option Slot) (step : Step)
+    → MatchOption x (Says (out.Refused refusal.Unknown) step) (λ slot. Resends id (slot_ike slot) step) → IsOther step
 slot_resends-other id None step says = ap is_of_sync says.said
 slot_resends-other id (Some slot) step r = resent-other id (slot_ike slot) step r
 
@@ -153,14 +159,17 @@ asked-other request (Some held) calls step asks = by_synced held.synced asks
     Sent : Type 0
     Sent = SendsRequest (held_ike held) id (five_at held.nexts counter.Iv) request step
 
-    by_synced : (b : Bool) → MatchBool b (Windowed (held_ike held) id (λ least. RefusesThen (refusal.WindowFull least) calls step) (HeldSendsRequest held request calls step)) (RefusesThen refusal.NotSynced calls step) → IsOther step
+    by_synced : (b : Bool)
+        → MatchBool b (Windowed (held_ike held) id (λ least. RefusesThen (refusal.WindowFull least) calls step) (HeldSendsRequest held request calls step))
+        (RefusesThen refusal.NotSynced calls step) → IsOther step
     by_synced true w = ⊎_elim
         (λ fits. readies-said held counter.Ask id step Sent (λ s. ap is_of_sync s.said) calls fits.1)
         (λ full. ap is_of_sync full.3.1.said)
         w
     by_synced false r = ap is_of_sync r.1.said
 
-slot_asks-other : (request : List ℕ) (x : Option Slot) (step : Step) → MatchOption x (Says (out.Refused refusal.Unknown) step) (λ slot. SlotAsks slot request step) → IsOther step
+slot_asks-other : (request : List ℕ) (x : Option Slot) (step : Step)
+    → MatchOption x (Says (out.Refused refusal.Unknown) step) (λ slot. SlotAsks slot request step) → IsOther step
 slot_asks-other request None step says = ap is_of_sync says.said
 slot_asks-other request (Some slot) step w = ⊎_elim (λ fits. sends fits.1) (λ full. ap is_of_sync full.3.said) w
   where
@@ -195,10 +204,12 @@ module _ (state : RunState) (now : Moment) (calls : List Call) (step : Step) whe
       Sent = SendsSync (fresh_of member) held (five_at held.nexts counter.Iv) step
 
       sends : ReadiesWithIv held counter.Ask (sync_id held) calls step Sent → Turns (event.Sync member spir)
-      sends ready = ready-calls (λ calls. Turns (event.Sync member spir)) (reach_of held counter.Ask) (sync_id held) Stopped (λ high rest. Ready (reach_of held counter.Iv) (five_at held.nexts counter.Iv) rest Stopped (λ high rest. (rest ≡ []) × Sent))
+      sends ready = ready-calls (λ calls. Turns (event.Sync member spir)) (reach_of held counter.Ask) (sync_id held) Stopped
+          (λ high rest. Ready (reach_of held counter.Iv) (five_at held.nexts counter.Iv) rest Stopped (λ high rest. (rest ≡ []) × Sent))
           (λ call rest asked is. is)
           (λ why rest s. Other (ap is_of_sync s.1.said))
-          (λ high rest more. ready-calls (λ calls. Turns (event.Sync member spir)) (reach_of held counter.Iv) (five_at held.nexts counter.Iv) Stopped (λ high rest. (rest ≡ []) × Sent)
+          (λ high rest more. ready-calls (λ calls. Turns (event.Sync member spir)) (reach_of held counter.Iv) (five_at held.nexts counter.Iv) Stopped
+          (λ high rest. (rest ≡ []) × Sent)
           (λ call rest asked is. is)
           (λ why rest s. Other (ap is_of_sync s.1.said))
           (λ high rest d. Announced member spir held refl e d.1)
@@ -208,11 +219,13 @@ module _ (state : RunState) (now : Moment) (calls : List Call) (step : Step) whe
           Stopped : Stop → List Call → Type 0
           Stopped why rest = RefusesThen (refusal_of_stop why) rest step
 
-      by_synced : (b : Bool) → MatchBool b (RefusesThen refusal.NoSync calls step) (ReadiesWithIv held counter.Ask (sync_id held) calls step Sent) → Turns (event.Sync member spir)
+      by_synced : (b : Bool) → MatchBool b (RefusesThen refusal.NoSync calls step) (ReadiesWithIv held counter.Ask (sync_id held) calls step Sent)
+          → Turns (event.Sync member spir)
       by_synced true r = Other (ap is_of_sync r.1.said)
       by_synced false ready = sends ready
 
-  received : (event : Event) (to : Party) → Brings event to → (found : Result PlainDatagram Refusal) → arrives state.datagrams event ≡ found → Receives state now to found calls step → Turns event
+  received : (event : Event) (to : Party) → Brings event to → (found : Result PlainDatagram Refusal) → arrives state.datagrams event ≡ found
+      → Receives state now to found calls step → Turns event
   received event to brings (Err why) e r = absurd r
   received event parties.Peer brings (Ok datagram) e gets = peer_gets datagram.medium refl gets
     where
@@ -220,7 +233,8 @@ module _ (state : RunState) (now : Moment) (calls : List Call) (step : Step) whe
       arrived ike = e ∙ ap (λ m. Ok (record { medium = m; octets = datagram.octets })) ike
 
       peer_gets : (m : Medium) → datagram.medium ≡ m → PeerGets m state.peer.slots datagram.octets calls step → Turns event
-      peer_gets medium.Ike ike takes = ⊎_elim Other (λ accepted. Accepted_here datagram.octets brings (arrived ike) accepted) (peer-hears state.peer.slots datagram.octets calls step takes)
+      peer_gets medium.Ike ike takes = ⊎_elim Other (λ accepted. Accepted_here datagram.octets brings (arrived ike) accepted)
+          (peer-hears state.peer.slots datagram.octets calls step takes)
       peer_gets medium.Esp esp takes = Other (worded-other takes.answer takes.after step takes.worded)
   received event (parties.Member member) brings (Ok datagram) e gets = member_gets datagram.medium refl gets
     where
@@ -228,7 +242,8 @@ module _ (state : RunState) (now : Moment) (calls : List Call) (step : Step) whe
       arrived ike = e ∙ ap (λ m. Ok (record { medium = m; octets = datagram.octets })) ike
 
       member_gets : (m : Medium) → datagram.medium ≡ m → MemberGets m (fresh_of member) (state.members member).held datagram.octets calls step → Turns event
-      member_gets medium.Ike ike takes = ⊎_elim Other (λ taken. Taken_here member datagram.octets brings (arrived ike) taken) (member-hears (fresh_of member) (state.members member).held datagram.octets calls step takes)
+      member_gets medium.Ike ike takes = ⊎_elim Other (λ taken. Taken_here member datagram.octets brings (arrived ike) taken)
+          (member-hears (fresh_of member) (state.members member).held datagram.octets calls step takes)
       member_gets medium.Esp esp takes = Other (worded-other takes.answer takes.after step takes.worded)
 
   performed : (event : Event) → Performs state now event calls step → Turns event
@@ -245,10 +260,42 @@ module _ (state : RunState) (now : Moment) (calls : List Call) (step : Step) whe
   performed (event.Again parties.Peer spir id) r = Other (slot_resends-other id (first_slot (has_spir spir) state.peer.slots) step r.1)
   performed (event.Again (parties.Member member) spir id) r = Other (resends-other id ((state.members member).held spir) calls step r)
   performed (event.Sync member spir) does = syncs member spir ((state.members member).held spir) refl does
-  performed (event.Deliver which to) r = received (event.Deliver which to) to (record { performs = λ verdict. refl; receives = λ spir verdict. refl; answers = λ spir verdict. refl; member_receives = refl; peer_receives = refl; no_entry = λ verdict. refl }) (arrives state.datagrams (event.Deliver which to)) refl r
-  performed (event.Alter which to place octet) r = received (event.Alter which to place octet) to (record { performs = λ verdict. refl; receives = λ spir verdict. refl; answers = λ spir verdict. refl; member_receives = refl; peer_receives = refl; no_entry = λ verdict. refl }) (arrives state.datagrams (event.Alter which to place octet)) refl r
-  performed (event.Cut which to keep) r = received (event.Cut which to keep) to (record { performs = λ verdict. refl; receives = λ spir verdict. refl; answers = λ spir verdict. refl; member_receives = refl; peer_receives = refl; no_entry = λ verdict. refl }) (arrives state.datagrams (event.Cut which to keep)) refl r
-  performed (event.Inject to medium octets) r = received (event.Inject to medium octets) to (record { performs = λ verdict. refl; receives = λ spir verdict. refl; answers = λ spir verdict. refl; member_receives = refl; peer_receives = refl; no_entry = λ verdict. refl }) (arrives state.datagrams (event.Inject to medium octets)) refl r
+  performed (event.Deliver which to) r = received (event.Deliver which to) to
+      (record {
+        performs = λ verdict. refl;
+        receives = λ spir verdict. refl;
+        answers = λ spir verdict. refl;
+        member_receives = refl;
+        peer_receives = refl;
+        no_entry = λ verdict. refl;
+      }) (arrives state.datagrams (event.Deliver which to)) refl r
+  performed (event.Alter which to place octet) r = received (event.Alter which to place octet) to
+      (record {
+        performs = λ verdict. refl;
+        receives = λ spir verdict. refl;
+        answers = λ spir verdict. refl;
+        member_receives = refl;
+        peer_receives = refl;
+        no_entry = λ verdict. refl;
+      }) (arrives state.datagrams (event.Alter which to place octet)) refl r
+  performed (event.Cut which to keep) r = received (event.Cut which to keep) to
+      (record {
+        performs = λ verdict. refl;
+        receives = λ spir verdict. refl;
+        answers = λ spir verdict. refl;
+        member_receives = refl;
+        peer_receives = refl;
+        no_entry = λ verdict. refl;
+      }) (arrives state.datagrams (event.Cut which to keep)) refl r
+  performed (event.Inject to medium octets) r = received (event.Inject to medium octets) to
+      (record {
+        performs = λ verdict. refl;
+        receives = λ spir verdict. refl;
+        answers = λ spir verdict. refl;
+        member_receives = refl;
+        peer_receives = refl;
+        no_entry = λ verdict. refl;
+      }) (arrives state.datagrams (event.Inject to medium octets)) refl r
 
   -- what a turn has to do with a synchronisation
   pub does-sync : (event : Event) → Does state now event calls step → Turns event

@@ -55,7 +55,8 @@ raised-more : (agreed : Option Agreed) (window : ResponseWindow) → window.floo
 raised-more None window = omega arith
 raised-more (Some agreed) window = omega arith
 
-answered-more : (agreed : Option Agreed) (response : Option KeptMessage) (window : ResponseWindow) → window.floor ≤ (answered_after agreed response window).floor
+answered-more : (agreed : Option Agreed) (response : Option KeptMessage) (window : ResponseWindow)
+    → window.floor ≤ (answered_after agreed response window).floor
 answered-more agreed response window =
     let more : window.floor ≤ (after_floor agreed window).floor = raised-more agreed window in
     let same : (answered_after agreed response window).floor ≡ (after_floor agreed window).floor = taken-floor response (after_floor agreed window) in
@@ -64,13 +65,17 @@ answered-more agreed response window =
 -- ---- a request that is taken is a number that was used
 
 -- a turn that takes a request uses its Message ID first
-taken-moves : (event : Event) (verdict : Verdict) (seals : List Seal) (request : Request) → taken_as verdict ≡ Some request → uses_of event verdict seals ≡ Uses (place_answered request) request.id ∷ []
-taken-moves event (out.Executed name id mark) seals request is = ap (λ (r : Request). Uses (place_answered r) r.id ∷ []) (same_Some (request_taken name id) request is)
-taken-moves event (out.Refusing name id notify) seals request is = ap (λ (r : Request). Uses (place_answered r) r.id ∷ []) (same_Some (request_taken name id) request is)
+taken-moves : (event : Event) (verdict : Verdict) (seals : List Seal) (request : Request) → taken_as verdict ≡ Some request
+    → uses_of event verdict seals ≡ Uses (place_answered request) request.id ∷ []
+taken-moves event (out.Executed name id mark) seals request is = ap (λ (r : Request). Uses (place_answered r) r.id ∷ [])
+    (same_Some (request_taken name id) request is)
+taken-moves event (out.Refusing name id notify) seals request is = ap (λ (r : Request). Uses (place_answered r) r.id ∷ [])
+    (same_Some (request_taken name id) request is)
 taken-moves event verdict seals request is = absurd (cc)
 
 -- what holds of all numbers that are used holds of that one
-first-used : (P : Spent → Type 0) (ss : List Spent) (place : Place) (n : ℕ) (moves : List Move) → AllByRecursion P ss → AreUses ss (Uses place n ∷ moves) → P (spent_of place n)
+first-used : (P : Spent → Type 0) (ss : List Spent) (place : Place) (n : ℕ) (moves : List Move) → AllByRecursion P ss → AreUses ss (Uses place n ∷ moves)
+    → P (spent_of place n)
 first-used P [] place n moves all uses = absurd uses
 first-used P (s ∷ ss) place n moves all uses = go uses.0
   where
@@ -81,7 +86,8 @@ first-used P (s ∷ ss) place n moves all uses = go uses.0
         subst P (λ i. spent_of (sym places i) (sym numbers i)) all.0
     go (Seals_it key named iv is) = absurd (cc)
 
-taken-used : (P : Spent → Type 0) (ss : List Spent) (event : Event) (step : Step) (request : Request) → taken_as step.verdict ≡ Some request → AllByRecursion P ss → AreUses ss (rest_of event step)
+taken-used : (P : Spent → Type 0) (ss : List Spent) (event : Event) (step : Step) (request : Request) → taken_as step.verdict ≡ Some request
+    → AllByRecursion P ss → AreUses ss (rest_of event step)
     → P (spent_of (place_answered request) request.id)
 taken-used P ss event step request is all uses =
     first-used P ss (place_answered request) request.id (map (λ seal. Seals (key_iv seal)) step.seals) all
@@ -109,7 +115,8 @@ slot-from size mine test slot id is new =
     let stored : List KeptMessage = filter_map (turn_response peer_task slot.sa.spir) turns in
     let floor : ℕ = floor_of slot.sa.starts.ask (filter_map (turn_agreed peer_task slot.sa.spir) turns) in
     let same : slot.answered ≡ window_of_responses floor stored = ap (λ (s : Slot). s.answered) (slot-told size mine test slot is) in
-    subst (λ (w : ResponseWindow). w.floor ≤ id) (sym same) (new_from_floor floor stored id (subst (λ (w : ResponseWindow). IsNewRequest w.low (IsAnswered w) id) same new))
+    subst (λ (w : ResponseWindow). w.floor ≤ id) (sym same) (new_from_floor floor stored id
+    (subst (λ (w : ResponseWindow). IsNewRequest w.low (IsAnswered w) id) same new))
 
 answers-kind : (c : Counter) → counter_kind c ≡ counter_kind counter.Answer → c ≡ counter.Answer
 answers-kind counter.EspOut same = absurd (cc)
@@ -134,11 +141,13 @@ module _ (boxes : ℕ) (past : List Turn) (local : Explained boxes past) (floor 
   need-from need at =
       let names : peer_counter need.slot.sa need.c ≡ name = ap (name_at name) at in
       let answers : need.c ≡ counter.Answer = answers-kind need.c (ap (λ (n : CounterName). n.kind) names) in
-      let spirs : Some need.slot.sa.spir ≡ Some sa.spir = sym need.slot.sa.origin_is_own ∙ (ap (λ (n : CounterName). spir_of_origin n.origin) names ∙ sa.origin_is_own) in
+      let spirs : Some need.slot.sa.spir ≡ Some sa.spir =
+      sym need.slot.sa.origin_is_own ∙ (ap (λ (n : CounterName). spir_of_origin n.origin) names ∙ sa.origin_is_own) in
       let spir : need.slot.sa.spir ≡ sa.spir = same_Some need.slot.sa.spir sa.spir spirs in
       let same_spir : floored.slot.sa.spir ≡ sa.spir =
       eqb-true floored.slot.sa.spir sa.spir (first-passes (has_spir sa.spir) (slots_by (window_by past) (own Peer past)) floored.slot floored.holds) in
-      let one : need.slot ≡ floored.slot = one-slot boxes past local need.test (has_spir sa.spir) need.slot floored.slot need.is_first floored.holds (spir ∙ sym same_spir) in
+      let one : need.slot ≡ floored.slot =
+      one-slot boxes past local need.test (has_spir sa.spir) need.slot floored.slot need.is_first floored.holds (spir ∙ sym same_spir) in
       let is_open : IsOpenTo need.slot counter.Answer need.number = subst (λ c. IsOpenTo need.slot c need.number) answers need.is_open in
       let from : need.slot.answered.floor ≤ need.number = slot-from (window_by past) (own Peer past) need.test need.slot need.number need.is_first is_open.1 in
       let floors : need.slot.answered.floor ≡ floored.slot.answered.floor = ap (λ (s : Slot). s.answered.floor) one in
@@ -149,7 +158,8 @@ module _ (boxes : ℕ) (past : List Turn) (local : Explained boxes past) (floor 
   needs-from [] = tt
   needs-from (need ∷ needs) = (need-from need, needs-from needs)
 
-  peer-from : (turn : Turn) → IsByRule boxes past turn → is_by Peer turn ≡ true → (request : Request) → taken_in turn ≡ Some request → IsFrom (Theirs name) floor request
+  peer-from : (turn : Turn) → IsByRule boxes past turn → is_by Peer turn ≡ true → (request : Request) → taken_in turn ≡ Some request
+      → IsFrom (Theirs name) floor request
   peer-from turn explained mine request is at = go (deed-of boxes past turn explained local)
     where
       by : performer turn ≡ Some Peer
@@ -163,19 +173,26 @@ module _ (boxes : ℕ) (past : List Turn) (local : Explained boxes past) (floor 
       go (Used_theirs u) = taken-used LiesFrom (map spent_theirs u.needs) turn.event turn.step request is (needs-from u.needs) u.uses_them at
 
 -- the floor stays at least what it was
-still-floored : (boxes : ℕ) (past : List Turn) (turn : Turn) → DoesTold boxes past turn → (floor spir : ℕ) → IsFloored floor spir past → IsFloored floor spir (turn ∷ past)
+still-floored : (boxes : ℕ) (past : List Turn) (turn : Turn) → DoesTold boxes past turn → (floor spir : ℕ) → IsFloored floor spir past
+    → IsFloored floor spir (turn ∷ past)
 still-floored boxes past turn does floor spir old = by_test (is_by Peer turn) refl
   where
     by_test : (b : Bool) → is_by Peer turn ≡ b → IsFloored floor spir (turn ∷ past)
     by_test true mine =
         let more : old.slot.answered.floor ≤ (slot_after (peer_task turn.event) turn.step old.slot).answered.floor =
-        answered-more (agreed_in old.slot.sa.spir (peer_task turn.event) turn.step.verdict) (response_in old.slot.sa.spir (peer_task turn.event) turn.step) old.slot.answered in
+        answered-more (agreed_in old.slot.sa.spir (peer_task turn.event) turn.step.verdict)
+        (response_in old.slot.sa.spir (peer_task turn.event) turn.step) old.slot.answered in
         let low : floor ≤ old.slot.answered.floor = old.from in
-        record { slot = slot_after (peer_task turn.event) turn.step old.slot; holds = holds-own boxes past turn does mine spir old.slot old.holds; from = omega (arith, more, low) }
+        record {
+          slot = slot_after (peer_task turn.event) turn.step old.slot;
+          holds = holds-own boxes past turn does mine spir old.slot old.holds;
+          from = omega (arith, more, low);
+        }
     by_test false other = record { slot = old.slot; holds = holds-other boxes past turn does other spir old.slot old.holds; from = old.from }
 
 -- one more turn, whose request lies from the floor on where it is an own one
-with-turn : (place : Place) (floor : ℕ) (turn : Turn) (later : List Turn) → ((request : Request) → taken_in turn ≡ Some request → IsFrom place floor request) → TakeFrom place floor later → TakeFrom place floor (turn ∷ later)
+with-turn : (place : Place) (floor : ℕ) (turn : Turn) (later : List Turn) → ((request : Request) → taken_in turn ≡ Some request → IsFrom place floor request)
+    → TakeFrom place floor later → TakeFrom place floor (turn ∷ later)
 with-turn place floor turn later from rest = go (taken_in turn) refl
   where
     go : (x : Option Request) → taken_in turn ≡ x → AllByRecursion (IsFrom place floor) (cons_option x (filter_map taken_in later))
@@ -209,7 +226,8 @@ before-explained boxes (turn ∷ later) past local = before-explained boxes late
 
 pub peer-takes-from : (boxes : ℕ) (later past : List Turn) (turn : Turn) → Explained boxes (later ++ turn ∷ past) → PeerTakesFrom later turn
 peer-takes-from boxes later past turn local name p2 m2 delta unknown said =
-    let done : PeerSynchronised past turn name p2 m2 delta unknown = peer-synchronised boxes past turn (before-explained boxes later (turn ∷ past) local) name p2 m2 delta unknown said in
+    let done : PeerSynchronised past turn name p2 m2 delta unknown =
+    peer-synchronised boxes past turn (before-explained boxes later (turn ∷ past) local) name p2 m2 delta unknown said in
     let is : m2 ≡ done.after.answered.floor = done.floor_said in
     let floored : IsFloored m2 done.before.sa.spir (turn ∷ past) = record { slot = done.after; holds = done.has; from = omega (arith, is) } in
     subst (λ n. TakeFrom (place_of n) m2 (own Peer later)) (sym done.named) (peers-from boxes (turn ∷ past) m2 done.before.sa floored later local).0
@@ -222,21 +240,26 @@ record IsFlooredAt (floor member spir : ℕ) (past : List Turn) : Type 0 where
   pub holds : MemberHolds past member spir held
   pub from : floor ≤ held.answered.floor
 
-held-from : (size spir : ℕ) (mine : List Turn) (held : Held) (id : ℕ) → held_by size mine spir ≡ Some held → IsNewRequest held.answered.low (IsAnswered held.answered) id → held.answered.floor ≤ id
+held-from : (size spir : ℕ) (mine : List Turn) (held : Held) (id : ℕ) → held_by size mine spir ≡ Some held
+    → IsNewRequest held.answered.low (IsAnswered held.answered) id → held.answered.floor ≤ id
 held-from size spir mine held id is new = go (found (grant_of spir) mine) is
   where
     go : (x : Option Taken) → option_map (holding size spir mine) x ≡ Some held → held.answered.floor ≤ id
     go None is = absurd (cc)
     go (Some taken) is =
         let same : (holding size spir mine taken).answered ≡ held.answered = ap (λ (h : Held). h.answered) (same_Some (holding size spir mine taken) held is) in
-        subst (λ (w : ResponseWindow). w.floor ≤ id) same (new_from_floor (floor_of taken.bases.answer (agreements_of spir mine)) (filter_map (turn_response member_task spir) (since spir mine)) id (subst (λ (w : ResponseWindow). IsNewRequest w.low (IsAnswered w) id) (sym same) new))
+        subst (λ (w : ResponseWindow). w.floor ≤ id) same (new_from_floor (floor_of taken.bases.answer (agreements_of spir mine))
+        (filter_map (turn_response member_task spir) (since spir mine)) id
+        (subst (λ (w : ResponseWindow). IsNewRequest w.low (IsAnswered w) id) (sym same) new))
 
 -- what holds of the numbers that a member needs, and of all of pools, holds of those that it uses
-module _ (P : Spent → Type 0) (pooled : (need : LotNeed) → P (spent_of (Pooled need.pool) need.number)) (past : List Turn) (event : Event) (calls : List Call) (step : Step) where
+module _ (P : Spent → Type 0) (pooled : (need : LotNeed) → P (spent_of (Pooled need.pool) need.number)) (past : List Turn) (event : Event) (calls : List Call)
+    (step : Step) where
   abbrev UsesSuch : Type 0
   UsesSuch = (needed : List Spent) × AllByRecursion P needed × UsesIt needed event step
 
-  lot-such : (needed : List Spent) (lot : Option LotNeed) (held : _) (rest : List Call) → AllByRecursion P needed → IsLotReady lot held rest (Rests step ⊎ UsesIt needed event step) (UsesIt (with_lot lot needed) event step)
+  lot-such : (needed : List Spent) (lot : Option LotNeed) (held : _) (rest : List Call) → AllByRecursion P needed
+      → IsLotReady lot held rest (Rests step ⊎ UsesIt needed event step) (UsesIt (with_lot lot needed) event step)
       → Rests step ⊎ UsesSuch
   lot-such needed None held rest all last = inr (needed, all, last.is)
   lot-such needed (Some need) held rest all (Left h holds below is ended it) = inr (with_lot (Some need) needed, (pooled need, all), it)
@@ -261,7 +284,8 @@ module _ (boxes : ℕ) (past : List Turn) (local : Explained boxes past) (floor 
   need-at need at =
       let answers : need.c ≡ counter.Answer = cc in
       let spirs : need.held.sa.spir ≡ spir = cc in
-      let is_held : held_by (window_by past) (own (Member member) past) spir ≡ Some need.held = subst (λ k. held_by (window_by past) (own (Member member) past) k ≡ Some need.held) spirs need.is_held in
+      let is_held : held_by (window_by past) (own (Member member) past) spir ≡ Some need.held =
+      subst (λ k. held_by (window_by past) (own (Member member) past) k ≡ Some need.held) spirs need.is_held in
       let one : need.held ≡ floored.held = same_Some need.held floored.held (sym is_held ∙ floored.holds) in
       let new : IsOpen need.held counter.Answer need.number = subst (λ c. IsOpen need.held c need.number) answers need.is_open in
       let from : need.held.answered.floor ≤ need.number = held-from (window_by past) spir (own (Member member) past) need.held need.number is_held new in
@@ -273,23 +297,27 @@ module _ (boxes : ℕ) (past : List Turn) (local : Explained boxes past) (floor 
   needs-at [] = tt
   needs-at (need ∷ needs) = (need-at need, needs-at needs)
 
-  member-from : (turn : Turn) → IsByRule boxes past turn → is_by (Member member) turn ≡ true → (request : Request) → taken_in turn ≡ Some request → IsFrom (Ours spir counter.Answer) floor request
+  member-from : (turn : Turn) → IsByRule boxes past turn → is_by (Member member) turn ≡ true → (request : Request) → taken_in turn ≡ Some request
+      → IsFrom (Ours spir counter.Answer) floor request
   member-from turn explained mine request is at = go (deed-of boxes past turn explained local)
     where
       by : performer turn ≡ Some (Member member)
       by = is_end-true (Member member) (performer turn) mine
 
-      its : (u : MemberUses past turn.event turn.calls turn.step) → (other : ℕ) → u.member ≡ other → AllByRecursion LiesAt (map spent_by u.needs) → floor ≤ request.id
+      its : (u : MemberUses past turn.event turn.calls turn.step) → (other : ℕ) → u.member ≡ other → AllByRecursion LiesAt (map spent_by u.needs)
+          → floor ≤ request.id
       its u other same all = ⊎_elim
           (λ rests. resting-untaken turn.step request is rests)
-          (λ such. taken-used LiesAt such.2.ss turn.event turn.step request is (all-among LiesAt such.2.ss such.0 such.1 such.2.were_needed) such.2.uses_them at)
+          (λ such. taken-used LiesAt such.2.ss turn.event turn.step request is
+          (all-among LiesAt such.2.ss such.0 such.1 such.2.were_needed) such.2.uses_them at)
           (used-such LiesAt (λ need at. absurd (cc)) past turn.event turn.calls turn.step u all)
 
       go : Deed past turn.event turn.calls turn.step → floor ≤ request.id
       go (Rested none rests no_entry) = resting-untaken turn.step request is rests
       go (Asked asks) = resting-untaken turn.step request is asks.rests
       go (Ended ended by_it none down ends quiet) = down-untaken turn.step request is down
-      go (Used u) = its u member (member-same u.member member (performer turn) u.by_it by) (all-needs u.member (member-same u.member member (performer turn) u.by_it by) u.needs)
+      go (Used u) = its u member (member-same u.member member (performer turn) u.by_it by)
+          (all-needs u.member (member-same u.member member (performer turn) u.by_it by) u.needs)
         where
           all-needs : (m : ℕ) → m ≡ member → (needs : List (Need past m)) → AllByRecursion LiesAt (map spent_by needs)
           all-needs m same = subst (λ k. (needs : List (Need past k)) → AllByRecursion LiesAt (map spent_by needs)) (sym same) needs-at
@@ -302,7 +330,11 @@ module _ (boxes : ℕ) (past : List Turn) (turn : Turn) (does : DoesTold boxes p
       let more : old.held.answered.floor ≤ (advanced spir (member_task turn.event) turn.calls turn.step old.held).answered.floor =
       answered-more (agreed_in spir (member_task turn.event) turn.step.verdict) (response_in spir (member_task turn.event) turn.step) old.held.answered in
       let low : floor ≤ old.held.answered.floor = old.from in
-      record { held = advanced spir (member_task turn.event) turn.calls turn.step old.held; holds = held-own past turn member spir old.held mine none old.holds; from = omega (arith, more, low) }
+      record {
+        held = advanced spir (member_task turn.event) turn.calls turn.step old.held;
+        holds = held-own past turn member spir old.held mine none old.holds;
+        from = omega (arith, more, low);
+      }
 
   other-floored : is_by (Member member) turn ≡ false → IsFlooredAt floor member spir (turn ∷ past)
   other-floored other = record {
@@ -334,9 +366,11 @@ module _ (boxes : ℕ) (past : List Turn) (floor member spir : ℕ) (floored : I
       does = does-told boxes (later ++ past) turn local.0 local.1
 
       by_test : (found (grant_of spir) (mine_of later) ≡ None → IsSo later) → (b : Bool) → is_by (Member member) turn ≡ b
-          → TakeFrom its_place floor (if is_by (Member member) turn then turn ∷ mine_of later else mine_of later) × IsFlooredAt floor member spir (turn ∷ (later ++ past))
+          → TakeFrom its_place floor (if is_by (Member member) turn then turn ∷ mine_of later else mine_of later) × IsFlooredAt floor member spir
+          (turn ∷ (later ++ past))
       by_test before true mine =
-          let nones = none-both (grant_of spir turn) (found (grant_of spir) (mine_of later)) (ap (λ b. found (grant_of spir) (if b then turn ∷ mine_of later else mine_of later)) (sym mine) ∙ none) in
+          let nones = none-both (grant_of spir turn) (found (grant_of spir) (mine_of later))
+          (ap (λ b. found (grant_of spir) (if b then turn ∷ mine_of later else mine_of later)) (sym mine) ∙ none) in
           let rest : IsSo later = before nones.1 in (
             subst (λ b. TakeFrom its_place floor (if b then turn ∷ mine_of later else mine_of later)) (sym mine)
                 (with-turn its_place floor turn (mine_of later) (member-from boxes (later ++ past) local.1 floor member spir rest.1 turn local.0 mine) rest.0),
@@ -350,11 +384,14 @@ module _ (boxes : ℕ) (past : List Turn) (floor member spir : ℕ) (floored : I
 
 pub member-takes-from : (boxes : ℕ) (later past : List Turn) (turn : Turn) → Explained boxes (later ++ turn ∷ past) → MemberTakesFrom later turn
 member-takes-from boxes later past turn local member spir name next floor by said at none =
-    let done : MemberSynchronised past turn name next floor = member-synchronised boxes past turn (before-explained boxes later (turn ∷ past) local) name next floor said in
+    let done : MemberSynchronised past turn name next floor =
+    member-synchronised boxes past turn (before-explained boxes later (turn ∷ past) local) name next floor said in
     let same : done.member ≡ member = member-same done.member member (performer turn) done.by_member by in
-    let places : Ours done.before.sa.spir counter.Answer ≡ Ours spir counter.Answer = sym (place-ours done.before.sa counter.Answer) ∙ (ap place_of (sym done.named) ∙ at) in
+    let places : Ours done.before.sa.spir counter.Answer ≡ Ours spir counter.Answer =
+    sym (place-ours done.before.sa counter.Answer) ∙ (ap place_of (sym done.named) ∙ at) in
     let spirs : done.before.sa.spir ≡ spir = cc in
     let is : floor ≡ done.after.answered.floor = done.floor_said in
-    let has : MemberHolds (turn ∷ past) member spir done.after = subst (λ m. MemberHolds (turn ∷ past) m spir done.after) same (subst (λ s. MemberHolds (turn ∷ past) done.member s done.after) spirs done.has) in
+    let has : MemberHolds (turn ∷ past) member spir done.after =
+    subst (λ m. MemberHolds (turn ∷ past) m spir done.after) same (subst (λ s. MemberHolds (turn ∷ past) done.member s done.after) spirs done.has) in
     let floored : IsFlooredAt floor member spir (turn ∷ past) = record { held = done.after; holds = has; from = omega (arith, is) } in
     subst (λ p. TakeFrom p floor (own (Member member) later)) (sym at) (members-from boxes (turn ∷ past) floor member spir floored later local none).0

@@ -1,5 +1,6 @@
 pub mod Acts
 pub mod Answered
+pub mod CaughtUp
 pub mod Columns
 pub mod FirstDelivery
 pub mod Holdings

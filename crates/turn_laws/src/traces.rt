@@ -15,6 +15,7 @@ ghost use Rattle.keeper_book.specs.declared.faults.KeeperFault.TheVariants as fa
 ghost use Rattle.keeper_book.specs.declared.records.Record.{Record};
 ghost use Rattle.turn_laws.specs.Acts.{Act, MayAsk, MayDoAll, end_at, holding_at, numbers_at};
 ghost use Rattle.turn_laws.specs.Answered.{KeepsTaken};
+ghost use Rattle.turn_laws.specs.CaughtUp.{AllCatchUp, CatchesUp, CoversAreCaughtUp, NoneInvented};
 ghost use Rattle.turn_laws.specs.FirstDelivery.{MemberAcceptsFirst, PeerAcceptsFirst};
 ghost use Rattle.turn_laws.specs.Holdings.{Actor, End, Holding};
 ghost use Rattle.turn_laws.specs.Listed.{listed_at, request_at};
@@ -204,6 +205,29 @@ pub fn none_below_is_taken()
 /// So it is of each synchronisation of a trace, and of the turns after it.
 pub fn synchronisations_leave_the_greater()
     ensures { (boxes : ℕ) (past : List Turn) → Explained boxes past → LeavesGreater past }
+{}
+
+/// Where no packet that members opened was invented, each cover of received ESP numbers that was ever
+/// asked for, whatever the keeper answered, goes less than one lead beyond the number that the peer
+/// sends next in the association.
+pub fn covers_are_caught_up()
+    ensures { (boxes : ℕ) (past : List Turn) → Explained boxes past → NoneInvented past
+        → CoversAreCaughtUp past }
+{}
+
+/// Where no packet that members opened was invented, and with an honest book, a synchronisation that
+/// raises the peer's next number by a whole lead leaves it at or above where each epoch of the
+/// association began that a member held by then: so also that of the member that asked for it.
+pub fn synchronised_numbers_catch_up()
+    ensures { (boxes : ℕ) (past : List Turn) (turn : Turn) (book : Book)
+        → Explained boxes (turn ∷ past) → Stands past book → NoneInvented past
+        → CatchesUp past turn }
+{}
+
+/// So it is of each synchronisation of a trace.
+pub fn all_synchronisations_catch_up()
+    ensures { (boxes : ℕ) (past : List Turn) (book : Book) → Explained boxes past → Stands past book
+        → NoneInvented past → AllCatchUp past }
 {}
 
 /// What a turn executes is executed for the end that its event names, which is up: a member that

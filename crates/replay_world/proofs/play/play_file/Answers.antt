@@ -20,11 +20,13 @@ returns-clause-played g c = if_ok-as c.play_run-played.result (λ played p.
       own_turns = p.own_turns;
       below_ends = p.below_ends;
       synchronised = p.synchronised;
+      covers = p.covers;
       serves = p.serves;
       asks = search rules;
       stands = search rules;
       owned = search rules;
       safe = search rules;
       replaced_later = search rules;
+      catch_up = search rules;
       caused = search rules;
     }) c.play_run-played.ensures.played

@@ -3,7 +3,7 @@ use Rattle.std.proofs.Common.{ap, subst}
 use Rattle.run_ends.specs.Runs.{Run}
 use Rattle.turn_rules.proofs.StateLaws.{local-explained}
 use Rattle.turn_rules.specs.Local.{Local}
-use Rattle.replay_world.proofs.OwnedLaws.{local_before, owned_told, replaced_told, safe_told}
+use Rattle.replay_world.proofs.OwnedLaws.{caught_told, local_before, owned_told, replaced_told, safe_told}
 use Rattle.replay_world.proofs.world.World.turn.Goals as goal
 use Rattle.replay_world.specs.Worlds.{boxes_of, run_of}
 use Rattle.replay_world.proofs.Joins.{run-joins}
@@ -53,6 +53,18 @@ returns-clause-synchronised g c = c.synchronisations_leave_the_greater.ensures c
 
 pub returns-in_err-play-clause-synchronised : goal.returns-in_err-play-clause-synchronised
 returns-in_err-play-clause-synchronised g c = c.synchronisations_leave_the_greater.ensures c.play.new.self.ends.boxes c.play.new.self.ends.past (local-explained c.play.new.self.ends.boxes c.play.new.self.ends.past c.in_err-play.ensures.local)
+
+pub returns-clause-covers : goal.returns-clause-covers
+returns-clause-covers g c = c.covers_are_caught_up.ensures c.play.new.self.ends.boxes c.play.new.self.ends.past (local-explained c.play.new.self.ends.boxes c.play.new.self.ends.past c.in_ok-play.ensures.local)
+
+pub returns-in_err-play-clause-covers : goal.returns-in_err-play-clause-covers
+returns-in_err-play-clause-covers g c = c.covers_are_caught_up.ensures c.play.new.self.ends.boxes c.play.new.self.ends.past (local-explained c.play.new.self.ends.boxes c.play.new.self.ends.past c.in_err-play.ensures.local)
+
+pub returns-clause-catch_up : goal.returns-clause-catch_up
+returns-clause-catch_up g c stands =
+    let t = c.in_ok-play.ensures in
+    let new = c.play.new.self.ends in
+    caught_told c.all_synchronisations_catch_up.ensures new.boxes new.past _ t.local (t.stands stands)
 
 pub returns-clause-replaced_later : goal.returns-clause-replaced_later
 returns-clause-replaced_later g c stands =
