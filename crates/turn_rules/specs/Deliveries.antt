@@ -4,10 +4,12 @@ use Rattle.events.specs.declared.turn.Medium.{Medium}
 use Rattle.events.specs.declared.turn.Medium.TheVariants as medium
 use Rattle.events.specs.declared.turn.Step.{Step}
 use Rattle.events.specs.declared.verdict.EspVerdict.{EspVerdict}
+use Rattle.ha_base.specs.declared.outside.Moment.{Moment}
 use Rattle.keeper_book.specs.declared.calls.Call.{Call}
 use Rattle.turn_rules.specs.Held.{Held}
 use Rattle.turn_rules.specs.MemberMessages.{member_listener}
 use Rattle.turn_rules.specs.MemberPackets.{MemberReceives}
+use Rattle.turn_rules.specs.MemberStates.{MemberHeld}
 use Rattle.turn_rules.specs.Messages.{TakesMessage}
 use Rattle.turn_rules.specs.Packets.{IsVerdictOf}
 use Rattle.turn_rules.specs.PeerMessages.{peer_listener}
@@ -33,11 +35,11 @@ pub record PeerTakes (slots : List Slot) (octets : List ℕ) (calls : List Call)
   pub quiet : IsQuiet step
   pub no_calls : calls ≡ []
 
--- a member that was given these fresh octets gets an IKE message or an ESP packet
-abbrev pub MemberGets : Medium → List ℕ → (ℕ → Option Held) → List ℕ → List Call → Step → Type 0
-MemberGets medium.Ike fresh held octets calls step =
-    TakesMessage (member_listener fresh held) octets calls step
-MemberGets medium.Esp fresh held octets calls step = MemberTakes held octets calls step
+-- a member gets an IKE message or an ESP packet at a moment
+abbrev pub MemberGets : Medium → MemberHeld → Moment → List ℕ → List Call → Step → Type 0
+MemberGets medium.Ike member now octets calls step =
+    TakesMessage (member_listener member now) octets calls step
+MemberGets medium.Esp member now octets calls step = MemberTakes member.held octets calls step
 
 -- the peer gets an IKE message or an ESP packet
 abbrev pub PeerGets : Medium → List Slot → List ℕ → List Call → Step → Type 0

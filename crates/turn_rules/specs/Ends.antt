@@ -61,6 +61,8 @@ performer_of (event.Send from spir payload) verdict = Some (end_of_party from)
 performer_of (event.Ask from spir request) verdict = Some (end_of_party from)
 performer_of (event.Again from spir id) verdict = Some (end_of_party from)
 performer_of (event.Sync member spir) verdict = Some (Member member)
+performer_of (event.Ticket spir) verdict = Some Peer
+performer_of (event.Forget spir) verdict = Some Peer
 performer_of event verdict = receiver_of (delivery_of event)
 
 -- who performs an event, where it came out so

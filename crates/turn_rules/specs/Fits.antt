@@ -22,9 +22,8 @@ use Rattle.turn_rules.specs.Held.{Held}
 use Rattle.turn_rules.specs.MemberMessages.{AsksOf, ResendsOf, SyncsOf}
 use Rattle.turn_rules.specs.MemberPackets.{SendsData}
 use Rattle.turn_rules.specs.PeerMessages.{PeerAsks, PeerResends}
-use Rattle.turn_rules.specs.Peers.{admits}
 use Rattle.turn_rules.specs.States.{RunState, state_by}
-use Rattle.turn_rules.specs.Slots.{PeerSends, records}
+use Rattle.turn_rules.specs.Slots.{PeerForgets, PeerSends, admits}
 use Rattle.turn_rules.specs.Steps.{IsQuiet, Says}
 
 -- the most members of a run
@@ -68,6 +67,7 @@ is_of_datagrams (event.Send from spir payload) = true
 is_of_datagrams (event.Ask from spir request) = true
 is_of_datagrams (event.Again from spir id) = true
 is_of_datagrams (event.Sync member spir) = true
+is_of_datagrams (event.Ticket spir) = true
 is_of_datagrams event = is_some (delivery_of event)
 
 abbrev pub member_of : Party → Option ℕ
@@ -132,7 +132,7 @@ run_refusal state event =
 -- the peer has no association that stands in the way, or the import is refused
 abbrev pub Imports : RunState → Record → List Call → Step → Type 0
 Imports state sa calls step =
-    Refusing (not (admits (records state.peer.slots) sa)) refusal.SpiInUse calls step
+    Refusing (not (admits state.peer.slots sa)) refusal.SpiInUse calls step
     (Quietly (EntersRecord sa) calls step)
 
 -- a member draws a number of what it holds
@@ -152,8 +152,7 @@ Receives state now to (Err why) calls step = ⊥
 Receives state now parties.Peer (Ok datagram) calls step =
     PeerGets datagram.medium state.peer.slots datagram.octets calls step
 Receives state now (parties.Member member) (Ok datagram) calls step =
-    MemberGets datagram.medium (fresh_octets (state.members member).given)
-    (state.members member).held datagram.octets calls step
+    MemberGets datagram.medium (state.members member) now datagram.octets calls step
 
 abbrev pub Delivers : RunState → Moment → Option Delivery → List Call → Step → Type 0
 Delivers state now None calls step = ⊥
@@ -175,7 +174,7 @@ Performs state now (event.Send parties.Peer spir payload) calls step =
 Performs state now (event.Send (parties.Member member) spir payload) calls step =
     SendsOf ((state.members member).held spir) payload.octets calls step
 Performs state now (event.Ask parties.Peer spir request) calls step =
-    (calls ≡ []) × PeerAsks spir state.peer.slots request.octets step
+    (calls ≡ []) × PeerAsks spir state.peer.slots (request_payloads request.octets) step
 Performs state now (event.Ask (parties.Member member) spir request) calls step =
     AsksOf ((state.members member).held spir) request.octets calls step
 Performs state now (event.Again parties.Peer spir id) calls step =
@@ -184,6 +183,10 @@ Performs state now (event.Again (parties.Member member) spir id) calls step =
     ResendsOf ((state.members member).held spir) id calls step
 Performs state now (event.Sync member spir) calls step =
     SyncsOf (fresh_octets (state.members member).given) ((state.members member).held spir) calls step
+Performs state now (event.Ticket spir) calls step =
+    (calls ≡ []) × PeerAsks spir state.peer.slots ticket_request_payloads step
+Performs state now (event.Forget spir) calls step =
+    (calls ≡ []) × PeerForgets spir state.peer.slots step
 Performs state now event calls step = Delivers state now (delivery_of event) calls step
 
 -- the calls of an event and what is done: the run refuses it, or its end performs it

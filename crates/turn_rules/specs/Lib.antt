@@ -1,3 +1,4 @@
+pub mod Additions
 pub mod Configurations
 pub mod CountersOf
 pub mod Datagrams
@@ -11,10 +12,13 @@ pub mod IkeState
 pub mod Local
 pub mod MemberMessages
 pub mod MemberPackets
+pub mod MemberStates
+pub mod MemberTickets
 pub mod Messages
 pub mod Packets
 pub mod PeerMessages
 pub mod PeerStates
+pub mod PeerTickets
 pub mod Peers
 pub mod Safe
 pub mod Services
@@ -23,3 +27,4 @@ pub mod States
 pub mod Steps
 pub mod Synchronised
 pub mod Tasks
+pub mod TicketNumbers

@@ -4,11 +4,14 @@ use Rattle.std.specs.Int.{w32, from_be_bytes}
 use Rattle.std.specs.Int.Bits.{bit_xor}
 use Rattle.events.specs.declared.turn.Step.{Step}
 use Rattle.events.specs.declared.ike_outcomes.IkeDrop.TheVariants as drop
-use Rattle.events.specs.declared.verdict.Refusal.{Refusal}
+use Rattle.events.specs.declared.ike_outcomes.Kept.{Kept}
+use Rattle.events.specs.declared.ike_outcomes.Kept.TheVariants as kept
 use Rattle.events.specs.declared.verdict.Refusal.TheVariants as refusal
 use Rattle.events.specs.declared.verdict.Verdict.TheVariants as out
 use Rattle.ha_base.specs.declared.counter_names.End.TheVariants as end
+use Rattle.ha_base.specs.declared.outside.Moment.{Moment}
 use Rattle.horizons.specs.Ready.{Ready}
+use Rattle.ike_sas.specs.Answers.{request_payloads}
 use Rattle.ike_sas.specs.Held.{IkeHeld, request_header}
 use Rattle.ike_sas.specs.declared.keys.IkeKeys.{IkeKeys}
 use Rattle.ike_sas.specs.declared.synchronising.TheConstants.{SYNC_DELTA}
@@ -24,11 +27,14 @@ use Rattle.sync_exchange.specs.Laws.{request_with}
 use Rattle.sync_exchange.specs.declared.message_ids.MessageIds.{MessageIds}
 use Rattle.sync_exchange.specs.declared.sync_drop.SyncDrop.{SyncDrop}
 use Rattle.sync_exchange.specs.declared.sync_drop.SyncDrop.TheVariants as why
+use Rattle.turn_rules.specs.Configurations.{fresh_octets}
 use Rattle.turn_rules.specs.Draws.{counter_name, reach_of, refusal_of_stop}
 use Rattle.turn_rules.specs.Held.{Held}
+use Rattle.turn_rules.specs.MemberStates.{MemberHeld}
+use Rattle.turn_rules.specs.MemberTickets.{AddsTicket}
 use Rattle.turn_rules.specs.Messages.{AnswersRequest, Listener, Resends, SendsMessage, SendsRequest, Windowed}
 use Rattle.turn_rules.specs.Slots.{peer_counter}
-use Rattle.turn_rules.specs.Steps.{Says}
+use Rattle.turn_rules.specs.Steps.{RefusesThen, Says}
 
 -- the cluster seals with SK_er, and opens what the peer sealed with SK_ei (RFC 7296, section 2.14)
 abbrev pub cluster_keys : Record → IkeKeys
@@ -50,24 +56,27 @@ held_ike held = record {
   synced = held.synced;
 }
 
--- no call is left, and the event was refused
-abbrev pub RefusesThen : Refusal → List Call → Step → Type 0
-RefusesThen why rest step = (rest ≡ []) × Says (out.Refused why) step
-
--- two numbers are used, once the first is ready, and then the next IV
-abbrev pub ReadiesWithIv : Held → Counter → ℕ → List Call → Step → Type 0 → Type 0
-ReadiesWithIv held c at calls step done = Ready (reach_of held c) at calls
+-- what follows once a number is ready, and then the next IV
+abbrev pub ReadiesThen : Held → Counter → ℕ → List Call → Step → (List Call → Type 0) → Type 0
+ReadiesThen held c at calls step goes = Ready (reach_of held c) at calls
     (λ why rest. RefusesThen (refusal_of_stop why) rest step)
     (λ high rest. Ready (reach_of held counter.Iv) (five_at held.nexts counter.Iv) rest
     (λ why rest. RefusesThen (refusal_of_stop why) rest step)
-    (λ high rest. (rest ≡ []) × done))
+    (λ high rest. goes rest))
 
--- a new request is answered under the next IV, once its Message ID and the IV are ready
-abbrev pub HeldAnswers : Held → Opened → List Call → Step → Type 0
-HeldAnswers held request calls step =
-    ReadiesWithIv held counter.Answer request.header.id calls step
-    (AnswersRequest (counter_name held.sa counter.Answer) (held_ike held)
-    (five_at held.nexts counter.Iv) request step)
+-- two numbers are used, once the first is ready, and then the next IV
+abbrev pub ReadiesWithIv : Held → Counter → ℕ → List Call → Step → Type 0 → Type 0
+ReadiesWithIv held c at calls step done =
+    ReadiesThen held c at calls step (λ rest. (rest ≡ []) × done)
+
+-- A new request is answered under the next IV, once its Message ID and the IV are ready, and a
+-- number of a ticket besides, where it asks for a ticket and the cluster has a key of tickets.
+abbrev pub HeldAnswers : MemberHeld → Moment → Held → Opened → List Call → Step → Type 0
+HeldAnswers member now held request calls step =
+    ReadiesThen held counter.Answer request.header.id calls step
+    (λ rest. AddsTicket member now held.sa request rest step (λ added.
+    AnswersRequest (counter_name held.sa counter.Answer) (held_ike held)
+    (five_at held.nexts counter.Iv) request added step))
 
 -- what is held of an association, where it has this initiator's SPI
 abbrev pub of_spii : ℕ → Option Held → Option Held
@@ -139,16 +148,21 @@ HeldTakesSync fresh held response calls step = (calls ≡ []) × MatchOption (aw
 abbrev pub HeldSynchronises : Held → Opened → List Call → Step → Type 0
 HeldSynchronises held request calls step = ⊥
 
--- fresh: the octets that the member was given as it joined
-abbrev pub member_listener : List ℕ → (ℕ → Option Held) → Listener Held
-member_listener fresh held = record {
+-- a member keeps nothing of a response
+abbrev pub KeepsNothing : List PayloadValue → Kept → Type 0
+KeepsNothing payloads is = is ≡ kept.Plain
+
+-- what a member is to IKE messages at a moment
+abbrev pub member_listener : MemberHeld → Moment → Listener Held
+member_listener member now = record {
   end = end.Cluster;
-  held_under = λ spii spir. of_spii spii (held spir);
+  held_under = λ spii spir. of_spii spii (member.held spir);
   ike = held_ike;
   asks = λ h. counter_name h.sa counter.Ask;
-  Answers = HeldAnswers;
+  Keeps = KeepsNothing;
+  Answers = HeldAnswers member now;
   Synchronises = HeldSynchronises;
-  TakesSync = HeldTakesSync fresh;
+  TakesSync = HeldTakesSync (fresh_octets member.given);
 }
 
 -- a request is sent under the next Message ID and the next IV, once both are ready
@@ -156,7 +170,7 @@ abbrev pub HeldSendsRequest : Held → List ℕ → List Call → Step → Type 
 HeldSendsRequest held request calls step =
     ReadiesWithIv held counter.Ask (five_at held.nexts counter.Ask) calls step
     (SendsRequest (held_ike held) (five_at held.nexts counter.Ask)
-    (five_at held.nexts counter.Iv) request step)
+    (five_at held.nexts counter.Iv) (request_payloads request) step)
 
 -- A later epoch asks nothing before it has synchronised, and the window has to have room.
 abbrev pub HeldAsks : Held → List ℕ → List Call → Step → Type 0

@@ -1,6 +1,6 @@
 -- What an end does with IKE messages, by what it holds of their association (RFC 7296, sections
 -- 1.4, 2.1 to 2.3 and 2.21).
-use Rattle.std.specs.Prelude.{ℕ, ◌+◌, ◌≡◌, ◌≤◌, ◌⊎◌, MatchOption, unwrap_or, Option, Some, None, Result, Ok, Err, List, [], ◌∷◌, length}
+use Rattle.std.specs.Prelude.{ℕ, ◌+◌, ◌≡◌, ◌≤◌, ◌⊎◌, MatchOption, unwrap_or, Option, Some, None, Result, Ok, Err, List, [], ◌∷◌, ◌++◌, length}
 use Rattle.std.specs.Option.{option_map}
 use Rattle.events.specs.declared.turn.Datagram.{Datagram}
 use Rattle.events.specs.declared.turn.Medium.TheVariants.{Ike}
@@ -8,8 +8,8 @@ use Rattle.events.specs.declared.turn.Served.{Served}
 use Rattle.events.specs.declared.turn.Step.{Step}
 use Rattle.events.specs.declared.ike_outcomes.IkeDrop.{IkeDrop}
 use Rattle.events.specs.declared.ike_outcomes.IkeDrop.TheVariants as drop
-use Rattle.events.specs.declared.ike_outcomes.Kept.TheVariants as kept
-use Rattle.events.specs.declared.ike_outcomes.Mark.TheVariants as mark
+use Rattle.events.specs.declared.ike_outcomes.Kept.{Kept}
+use Rattle.events.specs.declared.seals.Seal.{Seal}
 use Rattle.events.specs.declared.verdict.Refusal.TheVariants as refusal
 use Rattle.events.specs.declared.verdict.Verdict.{Verdict}
 use Rattle.events.specs.declared.verdict.Verdict.TheVariants as out
@@ -17,7 +17,7 @@ use Rattle.ha_base.specs.Octets.{WithRoom}
 use Rattle.ha_base.specs.declared.counter_names.CounterName.{CounterName}
 use Rattle.ha_base.specs.declared.counter_names.End.{End}
 use Rattle.ike_values.specs.declared.fault.Bad.{Bad}
-use Rattle.ike_sas.specs.Answers.{answer_payloads, data_of, error_of, notify_type_of, request_payloads}
+use Rattle.ike_sas.specs.Answers.{answer_payloads, data_of, error_of, notify_type_of}
 use Rattle.ike_sas.specs.Arrivals.{IsArrival}
 use Rattle.ike_sas.specs.Errors.{first_error}
 use Rattle.ike_sas.specs.Held.{IkeHeld, request_header, response_header}
@@ -37,17 +37,22 @@ use Rattle.ike_window.specs.Asking.{FitsBeside, IsLeast}
 use Rattle.ike_window.specs.Kept.{kept_octets, message_ids_of}
 use Rattle.ike_window.specs.declared.TheConstants.{WINDOW}
 use Rattle.sk_payload.specs.declared.open.Opened.{Opened}
+use Rattle.turn_rules.specs.Additions.{Addition, Plain, mark_of, seals_of, with_addition}
 use Rattle.turn_rules.specs.Steps.{Says}
 
 -- ---- what is sent
 
--- a message was sealed under the next IV of an association, and given
-pub record SendsMessage (held : IkeHeld) (iv : ℕ) (header : Header) (payloads : List PayloadValue)
-    (step : Step) : Type 0 where
+-- a message was sealed under the next IV of an association, after these seals, and given
+pub record SendsAfter (before : List Seal) (held : IkeHeld) (iv : ℕ) (header : Header)
+    (payloads : List PayloadValue) (step : Step) : Type 0 where
   pub sent : SentMessage
   pub sends : SendsIke held.keys.sending iv header payloads sent
-  pub seals : step.seals ≡ sent.seal ∷ []
+  pub seals : step.seals ≡ before ++ sent.seal ∷ []
   pub gives : step.gives ≡ Some sent.datagram
+
+-- nothing else was sealed
+abbrev pub SendsMessage : IkeHeld → ℕ → Header → List PayloadValue → Step → Type 0
+SendsMessage held iv header payloads step = SendsAfter [] held iv header payloads step
 
 -- octets that were kept are given once more, and nothing is sealed
 pub record GivesAgain (verdict : Verdict) (octets : List ℕ) (step : Step) : Type 0 where
@@ -61,12 +66,12 @@ pub record GivesAgain (verdict : Verdict) (octets : List ℕ) (step : Step) : Ty
 
 -- ---- requests of an end's own
 
--- a request for these data was sent, under a Message ID and an IV
-pub record SendsRequest (held : IkeHeld) (id iv : ℕ) (request : List ℕ)
+-- a request with these inner payloads was sent, under a Message ID and an IV
+pub record SendsRequest (held : IkeHeld) (id iv : ℕ) (payloads : List PayloadValue)
     (step : Step) : Type 0 where
   pub said : step.verdict ≡ out.Asked id
   pub served : step.served ≡ None
-  pub sends : SendsMessage held iv (request_header held.keys id) (request_payloads request) step
+  pub sends : SendsMessage held iv (request_header held.keys id) payloads step
 
 -- The window of requests has room for one of this Message ID, or it is refused for the least one
 -- that is outstanding.
@@ -83,33 +88,35 @@ Resends id held step = MatchOption (kept_octets id held.asked)
 
 -- ---- new requests
 
--- the response to a request, with the reply of the service where it was executed
-abbrev pub Responds : IkeHeld → ℕ → Opened → List ℕ → Step → Type 0
-Responds held iv request reply step =
-    SendsMessage held iv (response_header held.keys request.header) (answer_payloads request reply)
-    step
+-- the response to a request, with the reply of the service where it was executed, and with what
+-- stands behind that
+abbrev pub Responds : IkeHeld → ℕ → Opened → List ℕ → Addition → Step → Type 0
+Responds held iv request reply added step = SendsAfter (seals_of added) held iv
+    (response_header held.keys request.header)
+    (with_addition (answer_payloads request reply) added) step
 
--- it was executed, and has the service's reply as its response
+-- it was executed, and has the service's reply as its response, and this behind it
 pub record ExecutesRequest (name : CounterName) (held : IkeHeld) (iv : ℕ) (request : Opened)
-    (step : Step) : Type 0 where
+    (added : Addition) (step : Step) : Type 0 where
   pub executed : Served
-  pub said : step.verdict ≡ out.Executed name request.header.id mark.Plain
+  pub said : step.verdict ≡ out.Executed name request.header.id (mark_of added)
   pub served : step.served ≡ Some executed
   pub asked : executed.request.octets ≡ data_of request.inner
   pub short : length executed.reply.octets ≤ LONGEST_REPLY
-  pub responds : Responds held iv request executed.reply.octets step
+  pub responds : Responds held iv request executed.reply.octets added step
 
 -- it was answered with an error, and not executed
 pub record RefusesRequest (name : CounterName) (held : IkeHeld) (iv : ℕ) (request : Opened)
     (error : RequestError) (step : Step) : Type 0 where
   pub said : step.verdict ≡ out.Refusing name request.header.id (notify_type_of error)
   pub served : step.served ≡ None
-  pub responds : Responds held iv request [] step
+  pub responds : Responds held iv request [] Plain step
 
--- a new request is answered under an IV; `name` is the counter of the requests that the end answers
-abbrev pub AnswersRequest : CounterName → IkeHeld → ℕ → Opened → Step → Type 0
-AnswersRequest name held iv request step = MatchOption (error_of request)
-    (ExecutesRequest name held iv request step)
+-- a new request is answered under an IV, and where it is executed this stands in the response
+-- besides; `name` is the counter of the requests that the end answers
+abbrev pub AnswersRequest : CounterName → IkeHeld → ℕ → Opened → Addition → Step → Type 0
+AnswersRequest name held iv request added step = MatchOption (error_of request)
+    (ExecutesRequest name held iv request added step)
     (λ error. RefusesRequest name held iv request error step)
 
 -- ---- responses
@@ -118,27 +125,33 @@ AnswersRequest name held iv request step = MatchOption (error_of request)
 abbrev pub reply_in : List PayloadValue → List ℕ
 reply_in payloads = unwrap_or (first_notify REPLY_DATA payloads) []
 
--- the response to a request came; `name` is the counter of the requests that the end asks
-pub record TakesReply (name : CounterName) (id : ℕ) (payloads : List PayloadValue)
-    (step : Step) : Type 0 where
+-- The response to a request came, of which the end keeps something or nothing besides; `name` is
+-- the counter of the requests that it asks.
+pub record TakesReply (Keeps : List PayloadValue → Kept → Type 0) (name : CounterName) (id : ℕ)
+    (payloads : List PayloadValue) (step : Step) : Type 0 where
   pub reply : WithRoom
   pub octets : reply.octets ≡ reply_in payloads
-  pub says : Says (out.Reply name id reply kept.Plain (first_error payloads)) step
+  pub kept : Kept
+  pub keeps : Keeps payloads kept
+  pub says : Says (out.Reply name id reply kept (first_error payloads)) step
 
-abbrev pub TakesInner : CounterName → ℕ → Result (List PayloadValue) Bad → Step → Type 0
-TakesInner name id (Ok payloads) step = TakesReply name id payloads step
-TakesInner name id (Err bad) step = ⊥
+abbrev pub TakesInner : (List PayloadValue → Kept → Type 0) → CounterName → ℕ
+    → Result (List PayloadValue) Bad → Step → Type 0
+TakesInner Keeps name id (Ok payloads) step = TakesReply Keeps name id payloads step
+TakesInner Keeps name id (Err bad) step = ⊥
 
 -- ---- what comes
 
 -- What an end is to IKE messages: what it holds under an initiator's and a responder's SPI, of that
--- its part on IKE messages, the counter of the requests that it asks in it, and what it does with a
--- new request, with a request to synchronise and with the response to one.
+-- its part on IKE messages, the counter of the requests that it asks in it, what it keeps of the
+-- response to one, and what it does with a new request, with a request to synchronise and with the
+-- response to one.
 pub record Listener (X : Type 0) : Type 1 where
   pub end : End
   pub held_under : ℕ → ℕ → Option X
   pub ike : X → IkeHeld
   pub asks : X → CounterName
+  pub Keeps : List PayloadValue → Kept → Type 0
   pub Answers : X → Opened → List Call → Step → Type 0
   pub Synchronises : X → Opened → List Call → Step → Type 0
   pub TakesSync : X → Opened → List Call → Step → Type 0
@@ -165,7 +178,8 @@ TakesArrival listener (arrival.New request) calls step =
     TakesThere listener request (λ held. listener.Answers held request calls step)
 TakesArrival listener (arrival.Response response) calls step = (calls ≡ [])
     × TakesThere listener response
-    (λ held. TakesInner (listener.asks held) response.header.id response.inner step)
+    (λ held. TakesInner listener.Keeps (listener.asks held) response.header.id response.inner
+    step)
 TakesArrival listener (arrival.Synchronisation request) calls step =
     TakesThere listener request (λ held. listener.Synchronises held request calls step)
 TakesArrival listener (arrival.SyncResponse response) calls step =

@@ -1,7 +1,9 @@
 -- What the peer does with IKE messages.
-use Rattle.std.specs.Prelude.{ℕ, ◌≡◌, ◌<◌, ◌≤◌, ◌==◌, ◌&&◌, ◌⊎◌, MatchOption, Bool, true, List, [], None, Result, Ok, Err}
+use Rattle.std.specs.Prelude.{ℕ, ◌≡◌, ◌<◌, ◌≤◌, ◌==◌, ◌&&◌, ◌⊎◌, MatchOption, Bool, true, false, List, [], None, Result, Ok, Err}
 use Rattle.events.specs.declared.turn.Step.{Step}
 use Rattle.events.specs.declared.ike_outcomes.IkeDrop.TheVariants as drop
+use Rattle.events.specs.declared.ike_outcomes.Kept.{Kept}
+use Rattle.events.specs.declared.ike_outcomes.Kept.TheVariants as kept
 use Rattle.events.specs.declared.verdict.Refusal.TheVariants as refusal
 use Rattle.events.specs.declared.verdict.Verdict.TheVariants as out
 use Rattle.ha_base.specs.declared.counter_names.End.TheVariants as end
@@ -24,6 +26,7 @@ use Rattle.sync_exchange.specs.declared.replay_counter.TheConstants.{DELTA_OCTET
 use Rattle.sync_exchange.specs.declared.request.SyncRequest.{SyncRequest}
 use Rattle.sync_exchange.specs.declared.sync_drop.SyncDrop.{SyncDrop}
 use Rattle.sync_exchange.specs.declared.sync_drop.SyncDrop.TheVariants as why
+use Rattle.turn_rules.specs.Additions.{Plain}
 use Rattle.turn_rules.specs.Draws.{counter_name}
 use Rattle.turn_rules.specs.Messages.{AnswersRequest, Listener, Resends, SendsMessage, SendsRequest, Windowed}
 use Rattle.turn_rules.specs.Slots.{Slot, first_slot, has_spir, peer_counter}
@@ -49,15 +52,17 @@ slot_ike slot = record {
   synced = true;
 }
 
+-- a live association with these SPIs
 abbrev pub has_spis : ℕ → ℕ → Slot → Bool
-has_spis spii spir slot = (slot.sa.spii == spii) && (slot.sa.spir == spir)
+has_spis spii spir slot = (slot.sa.spii == spii) && has_spir spir slot
 
 -- a new request is answered under the next IV, unless no IV is left
 pub record SlotAnswers (slot : Slot) (request : Opened) (calls : List Call)
     (step : Step) : Type 0 where
   pub no_calls : calls ≡ []
   pub within : slot.iv < end_of slot.sa counter.Iv
-      → AnswersRequest (peer_counter slot.sa counter.Answer) (slot_ike slot) slot.iv request step
+      → AnswersRequest (peer_counter slot.sa counter.Answer) (slot_ike slot) slot.iv request Plain
+      step
   pub ended : end_of slot.sa counter.Iv ≤ slot.iv → Says (out.Refused refusal.Exhausted) step
 
 -- what a slot holds that a synchronisation asks for
@@ -105,36 +110,45 @@ pub record SlotSynchronises (slot : Slot) (request : Opened) (calls : List Call)
 abbrev pub SlotTakesSync : Slot → Opened → List Call → Step → Type 0
 SlotTakesSync slot response calls step = ⊥
 
+-- The peer keeps the first ticket of a response, or sees that there is none (RFC 5723, section 4.1).
+abbrev pub KeepsTicket : List PayloadValue → Kept → Type 0
+KeepsTicket payloads kept.Plain = (ticket_of payloads ≡ None) × (declines_ticket payloads ≡ false)
+KeepsTicket payloads (kept.Ticket lifetime ticket) =
+    ticket_of payloads ≡ Some (record { lifetime = lifetime; ticket = ticket.octets })
+KeepsTicket payloads kept.Nack = (ticket_of payloads ≡ None) × (declines_ticket payloads ≡ true)
+
 abbrev pub peer_listener : List Slot → Listener Slot
 peer_listener slots = record {
   end = end.Peer;
   held_under = λ spii spir. first_slot (has_spis spii spir) slots;
   ike = slot_ike;
   asks = λ slot. peer_counter slot.sa counter.Ask;
+  Keeps = KeepsTicket;
   Answers = SlotAnswers;
   Synchronises = SlotSynchronises;
   TakesSync = SlotTakesSync;
 }
 
 -- a request is sent under the next Message ID and the next IV, unless one of them is not left
-pub record SlotSendsRequest (slot : Slot) (request : List ℕ) (step : Step) : Type 0 where
+pub record SlotSendsRequest (slot : Slot) (payloads : List PayloadValue)
+    (step : Step) : Type 0 where
   pub within :
       slot.ask < end_of slot.sa counter.Ask → slot.iv < end_of slot.sa counter.Iv
-      → SendsRequest (slot_ike slot) slot.ask slot.iv request step
+      → SendsRequest (slot_ike slot) slot.ask slot.iv payloads step
   pub ended :
       (end_of slot.sa counter.Ask ≤ slot.ask) ⊎ (end_of slot.sa counter.Iv ≤ slot.iv)
       → Says (out.Refused refusal.Exhausted) step
 
-abbrev pub SlotAsks : Slot → List ℕ → Step → Type 0
-SlotAsks slot request step = Windowed (slot_ike slot) slot.ask
+abbrev pub SlotAsks : Slot → List PayloadValue → Step → Type 0
+SlotAsks slot payloads step = Windowed (slot_ike slot) slot.ask
     (λ least. Says (out.Refused (refusal.WindowFull least)) step)
-    (SlotSendsRequest slot request step)
+    (SlotSendsRequest slot payloads step)
 
--- the peer asks in an association for the execution of a request
-abbrev pub PeerAsks : ℕ → List Slot → List ℕ → Step → Type 0
-PeerAsks spir slots request step = MatchOption (first_slot (has_spir spir) slots)
+-- the peer sends a request with these inner payloads in a live association
+abbrev pub PeerAsks : ℕ → List Slot → List PayloadValue → Step → Type 0
+PeerAsks spir slots payloads step = MatchOption (first_slot (has_spir spir) slots)
     (Says (out.Refused refusal.Unknown) step)
-    (λ slot. SlotAsks slot request step)
+    (λ slot. SlotAsks slot payloads step)
 
 -- and sends a request again
 abbrev pub PeerResends : ℕ → List Slot → ℕ → Step → Type 0

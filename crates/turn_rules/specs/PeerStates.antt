@@ -25,7 +25,7 @@ peer_configured (Some config) held = record held { gateway = gateway_of config }
 -- what the peer holds after a task of its own at a moment, with receive windows of this size
 abbrev pub peer_after : ℕ → Moment → Task → Step → PeerHeld → PeerHeld
 peer_after size now asked step held =
-    record held { slots = slots_after size asked step held.slots }
+    record held { slots = slots_after size now asked step held.slots }
 
 -- what the peer holds, as the configuration and its own turns tell it
 abbrev pub peer_by : Configuration → List Turn → PeerHeld

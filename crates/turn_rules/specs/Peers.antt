@@ -1,6 +1,6 @@
 -- What the peer's own turns say that it holds.
-use Rattle.std.specs.Prelude.{◌≢◌, ◌==◌, ◌||◌, Bool, not, Option, Some, None, option_to_list, List, [], ◌∷◌, ◌++◌}
-use Rattle.std.specs.List.{AllByRecursion, list_any}
+use Rattle.std.specs.Prelude.{◌≢◌, Option, Some, None, option_to_list, List, [], ◌∷◌, ◌++◌}
+use Rattle.std.specs.List.{AllByRecursion}
 use Rattle.events.specs.declared.event.Event.{Event}
 use Rattle.events.specs.declared.turn.Turn.{Turn}
 use Rattle.events.specs.declared.verdict.Verdict.{Verdict}
@@ -26,18 +26,9 @@ abbrev pub associations_by : List Turn → List Record
 associations_by [] = []
 associations_by (turn ∷ past) = associations_by past ++ option_to_list (entered_in turn)
 
--- an association of the peer has the responder's SPI, or receives at the same SPI
-abbrev pub clashes : Record → Record → Bool
-clashes sa slot = (slot.spir == sa.spir) || (slot.spi_out == sa.spi_out)
-
--- no association of the peer stands in the way
-abbrev pub admits : List Record → Record → Bool
-admits slots sa = not (list_any (clashes sa) slots)
-
--- two associations have other responder's SPIs, and the peer receives in them at other SPIs
-pub record Differ (a b : Record) : Type 0 where
-  pub spir : a.spir ≢ b.spir
-  pub spi_out : a.spi_out ≢ b.spi_out
+-- two associations have other responder's SPIs
+abbrev pub Differ : Record → Record → Type 0
+Differ a b = a.spir ≢ b.spir
 
 -- each two of them do
 abbrev pub AreDistinct : List Record → Type 0

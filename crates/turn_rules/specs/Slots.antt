@@ -1,6 +1,6 @@
 -- What the peer holds of its associations, and what it does with ESP packets.
-use Rattle.std.specs.List.{filter_map}
-use Rattle.std.specs.Prelude.{ℕ, ◌+◌, ◌≡◌, ◌<◌, ◌≤◌, ◌==◌, max, zero, suc, Bool, false, MatchOption, length, Option, Some, None, List, [], ◌∷◌, ◌++◌, map, option_to_list, if◌then◌else◌, Result, Ok, Err}
+use Rattle.std.specs.List.{filter_map, list_any}
+use Rattle.std.specs.Prelude.{ℕ, ◌+◌, ◌≡◌, ◌<◌, ◌≤◌, ◌==◌, ◌&&◌, ◌||◌, max, zero, suc, Bool, true, false, not, MatchOption, length, Option, Some, None, List, [], ◌∷◌, ◌++◌, map, option_to_list, if◌then◌else◌, Result, Ok, Err}
 use Rattle.std.specs.Option.{option_map}
 use Rattle.esp_packets.specs.Packet.{spi_of}
 use Rattle.events.specs.declared.event.Event.{Event}
@@ -15,6 +15,7 @@ use Rattle.ha_base.specs.declared.counter_names.End.TheVariants as end
 use Rattle.ha_base.specs.declared.esp_outcomes.EspDrop.{EspDrop}
 use Rattle.ha_base.specs.declared.esp_outcomes.EspDrop.TheVariants as drop
 use Rattle.ha_base.specs.declared.esp_outcomes.EspOpened.{EspOpened}
+use Rattle.ha_base.specs.declared.outside.Moment.{Moment}
 use Rattle.ike_window.specs.Kept.{KeptMessage}
 use Rattle.ike_window.specs.Stored.{no_responses, window_of_responses}
 use Rattle.ike_window.specs.Windows.{ResponseWindow}
@@ -24,20 +25,23 @@ use Rattle.keeper_book.specs.declared.counters.Counter.TheVariants as counter
 use Rattle.keeper_book.specs.declared.records.Record.{Record}
 use Rattle.replay_set.specs.Window.{Window, window_of}
 use Rattle.turn_rules.specs.Draws.{child_of, counter_kind}
-use Rattle.turn_rules.specs.Held.{after_number, after_received, floor_of, greatest, received_in, received_of, used_in}
+use Rattle.turn_rules.specs.Held.{after_number, after_received, first_some, floor_of, found, greatest, received_in, received_of, used_in}
 use Rattle.turn_rules.specs.IkeState.{answered_after, heard_in, outstanding_after, outstanding_of, replied_in, request_in, response_in, turn_agreed, turn_response}
 use Rattle.turn_rules.specs.Packets.{Drops, Inbound, OpensEsp, Outbound, SendsEsp}
+use Rattle.turn_rules.specs.PeerTickets.{KeptTicket, is_forgotten, is_live_after, live_after, ticket_in, ticket_of}
 use Rattle.turn_rules.specs.Peers.{associations_by, entered_at_task, entered_in}
 use Rattle.turn_rules.specs.Steps.{Says}
 use Rattle.turn_rules.specs.Synchronised.{after_jump, after_rise, agreed_in, ends_in, jumped_in}
 use Rattle.turn_rules.specs.Tasks.{Task, peer_task}
 
--- What the peer holds of an association: the record, the ESP number that it sends next, and which
--- numbers it received; and of IKE messages the next IV, the next Message ID of an own request, the
--- requests that are outstanding, what was answered, and the greatest Message ID of the cluster's that
--- it knows of, if there is one.
+-- What the peer holds of an association: the record, whether the association is live, which it is
+-- until the peer closes it, the ESP number that it sends next, and which numbers it received; of IKE
+-- messages the next IV, the next Message ID of an own request, the requests that are outstanding,
+-- what was answered, and the greatest Message ID of the cluster's that it knows of, if there is one;
+-- and the last ticket that came, if one did.
 pub record Slot : Type 0 where
   pub sa : Record
+  pub live : Bool
   pub next : ℕ
   pub window : Window
   pub iv : ℕ
@@ -45,6 +49,7 @@ pub record Slot : Type 0 where
   pub asked : List KeptMessage
   pub answered : ResponseWindow
   pub highest : Option ℕ
+  pub ticket : Option KeptTicket
 
 -- the peer's counter of an association
 abbrev pub peer_counter : Record → Counter → CounterName
@@ -65,6 +70,7 @@ one_below (suc n) = Some n
 abbrev pub entered_slot : ℕ → Record → Slot
 entered_slot size sa = record {
   sa = sa;
+  live = true;
   next = sa.starts.esp_in;
   window = window_of size sa.starts.esp_out [];
   iv = sa.starts.iv;
@@ -72,6 +78,7 @@ entered_slot size sa = record {
   asked = [];
   answered = no_responses sa.starts.ask;
   highest = one_below sa.starts.ask;
+  ticket = None;
 }
 
 abbrev pub slot_outbound : Slot → Outbound
@@ -146,6 +153,7 @@ since_entered spir (turn ∷ past) = if is_entered spir (entered_in turn) then [
 abbrev pub slot_by : ℕ → List Turn → Record → Slot
 slot_by size past sa = let mine = since_entered sa.spir past in record {
   sa = sa;
+  live = is_live_after sa.spir mine;
   next = next_sent sa.spir sa.starts.esp_in mine;
   window = window_of size sa.starts.esp_out (filter_map (received_of sa.spir) mine);
   iv = greatest sa.starts.iv (map (λ n. n + 1) (filter_map (spent_of sa.spir counter.Iv) mine));
@@ -157,28 +165,38 @@ slot_by size past sa = let mine = since_entered sa.spir past in record {
       (floor_of sa.starts.ask (filter_map (turn_agreed peer_task sa.spir) mine))
       (filter_map (turn_response peer_task sa.spir) mine);
   highest = highest_of (one_below sa.starts.ask) (filter_map (heard_of sa.spir) mine);
+  ticket = found (ticket_of sa.spir) mine;
 }
 
 -- the peer's associations, in the order in which they came, with receive windows of this size
 abbrev pub slots_by : ℕ → List Turn → List Slot
 slots_by size past = map (slot_by size past) (associations_by past)
 
--- the slot of a responder's SPI, and the one that receives at an SPI
+-- a live association of a responder's SPI, and one that receives at an SPI
 abbrev pub has_spir : ℕ → Slot → Bool
-has_spir spir slot = slot.sa.spir == spir
+has_spir spir slot = slot.live && (slot.sa.spir == spir)
 
 abbrev pub receives_at : ℕ → Slot → Bool
-receives_at spi slot = slot.sa.spi_out == spi
+receives_at spi slot = slot.live && (slot.sa.spi_out == spi)
+
+-- an association of the peer has the responder's SPI, closed or not, or it receives at the same SPI
+abbrev pub clashes : Record → Slot → Bool
+clashes sa slot = (slot.sa.spir == sa.spir) || receives_at sa.spi_out slot
+
+-- no association of the peer stands in the way
+abbrev pub admits : List Slot → Record → Bool
+admits slots sa = not (list_any (clashes sa) slots)
 
 -- the first slot that passes a test
 abbrev pub first_slot : (Slot → Bool) → List Slot → Option Slot
 first_slot test [] = None
 first_slot test (slot ∷ slots) = if test slot then Some slot else first_slot test slots
 
--- what the peer holds of an association after one more turn of its own
-abbrev pub slot_after : Task → Step → Slot → Slot
-slot_after asked step slot = record {
+-- what the peer holds of an association after one more turn of its own at a moment
+abbrev pub slot_after : Moment → Task → Step → Slot → Slot
+slot_after now asked step slot = record {
   sa = slot.sa;
+  live = live_after (is_forgotten slot.sa.spir asked step.verdict) slot.live;
   next = after_rise (agreed_in slot.sa.spir asked step.verdict)
       (after_number (used_in end.Peer slot.sa.spir counter.EspOut asked step) slot.next);
   window = after_received (received_in slot.sa.spir asked step.verdict) slot.window;
@@ -190,12 +208,13 @@ slot_after asked step slot = record {
   answered = answered_after (agreed_in slot.sa.spir asked step.verdict)
       (response_in slot.sa.spir asked step) slot.answered;
   highest = after_heard (heard_in slot.sa.spir asked step.verdict) slot.highest;
+  ticket = first_some (ticket_in slot.sa.spir now asked step.verdict) slot.ticket;
 }
 
 -- and what it holds of all of them
-abbrev pub slots_after : ℕ → Task → Step → List Slot → List Slot
-slots_after size asked step slots =
-    map (slot_after asked step) slots ++ option_to_list
+abbrev pub slots_after : ℕ → Moment → Task → Step → List Slot → List Slot
+slots_after size now asked step slots =
+    map (slot_after now asked step) slots ++ option_to_list
     (option_map (entered_slot size) (entered_at_task asked step.verdict))
 
 -- a payload is sent under the next number, unless the counter is at its end
@@ -204,7 +223,7 @@ pub record SlotSends (slot : Slot) (payload : List ℕ) (step : Step) : Type 0 w
       → SendsEsp (slot_outbound slot) slot.next payload step
   pub ended : end_of slot.sa counter.EspOut ≤ slot.next → Says (out.Refused refusal.Exhausted) step
 
--- the peer sends a payload in an association
+-- the peer sends a payload in a live association
 abbrev pub PeerSends : ℕ → List Slot → List ℕ → Step → Type 0
 PeerSends spir slots payload step = MatchOption (first_slot (has_spir spir) slots)
     (Says (out.Refused refusal.Unknown) step)
@@ -231,3 +250,9 @@ pub record PeerReceives (slots : List Slot) (octets : List ℕ) (answer : EspVer
   pub long : 34 ≤ length octets → MatchOption (first_slot (receives_at (spi_of octets)) slots)
       (Drops drop.WrongSpi octets answer after)
       (λ slot. SlotReceives slot octets answer after)
+
+-- the peer closes its end of a live association, and tells nobody
+abbrev pub PeerForgets : ℕ → List Slot → Step → Type 0
+PeerForgets spir slots step = MatchOption (first_slot (has_spir spir) slots)
+    (Says (out.Refused refusal.Unknown) step)
+    (λ slot. Says out.Forgotten step)

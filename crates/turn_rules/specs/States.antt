@@ -11,18 +11,13 @@ use Rattle.events.specs.declared.verdict.Verdict.{Verdict}
 use Rattle.events.specs.declared.verdict.Verdict.TheVariants as out
 use Rattle.ha_base.specs.declared.outside.Moment.{Moment}
 use Rattle.keeper_book.specs.declared.calls.Call.{Call}
-use Rattle.turn_rules.specs.Configurations.{Configuration, Membership, configured_in, default_configuration, fresh_in, gateway_of, membership}
+use Rattle.turn_rules.specs.Configurations.{Configuration, configured_in, default_configuration, fresh_in, gateway_of}
 use Rattle.turn_rules.specs.Datagrams.{PlainDatagram, datagrams_of, plain_datagram}
 use Rattle.turn_rules.specs.Ends.{Member, Peer, is_end, own, performer_at}
-use Rattle.turn_rules.specs.Held.{Held, config_by, first_some, found, held_after, held_by}
+use Rattle.turn_rules.specs.Held.{config_by}
+use Rattle.turn_rules.specs.MemberStates.{MemberHeld, member_after, member_by, member_unless, no_member}
 use Rattle.turn_rules.specs.PeerStates.{PeerHeld, peer_after, peer_begun, peer_by, peer_configured}
 use Rattle.turn_rules.specs.Tasks.{Task, member_task, peer_task}
-
--- What a member holds: what it was given as it joined, if it did, and what it holds of each
--- association, by the responder's SPI.
-pub record MemberHeld : Type 0 where
-  pub given : Option Membership
-  pub held : ℕ → Option Held
 
 -- boxes: how many services were handed in for members; config: how members are configured that
 -- join; joined: how many members joined; peer: what the peer holds. `ended` and `members` are by the
@@ -61,31 +56,6 @@ ended_in turn = ended_by turn.event turn.step.verdict
 -- the event ended this member
 abbrev pub ends : ℕ → Event → Verdict → Bool
 ends member event verdict = is_number member (ended_by event verdict)
-
--- what a member has; once it ended that is nothing
-abbrev pub held_unless : {X : Type 0} → Bool → Option X → Option X
-held_unless true held = None
-held_unless false held = held
-
--- what a member holds; once it ended that is nothing
-abbrev pub member_unless : Bool → MemberHeld → MemberHeld
-member_unless ended m = record {
-  given = held_unless ended m.given;
-  held = λ spir. held_unless ended (m.held spir);
-}
-
--- a member that has not joined
-abbrev pub no_member : MemberHeld
-no_member = record { given = None; held = λ spir. None }
-
--- what a member holds after a task of its own at a moment, by the configuration of the cluster;
--- fresh: the octets of its own that it was given, where it joined
-abbrev pub member_after : Configuration → Moment → Option (List ℕ) → Task → List Call → Step
-    → MemberHeld → MemberHeld
-member_after config now fresh asked calls step m = record {
-  given = first_some (option_map (membership config) fresh) m.given;
-  held = λ spir. held_after config.window spir asked calls step (m.held spir);
-}
 
 -- before the first turn nobody holds anything
 abbrev pub at_first : ℕ → RunState
@@ -138,17 +108,6 @@ joins past = length (filter (λ turn. is_join turn.step.verdict) past)
 -- this member ended
 abbrev pub has_ended : ℕ → List Turn → Bool
 has_ended member past = list_any (λ turn. ends member turn.event turn.step.verdict) past
-
--- the fresh octets of a member that joined in a turn
-abbrev pub fresh_at : Turn → Option (List ℕ)
-fresh_at turn = fresh_in turn.event turn.step.verdict
-
--- what a member holds, as the configuration and its own turns tell it
-abbrev pub member_by : Configuration → List Turn → MemberHeld
-member_by config past = record {
-  given = option_map (membership config) (found fresh_at past);
-  held = held_by config.window past;
-}
 
 -- The same, as each end's own turns tell it: with the greatest numbers that it used and saw
 -- acknowledged, and the sets of those that it received. The laws say that it is the same where each
