@@ -9,8 +9,8 @@ use Rattle.line_fields.specs.Words.{Cursor}
 use Rattle.line_fields.specs.Fields.{◌>>=◌, behind_field, word_at, word_in}
 use Rattle.line_fields.proofs.FieldLaws.{column_behind, ok_is, pick, then_words, walk}
 use Rattle.line_fields.proofs.SpacelessLaws.{is_plain}
-use Rattle.events.specs.Events.{PlainEvent, Cluster, Import, Join, Own, Draw, Crash, Send, Ask, Again, Sync, Deliver, Alter, Cut, Inject}
-use Rattle.events.specs.EventTable.{EventFields, Whole, Then, EventRow, again_row, alter_row, ask_row, cluster_row, crash_row, cut_row, deliver_row, draw_row, event_table, import_row, inject_row, join_row, own_row, read_fields, read_row, send_row, sync_row}
+use Rattle.events.specs.Events.{PlainEvent, Cluster, Import, Join, Own, Draw, Crash, Send, Ask, Again, Sync, Ticket, Forget, Deliver, Alter, Cut, Inject}
+use Rattle.events.specs.EventTable.{EventFields, Whole, Then, EventRow, again_row, alter_row, ask_row, cluster_row, crash_row, cut_row, deliver_row, draw_row, event_table, forget_row, import_row, inject_row, join_row, own_row, read_fields, read_row, send_row, sync_row, ticket_row}
 use Rattle.events.specs.FilledRows.{FilledRow, Filled, Values, event_of, event_words, filled_row, row_words, value_words}
 use Rattle.events.specs.Ranges.{AreWithinRanges, Fits, IsMadeBy}
 use Rattle.event_text.specs.Reading.{event_at}
@@ -131,6 +131,14 @@ sync_kinds : AreKinds sync_row.fields
 unfolding AreKinds
 sync_kinds = (member_kind, λ member. (spi_kind, λ spir. tt))
 
+ticket_kinds : AreKinds ticket_row.fields
+unfolding AreKinds
+ticket_kinds = (spi_kind, λ spir. tt)
+
+forget_kinds : AreKinds forget_row.fields
+unfolding AreKinds
+forget_kinds = (spi_kind, λ spir. tt)
+
 deliver_kinds : AreKinds deliver_row.fields
 unfolding AreKinds
 deliver_kinds = (datagram_kind, λ which. (end_kind, λ to. tt))
@@ -185,6 +193,12 @@ again_is = record { kinds = again_kinds; spelled = λ v. refl; fits = λ v h. re
 sync_is : IsRow sync_row
 sync_is = record { kinds = sync_kinds; spelled = λ v. refl; fits = λ v h. record { ranges = h; made = refl }; found = λ c s. refl; plain = refl }
 
+ticket_is : IsRow ticket_row
+ticket_is = record { kinds = ticket_kinds; spelled = λ v. refl; fits = λ v h. record { ranges = h; made = refl }; found = λ c s. refl; plain = refl }
+
+forget_is : IsRow forget_row
+forget_is = record { kinds = forget_kinds; spelled = λ v. refl; fits = λ v h. record { ranges = h; made = refl }; found = λ c s. refl; plain = refl }
+
 deliver_is : IsRow deliver_row
 deliver_is = record { kinds = deliver_kinds; spelled = λ v. refl; fits = λ v h. record { ranges = h; made = refl }; found = λ c s. refl; plain = refl }
 
@@ -200,7 +214,7 @@ AreRows (row ∷ rows) = IsRow row × AreRows rows
 
 table_rows : AreRows event_table
 unfolding AreRows
-table_rows = (send_is, (ask_is, (inject_is, (cluster_is, (import_is, (join_is, (own_is, (draw_is, (crash_is, (again_is, (sync_is, (deliver_is, (alter_is, (cut_is, tt))))))))))))))
+table_rows = (send_is, (ask_is, (inject_is, (cluster_is, (import_is, (join_is, (own_is, (draw_is, (crash_is, (again_is, (sync_is, (ticket_is, (forget_is, (deliver_is, (alter_is, (cut_is, tt))))))))))))))))
 
 HasRow : FilledRow → Type 0
 HasRow (Filled row values) = IsRow row
@@ -217,6 +231,8 @@ event_row (Send from spir payload) = send_is
 event_row (Ask from spir request) = ask_is
 event_row (Again from spir id) = again_is
 event_row (Sync member spir) = sync_is
+event_row (Ticket spir) = ticket_is
+event_row (Forget spir) = forget_is
 event_row (Deliver which to) = deliver_is
 event_row (Alter which to place octet) = alter_is
 event_row (Cut which to keep) = cut_is

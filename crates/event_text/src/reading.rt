@@ -10,7 +10,7 @@ ghost use Rattle.ha_base.specs.declared.outside.Moment.{Moment};
 ghost use Rattle.line_fields.specs.Fields.{Reads};
 ghost use Rattle.event_text.specs.InMemory.{FailsInLine, GivesInLine};
 ghost use Rattle.events.specs.KeyFields.{sa_keys_at, child_keys_at, starts_at};
-ghost use Rattle.events.specs.EventTable.{again_row, alter_row, ask_row, cluster_row, crash_row, cut_row, deliver_row, draw_row, event_table, import_row, inject_row, join_row, own_row, read_fields, read_row, send_row, sync_row};
+ghost use Rattle.events.specs.EventTable.{again_row, alter_row, ask_row, cluster_row, crash_row, cut_row, deliver_row, draw_row, event_table, forget_row, import_row, inject_row, join_row, own_row, read_fields, read_row, send_row, sync_row, ticket_row};
 ghost use Rattle.event_text.specs.Reading.{event_at, line_at, moment_at, moment_and_event_at};
 
 use crate::event_fields::{medium, octets_in_memory, party, ticket_key, which, window};
@@ -197,6 +197,20 @@ fn sync(words: &mut Words<'_>) -> Result<Event, LineFault>
     Ok(Event::Sync { member, spir })
 }
 
+fn ticket(words: &mut Words<'_>) -> Result<Event, LineFault>
+    ensures { Reads plain result words.new (read_fields ticket_row.fields words.old) }
+{
+    let spir = spi(words)?;
+    Ok(Event::Ticket { spir })
+}
+
+fn forget(words: &mut Words<'_>) -> Result<Event, LineFault>
+    ensures { Reads plain result words.new (read_fields forget_row.fields words.old) }
+{
+    let spir = spi(words)?;
+    Ok(Event::Forget { spir })
+}
+
 fn deliver(words: &mut Words<'_>) -> Result<Event, LineFault>
     ensures { Reads plain result words.new (read_fields deliver_row.fields words.old) }
 {
@@ -266,6 +280,12 @@ fn short_event(column: u32, word: &[u8], words: &mut Words<'_>) -> Result<Event,
     }
     if word == b"sync".as_slice() {
         return sync(words);
+    }
+    if word == b"ticket".as_slice() {
+        return ticket(words);
+    }
+    if word == b"forget".as_slice() {
+        return forget(words);
     }
     if word == b"deliver".as_slice() {
         return deliver(words);

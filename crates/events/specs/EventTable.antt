@@ -8,7 +8,7 @@ use Rattle.line_fields.specs.declared.fault.LineReason.TheVariants as reasons
 use Rattle.line_fields.specs.declared.fault.LineFault.{LineFault}
 use Rattle.line_fields.specs.Words.{Cursor}
 use Rattle.line_fields.specs.Fields.{◌>>=◌, fault_at}
-use Rattle.events.specs.Events.{PlainEvent, Cluster, Import, Join, Own, Draw, Crash, Send, Ask, Again, Sync, Deliver, Alter, Cut, Inject}
+use Rattle.events.specs.Events.{PlainEvent, Cluster, Import, Join, Own, Draw, Crash, Send, Ask, Again, Sync, Ticket, Forget, Deliver, Alter, Cut, Inject}
 use Rattle.events.specs.FieldKinds.{FieldKind, a_datagram, a_medium, an_end, any_identity, datagram_place, domain_name, esp_keys, esp_spi, five_starts, ike_keys, ike_spi, key_size, lifetime_seconds, member_number, message_id, octets_from, one_octet, ticket_key, window_size}
 
 -- the kinds of an event's fields in their order, and the event that their values make
@@ -142,6 +142,22 @@ sync_row = record {
       Whole (Sync member spir)));
 }
 
+abbrev pub ticket_row : EventRow
+ticket_row = record {
+  word = codes "ticket";
+  fields =
+      Then ike_spi (λ spir.
+      Whole (Ticket spir));
+}
+
+abbrev pub forget_row : EventRow
+forget_row = record {
+  word = codes "forget";
+  fields =
+      Then ike_spi (λ spir.
+      Whole (Forget spir));
+}
+
 abbrev pub deliver_row : EventRow
 deliver_row = record {
   word = codes "deliver";
@@ -186,6 +202,8 @@ event_table =
     ∷ crash_row
     ∷ again_row
     ∷ sync_row
+    ∷ ticket_row
+    ∷ forget_row
     ∷ deliver_row
     ∷ alter_row
     ∷ cut_row

@@ -53,6 +53,8 @@ pub data PlainEvent : Type 0 where
   Ask : Party → ℕ → List ℕ → PlainEvent
   Again : Party → ℕ → ℕ → PlainEvent
   Sync : ℕ → ℕ → PlainEvent
+  Ticket : ℕ → PlainEvent
+  Forget : ℕ → PlainEvent
   Deliver : Which → Party → PlainEvent
   Alter : Which → Party → ℕ → ℕ → PlainEvent
   Cut : Which → Party → ℕ → PlainEvent
@@ -70,6 +72,8 @@ plain (events.Send from spir payload) = Send from spir payload.octets
 plain (events.Ask from spir request) = Ask from spir request.octets
 plain (events.Again from spir id) = Again from spir id
 plain (events.Sync member spir) = Sync member spir
+plain (events.Ticket spir) = Ticket spir
+plain (events.Forget spir) = Forget spir
 plain (events.Deliver which to) = Deliver which to
 plain (events.Alter which to place octet) = Alter which to place octet
 plain (events.Cut which to keep) = Cut which to keep

@@ -1,7 +1,7 @@
 -- Events as rows of the table, filled in, and the words of their lines.
 use Rattle.std.specs.Prelude.{ℕ, List, [], ◌∷◌, ◌++◌}
-use Rattle.events.specs.Events.{PlainEvent, Cluster, Import, Join, Own, Draw, Crash, Send, Ask, Again, Sync, Deliver, Alter, Cut, Inject}
-use Rattle.events.specs.EventTable.{EventFields, Whole, Then, EventRow, again_row, alter_row, ask_row, cluster_row, crash_row, cut_row, deliver_row, draw_row, import_row, inject_row, join_row, own_row, send_row, sync_row}
+use Rattle.events.specs.Events.{PlainEvent, Cluster, Import, Join, Own, Draw, Crash, Send, Ask, Again, Sync, Ticket, Forget, Deliver, Alter, Cut, Inject}
+use Rattle.events.specs.EventTable.{EventFields, Whole, Then, EventRow, again_row, alter_row, ask_row, cluster_row, crash_row, cut_row, deliver_row, draw_row, forget_row, import_row, inject_row, join_row, own_row, send_row, sync_row, ticket_row}
 
 -- a value for each field
 abbrev pub Values : EventFields → Type 0
@@ -50,6 +50,8 @@ filled_row (Send from spir payload) = fill send_row from spir payload
 filled_row (Ask from spir request) = fill ask_row from spir request
 filled_row (Again from spir id) = fill again_row from spir id
 filled_row (Sync member spir) = fill sync_row member spir
+filled_row (Ticket spir) = fill ticket_row spir
+filled_row (Forget spir) = fill forget_row spir
 filled_row (Deliver which to) = fill deliver_row which to
 filled_row (Alter which to place octet) = fill alter_row which to place octet
 filled_row (Cut which to keep) = fill cut_row which to keep

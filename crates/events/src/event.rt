@@ -78,6 +78,16 @@ pub enum Event {
         member: u64,
         spir: u64,
     },
+    /// The peer sends a request that asks for a ticket, in an IKE message of the association with
+    /// this SPIr (RFC 5723, section 4.1).
+    Ticket {
+        spir: u64,
+    },
+    /// The peer closes its end of the association with this SPIr, and sends nothing that tells it. It
+    /// keeps the ticket.
+    Forget {
+        spir: u64,
+    },
     /// A datagram is delivered to an end.
     Deliver {
         which: Which,

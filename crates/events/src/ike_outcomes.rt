@@ -1,5 +1,6 @@
 //! What comes of IKE messages.
 
+use ha_base::Octets;
 use ike_values::Bad;
 
 /// What the response to a request that was executed tells besides the service's reply.
@@ -7,13 +8,22 @@ use ike_values::Bad;
 pub enum Mark {
     /// Nothing.
     Plain,
+    /// It holds a ticket: the number under which the ticket was sealed, which is its IV (RFC 5723,
+    /// section 4.1).
+    Ticket(u64),
+    /// It says that the request for a ticket was declined (RFC 5723, section 4.1).
+    Nack,
 }
 
 /// What an end kept of a response besides the reply in it.
-#[derive(Clone, Copy)]
+#[derive(Drop)]
 pub enum Kept {
     /// Nothing.
     Plain,
+    /// A ticket, and its lifetime in seconds (RFC 5723, section 7.2).
+    Ticket { lifetime: u32, ticket: Octets },
+    /// Nothing: the request for a ticket was declined.
+    Nack,
 }
 
 /// Why an IKE message was dropped, in the order of the checks.

@@ -13,6 +13,8 @@ pub enum Verdict {
     Entered,
     /// A member ended.
     Down,
+    /// The peer closed its end of an association, and told nobody.
+    Forgotten,
     /// The number of the member that joined.
     Member(u32),
     /// A member took over: the epoch that began, and its bases.

@@ -1,15 +1,14 @@
 -- How an event came out is read back from its words.
-use Rattle.std.proofs.Common.{◌≡◌, ℕ, List, [], ◌∷◌, Option, Some, None, Ok, Err, refl, codes, if◌then◌else◌}
+use Rattle.std.proofs.Common.{◌≡◌, ℕ, List, [], ◌∷◌, Option, Some, None, Ok, Err, refl, ap, ◌++◌, codes, if◌then◌else◌}
 use Rattle.std.specs.Str.{bytes_eq}
-use Rattle.events.specs.declared.ike_outcomes.Kept.TheVariants as keeps
 use Rattle.events.specs.declared.ike_outcomes.Mark.{Mark}
 use Rattle.events.specs.declared.ike_outcomes.Mark.TheVariants as marks
 use Rattle.events.specs.declared.verdict.Refusal.{Refusal}
 use Rattle.events.specs.declared.verdict.Refusal.TheVariants as refusals
 use Rattle.line_fields.specs.declared.fault.LineReason.TheVariants.{Word}
-use Rattle.report_text.specs.LineRanges.{FitsError, FitsRefusal, FitsVerdict}
-use Rattle.report_text.specs.Lines.{PlainVerdict, Configured, Entered, Down, Member, Owned, Number, Sent, Asked, Resent, Executed, Repeated, Refusing, Reply, Syncing, SyncAccepted, Synced, Accepted, Dropped, Refused}
-use Rattle.report_text.specs.Spelling.{error_words, mark_words, refusal_words, verdict_words}
+use Rattle.report_text.specs.LineRanges.{FitsError, FitsMark, FitsRefusal, FitsVerdict}
+use Rattle.report_text.specs.Lines.{PlainKept, PlainVerdict, KeptNothing, KeptTicket, KeptNack, Configured, Entered, Down, Forgotten, Member, Owned, Number, Sent, Asked, Resent, Executed, Repeated, Refusing, Reply, Syncing, SyncAccepted, Synced, Accepted, Dropped, Refused}
+use Rattle.report_text.specs.Spelling.{error_words, kept_words, mark_words, refusal_words, verdict_words}
 use Rattle.report_text.proofs.DropReading.{drop_again, drop_in}
 use Rattle.report_text.proofs.WordReading.{◌>>=◌, Reading, five_again, five_in, named, number_again, number_in, numbered, numbers_again, numbers_in, octets_again, octets_in}
 
@@ -82,10 +81,14 @@ owned_in other = Err Word
 
 abbrev mark_in : List (List ℕ) → Reading Mark
 mark_in [] = Ok marks.Plain
+mark_in (w ∷ []) = named ((codes "nack", marks.Nack) ∷ []) w
+mark_in (w ∷ n ∷ []) = numbered ((codes "ticket", marks.Ticket) ∷ []) w n
 mark_in other = Err Word
 
-mark_again : (mark : Mark) → mark_in (mark_words mark) ≡ Ok mark
-mark_again marks.Plain = refl
+mark_again : (mark : Mark) → FitsMark mark → mark_in (mark_words mark) ≡ Ok mark
+mark_again marks.Plain fits = refl
+mark_again (marks.Ticket number) fits = rw (number_again number fits) refl
+mark_again marks.Nack fits = refl
 
 abbrev executed_in : List (List ℕ) → Reading PlainVerdict
 executed_in (n ∷ ws) = number_in n >>= (λ id. mark_in ws >>= (λ mark. Ok (Executed id mark)))
@@ -104,12 +107,29 @@ error_again : (error : Option ℕ) → FitsError error → error_in (error_words
 error_again None fits = refl
 error_again (Some notify) fits = rw (number_again notify fits) refl
 
+-- what was kept, where there is a word for it, and the error
+abbrev kept_and_error : PlainKept → Reading (Option ℕ) → Reading (PlainKept × Option ℕ)
+kept_and_error kept error = error >>= (λ x. Ok (kept, x))
+
+abbrev kept_in : List (List ℕ) → Reading (PlainKept × Option ℕ)
+kept_in [] = Ok (KeptNothing, None)
+kept_in (w ∷ ws) =
+    if bytes_eq w (codes "ticket") then kept_and_error KeptTicket (error_in ws)
+    else if bytes_eq w (codes "nack") then kept_and_error KeptNack (error_in ws)
+    else kept_and_error KeptNothing (error_in (w ∷ ws))
+
+kept_again : (kept : PlainKept) (error : Option ℕ) → FitsError error → kept_in (kept_words kept ++ error_words error) ≡ Ok (kept, error)
+kept_again KeptNothing None fits = refl
+kept_again KeptNothing (Some notify) fits = rw (number_again notify fits) refl
+kept_again KeptTicket error fits = ap (kept_and_error KeptTicket) (error_again error fits)
+kept_again KeptNack error fits = ap (kept_and_error KeptNack) (error_again error fits)
+
 abbrev reply_in : List (List ℕ) → Reading PlainVerdict
 reply_in (n ∷ o ∷ ws) = do
   id ← number_in n
   reply ← octets_in o
-  error ← error_in ws
-  Ok (Reply id reply keeps.Plain error)
+  kept ← kept_in ws
+  Ok (Reply id reply kept.0 kept.1)
 reply_in other = Err Word
 
 abbrev syncing_in : List (List ℕ) → Reading PlainVerdict
@@ -140,7 +160,7 @@ numbered_verdicts =
     ∷ []
 
 abbrev other_in : List ℕ → List (List ℕ) → Reading PlainVerdict
-other_in w [] = named ((codes "configured", Configured) ∷ (codes "entered", Entered) ∷ (codes "down", Down) ∷ []) w
+other_in w [] = named ((codes "configured", Configured) ∷ (codes "entered", Entered) ∷ (codes "down", Down) ∷ (codes "forgotten", Forgotten) ∷ []) w
 other_in w (n ∷ ws) = numbered numbered_verdicts w n
 
 abbrev pub verdict_in : List (List ℕ) → Reading PlainVerdict
@@ -162,6 +182,7 @@ pub verdict_again : (verdict : PlainVerdict) → FitsVerdict verdict → verdict
 verdict_again Configured fits = refl
 verdict_again Entered fits = refl
 verdict_again Down fits = refl
+verdict_again Forgotten fits = refl
 verdict_again (Member number) fits = rw (number_again number fits) refl
 verdict_again (Owned epoch bases) fits = rw (number_again epoch fits.0, five_again bases fits.1) refl
 verdict_again (Number number) fits = rw (number_again number fits) refl
@@ -169,10 +190,10 @@ verdict_again (Sent number) fits = rw (number_again number fits) refl
 verdict_again (Accepted number next_header payload) fits = rw (number_again number fits.0, number_again next_header fits.1, octets_again payload fits.2) refl
 verdict_again (Asked id) fits = rw (number_again id fits) refl
 verdict_again (Resent id) fits = rw (number_again id fits) refl
-verdict_again (Executed id mark) fits = rw (number_again id fits, mark_again mark) refl
+verdict_again (Executed id mark) fits = rw (number_again id fits.0, mark_again mark fits.1) refl
 verdict_again (Repeated id) fits = rw (number_again id fits) refl
 verdict_again (Refusing id notify) fits = rw (number_again id fits.0, number_again notify fits.1) refl
-verdict_again (Reply id reply keeps.Plain error) fits = rw (number_again id fits.0, octets_again reply fits.1, error_again error fits.2) refl
+verdict_again (Reply id reply kept error) fits = rw (number_again id fits.0, octets_again reply fits.1, kept_again kept error fits.2) refl
 verdict_again (Syncing m1 p1) fits = rw (number_again m1 fits.0, number_again p1 fits.1) refl
 verdict_again (SyncAccepted p2 m2 delta unknown) fits =
     rw (number_again p2 fits.0, number_again m2 fits.1, number_again delta fits.2, numbers_again unknown fits.3) refl

@@ -6,13 +6,15 @@ use Rattle.ha_base.specs.declared.limits.TheConstants.{ALLOCATION_END}
 use Rattle.ike_values.specs.declared.fault.Reason.{Reason}
 use Rattle.ike_values.specs.declared.fault.Reason.TheVariants.{UnknownCritical}
 use Rattle.keeper_book.specs.declared.counters.Five.{Five}
+use Rattle.events.specs.declared.ike_outcomes.Mark.{Mark}
+use Rattle.events.specs.declared.ike_outcomes.Mark.TheVariants.{Ticket}
 use Rattle.events.specs.declared.verdict.Refusal.{Refusal}
 use Rattle.events.specs.declared.verdict.Refusal.TheVariants as refusals
 use Rattle.event_text.specs.Grammar.{EventLine, line_words}
 use Rattle.line_fields.specs.Octets.{IsOctetField}
 use Rattle.line_fields.specs.Words.{line_of}
 use Rattle.report_text.specs.Drops.{PlainDrop, Bad, Exchange, Old, Ahead, NotSynced, SyncOld}
-use Rattle.report_text.specs.Lines.{PlainVerdict, ReportLine, Configured, Entered, Down, Member, Owned, Number, Sent, Asked, Resent, Executed, Repeated, Refusing, Reply, Syncing, SyncAccepted, Synced, Accepted, Dropped, Refused, TurnLine, KeepLine, ServeLine, SealLine, GivesLine, OutLine, EndLine}
+use Rattle.report_text.specs.Lines.{PlainVerdict, ReportLine, Configured, Entered, Down, Forgotten, Member, Owned, Number, Sent, Asked, Resent, Executed, Repeated, Refusing, Reply, Syncing, SyncAccepted, Synced, Accepted, Dropped, Refused, TurnLine, KeepLine, ServeLine, SealLine, GivesLine, OutLine, EndLine}
 use Rattle.report_text.specs.declared.line.KeyOrigin.{KeyOrigin}
 use Rattle.report_text.specs.declared.line.KeyOrigin.TheVariants as origins
 use Rattle.report_text.specs.declared.line.PlainAnswer.{PlainAnswer}
@@ -90,6 +92,11 @@ FitsDrop (NotSynced id) = IsReportNumber id
 FitsDrop (SyncOld id) = IsReportNumber id
 FitsDrop other = Unit {0}
 
+-- the number of a ticket
+abbrev pub FitsMark : Mark → Type 0
+FitsMark (Ticket number) = IsReportNumber number
+FitsMark other = Unit {0}
+
 -- the notify type of an error, where there is one
 abbrev pub FitsError : Option ℕ → Type 0
 FitsError None = Unit {0}
@@ -99,6 +106,7 @@ abbrev pub FitsVerdict : PlainVerdict → Type 0
 FitsVerdict Configured = Unit {0}
 FitsVerdict Entered = Unit {0}
 FitsVerdict Down = Unit {0}
+FitsVerdict Forgotten = Unit {0}
 FitsVerdict (Member number) = IsReportNumber number
 FitsVerdict (Owned epoch bases) = IsReportNumber epoch × AreReportBases bases
 FitsVerdict (Number number) = IsReportNumber number
@@ -107,7 +115,7 @@ FitsVerdict (Accepted number next_header payload) =
     IsReportNumber number × IsReportNumber next_header × AreReportOctets payload
 FitsVerdict (Asked id) = IsReportNumber id
 FitsVerdict (Resent id) = IsReportNumber id
-FitsVerdict (Executed id mark) = IsReportNumber id
+FitsVerdict (Executed id mark) = IsReportNumber id × FitsMark mark
 FitsVerdict (Repeated id) = IsReportNumber id
 FitsVerdict (Refusing id notify) = IsReportNumber id × IsReportNumber notify
 FitsVerdict (Reply id reply kept error) =

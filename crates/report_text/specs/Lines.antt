@@ -4,6 +4,7 @@ use Rattle.ha_base.specs.declared.outside.Moment.{Moment}
 use Rattle.keeper_book.specs.declared.counters.Five.{Five}
 use Rattle.events.specs.Events.{PlainEvent, plain}
 use Rattle.events.specs.declared.ike_outcomes.Kept.{Kept}
+use Rattle.events.specs.declared.ike_outcomes.Kept.TheVariants as keeps
 use Rattle.events.specs.declared.ike_outcomes.Mark.{Mark}
 use Rattle.events.specs.declared.turn.Medium.{Medium}
 use Rattle.events.specs.declared.verdict.Refusal.{Refusal}
@@ -17,11 +18,23 @@ use Rattle.report_text.specs.declared.line.PlainAsk.{PlainAsk}
 use Rattle.report_text.specs.declared.line.Line.{Line}
 use Rattle.report_text.specs.declared.line.Line.TheVariants as lines
 
+-- What was kept of a response besides the reply, by the words that tell it: no line has the ticket.
+pub data PlainKept : Type 0 where
+  KeptNothing : PlainKept
+  KeptTicket : PlainKept
+  KeptNack : PlainKept
+
+abbrev pub plain_kept : Kept → PlainKept
+plain_kept keeps.Plain = KeptNothing
+plain_kept (keeps.Ticket lifetime ticket) = KeptTicket
+plain_kept keeps.Nack = KeptNack
+
 -- how an event came out, by the fields of its line alone
 pub data PlainVerdict : Type 0 where
   Configured : PlainVerdict
   Entered : PlainVerdict
   Down : PlainVerdict
+  Forgotten : PlainVerdict
   Member : ℕ → PlainVerdict  -- its number
   Owned : ℕ → Five → PlainVerdict  -- the epoch, and its bases
   Number : ℕ → PlainVerdict  -- the number that was drawn
@@ -33,7 +46,7 @@ pub data PlainVerdict : Type 0 where
   Repeated : ℕ → PlainVerdict  -- the Message ID
   Refusing : ℕ → ℕ → PlainVerdict  -- the Message ID, and the notify type
   -- the Message ID, the reply, what was kept besides, and the notify type of an error
-  Reply : ℕ → List ℕ → Kept → Option ℕ → PlainVerdict
+  Reply : ℕ → List ℕ → PlainKept → Option ℕ → PlainVerdict
   -- the Message IDs of the member's next request, and of the next one that it expects
   Syncing : ℕ → ℕ → PlainVerdict
   -- the Message IDs of the peer's next request and of the next one that it expects, by how much its
@@ -48,6 +61,7 @@ abbrev pub plain_verdict : Verdict → PlainVerdict
 plain_verdict verdicts.Configured = Configured
 plain_verdict verdicts.Entered = Entered
 plain_verdict verdicts.Down = Down
+plain_verdict verdicts.Forgotten = Forgotten
 plain_verdict (verdicts.Member number) = Member number
 plain_verdict (verdicts.Owned epoch bases) = Owned epoch bases
 plain_verdict (verdicts.Number number) = Number number
@@ -59,7 +73,8 @@ plain_verdict (verdicts.Resent id) = Resent id
 plain_verdict (verdicts.Executed counter id mark) = Executed id mark
 plain_verdict (verdicts.Repeated id) = Repeated id
 plain_verdict (verdicts.Refusing counter id notify) = Refusing id notify
-plain_verdict (verdicts.Reply counter id reply kept error) = Reply id reply.octets kept error
+plain_verdict (verdicts.Reply counter id reply kept error) =
+    Reply id reply.octets (plain_kept kept) error
 plain_verdict (verdicts.Syncing m1 p1) = Syncing m1 p1
 plain_verdict (verdicts.SyncAccepted counter p2 m2 delta unknown) = SyncAccepted p2 m2 delta unknown
 plain_verdict (verdicts.Synced counter next_ask floor) = Synced next_ask floor

@@ -7,8 +7,6 @@ use Rattle.keeper_book.specs.declared.counters.Counter.{Counter}
 use Rattle.keeper_book.specs.declared.counters.Counter.TheVariants as counters
 use Rattle.keeper_book.specs.declared.pools.Pool.{Pool}
 use Rattle.keeper_book.specs.declared.pools.Pool.TheVariants as pools
-use Rattle.events.specs.declared.ike_outcomes.Kept.{Kept}
-use Rattle.events.specs.declared.ike_outcomes.Kept.TheVariants as keeps
 use Rattle.events.specs.declared.ike_outcomes.Mark.{Mark}
 use Rattle.events.specs.declared.ike_outcomes.Mark.TheVariants as marks
 use Rattle.events.specs.declared.verdict.Refusal.{Refusal}
@@ -18,7 +16,7 @@ use Rattle.event_text.specs.Grammar.{line_words}
 use Rattle.line_fields.specs.Octets.{octets_text, spi_text}
 use Rattle.line_fields.specs.Writing.{line_text}
 use Rattle.report_text.specs.Drops.{drop_words}
-use Rattle.report_text.specs.Lines.{PlainVerdict, ReportLine, Configured, Entered, Down, Member, Owned, Number, Sent, Asked, Resent, Executed, Repeated, Refusing, Reply, Syncing, SyncAccepted, Synced, Accepted, Dropped, Refused, TurnLine, KeepLine, ServeLine, SealLine, GivesLine, OutLine, EndLine}
+use Rattle.report_text.specs.Lines.{PlainKept, PlainVerdict, ReportLine, KeptNothing, KeptTicket, KeptNack, Configured, Entered, Down, Forgotten, Member, Owned, Number, Sent, Asked, Resent, Executed, Repeated, Refusing, Reply, Syncing, SyncAccepted, Synced, Accepted, Dropped, Refused, TurnLine, KeepLine, ServeLine, SealLine, GivesLine, OutLine, EndLine}
 use Rattle.report_text.specs.declared.line.KeyOrigin.{KeyOrigin}
 use Rattle.report_text.specs.declared.line.KeyOrigin.TheVariants as origins
 use Rattle.report_text.specs.declared.line.Part.{Part}
@@ -129,10 +127,14 @@ refusal_words refusals.SpiRange = codes "spi-range" ∷ []
 -- what a response tells besides the reply
 abbrev pub mark_words : Mark → List (List ℕ)
 mark_words marks.Plain = []
+mark_words (marks.Ticket number) = codes "ticket" ∷ decimal number ∷ []
+mark_words marks.Nack = codes "nack" ∷ []
 
 -- what was kept of a response besides the reply
-abbrev pub kept_words : Kept → List (List ℕ)
-kept_words keeps.Plain = []
+abbrev pub kept_words : PlainKept → List (List ℕ)
+kept_words KeptNothing = []
+kept_words KeptTicket = codes "ticket" ∷ []
+kept_words KeptNack = codes "nack" ∷ []
 
 -- the notify type of the first error in a response
 abbrev pub error_words : Option ℕ → List (List ℕ)
@@ -143,6 +145,7 @@ abbrev pub verdict_words : PlainVerdict → List (List ℕ)
 verdict_words Configured = codes "configured" ∷ []
 verdict_words Entered = codes "entered" ∷ []
 verdict_words Down = codes "down" ∷ []
+verdict_words Forgotten = codes "forgotten" ∷ []
 verdict_words (Member number) = codes "member" ∷ decimal number ∷ []
 verdict_words (Owned epoch bases) = codes "owned" ∷ decimal epoch ∷ five_words bases
 verdict_words (Number number) = codes "number" ∷ decimal number ∷ []

@@ -188,6 +188,14 @@ pub(crate) fn put_event(alloc: Global, out: &mut Octets, event: &Event) -> Resul
             put_number(alloc, out, *member)?;
             put_spi(alloc, out, *spir)
         }
+        Event::Ticket { spir } => {
+            put_word(out, b"ticket")?;
+            put_spi(alloc, out, *spir)
+        }
+        Event::Forget { spir } => {
+            put_word(out, b"forget")?;
+            put_spi(alloc, out, *spir)
+        }
         Event::Deliver { which, to } => {
             put_word(out, b"deliver")?;
             put_which(alloc, out, *which)?;

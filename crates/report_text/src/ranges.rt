@@ -5,14 +5,14 @@ ghost use Rattle.std.specs.List.{All, AllByRecursion, flat_map};
 ghost use Rattle.std.specs.Option.{option_map};
 ghost use Rattle.events.specs.Events.{plain};
 ghost use Rattle.event_text.specs.Grammar.{EventLine};
-ghost use Rattle.report_text.specs.LineRanges.{AreReportBases, AreReportOctets, FitsAnswer, FitsAsk, FitsDerivation, FitsDrop, FitsError, FitsLine, FitsReason, FitsOrigin, FitsRefusal, FitsVerdict, IsReportNumber};
+ghost use Rattle.report_text.specs.LineRanges.{AreReportBases, AreReportOctets, FitsAnswer, FitsAsk, FitsDerivation, FitsDrop, FitsError, FitsLine, FitsMark, FitsReason, FitsOrigin, FitsRefusal, FitsVerdict, IsReportNumber};
 ghost use Rattle.report_text.specs.Drops.{dropped_message, dropped_packet};
 ghost use Rattle.report_text.specs.Lines.{plain_verdict};
 ghost use Rattle.report_text.specs.TurnLines.{gives_line, keep_line, seal_line, serve_line, turn_lines};
 
 use crate::line::{KeyOrigin, PlainAnswer, PlainAsk};
 use crate::turn_lines::{key_origin, part_of, plain_answer, plain_ask};
-use events::{Datagram, IkeDrop, Refusal, Seal, Seals, Served, Turn, Verdict};
+use events::{Datagram, IkeDrop, Mark, Refusal, Seal, Seals, Served, Turn, Verdict};
 use ha_base::{Derivation, EspDrop};
 use ike_values::Reason;
 use keeper_book::{Call, Calls, Five};
@@ -113,6 +113,15 @@ fn message_drop_fits(why: IkeDrop)
     }
 }
 
+fn mark_fits(mark: Mark)
+    ensures { FitsMark mark }
+{
+    match mark {
+        Mark::Ticket(_) => {}
+        Mark::Plain | Mark::Nack => {}
+    }
+}
+
 fn error_fits(error: Option<u16>)
     ensures { FitsError error }
 {
@@ -150,9 +159,10 @@ fn verdict_fits(verdict: &Verdict)
         Verdict::Executed {
             counter: _,
             id,
-            mark: _,
+            mark,
         } => {
             let _id = *id;
+            mark_fits(*mark);
         }
         Verdict::Refusing {
             counter: _,
@@ -195,7 +205,7 @@ fn verdict_fits(verdict: &Verdict)
         Verdict::DroppedIke(why) => message_drop_fits(*why),
         Verdict::DroppedEsp(why) => packet_drop_fits(*why),
         Verdict::Refused(refusal) => refusal_fits(*refusal),
-        Verdict::Configured | Verdict::Entered | Verdict::Down => {}
+        Verdict::Configured | Verdict::Entered | Verdict::Down | Verdict::Forgotten => {}
     }
 }
 

@@ -5,8 +5,8 @@ ghost use Rattle.std.specs.Prelude.{◌≡◌, [], ◌∷◌, ◌++◌, OnOk};
 ghost use Rattle.std.specs.Fmt.{decimal};
 ghost use Rattle.line_fields.specs.Writing.{with_words};
 ghost use Rattle.report_text.specs.Drops.{drop_words, dropped_message};
-ghost use Rattle.report_text.specs.Lines.{Dropped, Executed, Refusing, Reply};
-ghost use Rattle.report_text.specs.Spelling.{error_words, mark_words, verdict_words};
+ghost use Rattle.report_text.specs.Lines.{Dropped, Executed, Refusing, Reply, plain_kept};
+ghost use Rattle.report_text.specs.Spelling.{error_words, kept_words, mark_words, verdict_words};
 
 use crate::named::put_named_number;
 use events::{IkeDrop, Kept, Mark};
@@ -27,6 +27,8 @@ pub(crate) fn put_executed(
     put_named_number(alloc, out, b"executed", u64::from(id))?;
     match mark {
         Mark::Plain => Ok(()),
+        Mark::Ticket(number) => put_named_number(alloc, out, b"ticket", number),
+        Mark::Nack => put_word(out, b"nack"),
     }
 }
 
@@ -43,6 +45,17 @@ pub(crate) fn put_refusing(
     put_number(alloc, out, u64::from(notify))
 }
 
+fn put_kept(out: &mut Octets, kept: &Kept) -> Result<(), Memory>
+    ensures { OnOk result (out.new.octets
+        ≡ with_words out.old.octets (kept_words (plain_kept kept.now))) }
+{
+    match kept {
+        Kept::Plain => Ok(()),
+        Kept::Ticket { .. } => put_word(out, b"ticket"),
+        Kept::Nack => put_word(out, b"nack"),
+    }
+}
+
 fn put_error(alloc: Global, out: &mut Octets, error: Option<u16>) -> Result<(), Memory>
     ensures { OnOk result (out.new.octets ≡ with_words out.old.octets (error_words error)) }
 {
@@ -57,17 +70,16 @@ pub(crate) fn put_reply(
     out: &mut Octets,
     id: u32,
     reply: &[u8],
-    kept: Kept,
+    kept: &Kept,
     error: Option<u16>,
 ) -> Result<(), Memory>
     ensures { OnOk result (out.new.octets
-        ≡ with_words out.old.octets (verdict_words (Reply id reply.now kept error))) }
+        ≡ with_words out.old.octets (verdict_words (Reply id reply.now (plain_kept kept.now) error))) }
 {
     put_named_number(alloc, out, b"reply", u64::from(id))?;
     put_octets(alloc, out, reply)?;
-    match kept {
-        Kept::Plain => put_error(alloc, out, error),
-    }
+    put_kept(out, kept)?;
+    put_error(alloc, out, error)
 }
 
 fn put_why(alloc: Global, out: &mut Octets, why: IkeDrop) -> Result<(), Memory>

@@ -29,6 +29,7 @@ pub(crate) fn put_verdict(alloc: Global, out: &mut Octets, verdict: &Verdict) ->
         Verdict::Configured => put_word(out, b"configured"),
         Verdict::Entered => put_word(out, b"entered"),
         Verdict::Down => put_word(out, b"down"),
+        Verdict::Forgotten => put_word(out, b"forgotten"),
         Verdict::Member(number) => put_named_number(alloc, out, b"member", u64::from(*number)),
         Verdict::Owned { epoch, bases } => {
             put_named_number(alloc, out, b"owned", *epoch)?;
@@ -61,7 +62,7 @@ pub(crate) fn put_verdict(alloc: Global, out: &mut Octets, verdict: &Verdict) ->
             reply,
             kept,
             error,
-        } => put_reply(alloc, out, *id, reply.as_slice(), *kept, *error),
+        } => put_reply(alloc, out, *id, reply.as_slice(), kept, *error),
         Verdict::Syncing { m1, p1 } => put_syncing(alloc, out, *m1, *p1),
         Verdict::SyncAccepted {
             counter: _,
