@@ -10,7 +10,7 @@ use Rattle.keeper_book.specs.declared.faults.KeeperFault.{KeeperFault}
 use Rattle.keeper_book.specs.declared.keepers.Keeper.{Ghosts}
 use Rattle.keeper_book.specs.declared.pools.Pool.TheVariants as pool
 use Rattle.spend_once.specs.Lot.{Drawn, Remaining}
-use Rattle.resume_exchange.specs.Lots.{DrawsPooled}
+use Rattle.pool_lots.specs.Lots.{DrawsPooled}
 use Rattle.resume_answers.specs.Unspent.{DrawsUnlessSpent, FollowsLook, given}
 
 pub draws_then : {K : Type 0} (keeper : Ghosts K) (old mid new : K) (call : Call) (ticket : ℕ) (lot left : Remaining) (drawn : Result Drawn KeeperFault)

@@ -9,7 +9,7 @@ use Rattle.keeper_book.specs.declared.calls.KeeperAsk.TheVariants as ask
 use Rattle.keeper_book.specs.declared.faults.KeeperFault.{KeeperFault}
 use Rattle.keeper_book.specs.declared.pools.Pool.TheVariants as pool
 use Rattle.spend_once.specs.Lot.{Drawn, Remaining}
-use Rattle.resume_exchange.specs.Lots.{DrawsPooled}
+use Rattle.pool_lots.specs.Lots.{DrawsPooled}
 
 -- nothing more was asked, the answer is this one, and the lot is as it was
 pub record Stops (calls : List Call) (result value : Result (Option Drawn) KeeperFault)

@@ -2,7 +2,7 @@ ghost use Rattle.std.specs.Prelude.{◌≡◌, ◌≢◌, ◌<◌, true, length,
 ghost use Rattle.keeper_book.specs.Asks.{AsksFor};
 ghost use Rattle.keeper_book.specs.declared.pools.Pool.TheVariants as pool;
 ghost use Rattle.keeper_book.specs.declared.pools.TheConstants.{NONCE_NUMBERS_END};
-ghost use Rattle.resume_exchange.specs.Lots.{AreNumbersOf};
+ghost use Rattle.pool_lots.specs.Lots.{AreNumbersOf};
 ghost use Rattle.resume_exchange.specs.Requests.{first_nonce};
 ghost use Rattle.resume_exchange.specs.declared.half_opens.TheConstants.{MAX_HALF_OPENS};
 ghost use Rattle.resume_answers.specs.Members.{AnswersPresented, AnswersResume, IsOpened};

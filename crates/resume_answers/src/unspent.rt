@@ -1,11 +1,11 @@
 ghost use Rattle.std.specs.Prelude.{IfOk, IfSome};
 ghost use Rattle.keeper_book.specs.Asks.{AsksFor};
 ghost use Rattle.keeper_book.specs.declared.pools.Pool.TheVariants as pool;
-ghost use Rattle.resume_exchange.specs.Lots.{AreNumbersOf, IsNumberOf};
+ghost use Rattle.pool_lots.specs.Lots.{AreNumbersOf, IsNumberOf};
 ghost use Rattle.resume_answers.specs.Unspent.{DrawsUnlessSpent};
 
 use keeper_book::{Keeper, KeeperFault, Pool};
-use resume_exchange::draw_pooled;
+use pool_lots::draw_pooled;
 use spend_once::{Lot, Number};
 
 /// A number of the nonces' pool for what is resumed with a ticket, or none where the ticket was

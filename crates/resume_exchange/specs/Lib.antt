@@ -5,7 +5,6 @@ pub mod Usable
 pub mod Judgements
 pub mod Parts
 pub mod Auth
-pub mod Lots
 pub mod Ready
 pub mod ResumedKeys
 pub mod FirstMessages

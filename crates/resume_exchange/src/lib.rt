@@ -18,7 +18,6 @@ mod drops;
 mod first_messages;
 mod half_opens;
 mod judging;
-mod lots;
 mod offers;
 mod parts;
 mod peer_answers;
@@ -38,7 +37,6 @@ pub use first_messages::{
 };
 pub use half_opens::{HALF_OPEN_AGE, HalfOpen, HalfOpens, MAX_HALF_OPENS};
 pub use judging::Judged;
-pub use lots::{LEASED_NUMBERS, draw_pooled};
 pub use offers::{ESP, LEAST_CHILD_SPI, first_fit};
 pub use parts::{
     SHARED_KEY, first_initiator_selectors, first_proposals, first_responder_selectors,

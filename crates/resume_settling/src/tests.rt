@@ -1,5 +1,5 @@
 ghost use Rattle.keeper_book.specs.declared.pools.Pool.TheVariants as pool;
-ghost use Rattle.resume_exchange.specs.Lots.{AreNumbersOf};
+ghost use Rattle.pool_lots.specs.Lots.{AreNumbersOf};
 
 use super::*;
 use aes_gcm::Key;

@@ -26,8 +26,9 @@ use Rattle.turn_rules.specs.Ends.{Peer, Performer, is_by, is_end, own, performer
 use Rattle.turn_rules.specs.Fits.{Does, Imports, Refuses, Refusing, run_refusal}
 use Rattle.turn_rules.specs.Held.{after_received, first_some, floor_of, found, greatest, received_in, received_of, config_by, configured_at, window_by}
 use Rattle.turn_rules.specs.IkeState.{outstanding_of, turn_agreed, turn_response}
-use Rattle.turn_rules.specs.Peers.{AreDistinct, Differ, admits, associations_by, clashes, record_entered, entered_in}
-use Rattle.turn_rules.specs.Slots.{Slot, after_heard, entered_slot, first_slot, heard_of, highest_of, is_entered, left_of, next_sent, one_below, records, since_entered, spent_of, slot_after, slot_by, slots_after, slots_by}
+use Rattle.turn_rules.specs.PeerTickets.{is_live_after, ticket_of}
+use Rattle.turn_rules.specs.Peers.{AreDistinct, Differ, associations_by, record_entered, entered_in}
+use Rattle.turn_rules.specs.Slots.{Slot, admits, after_heard, clashes, entered_slot, first_slot, heard_of, highest_of, is_entered, left_of, next_sent, one_below, receives_at, records, since_entered, spent_of, slot_after, slot_by, slots_after, slots_by}
 use Rattle.turn_rules.specs.States.{RunState, told_state}
 use Rattle.turn_rules.specs.Tasks.{peer_task}
 
@@ -48,15 +49,15 @@ pub records-slots_by : (size : ℕ) (past : List Turn) → records (slots_by siz
 records-slots_by size past = records-map size past (associations_by past)
 
 -- an association that is admitted differs from those that the peer has
-pub admits-differ : (slots : List Record) (sa : Record) → admits slots sa ≡ true → AllByRecursion (λ slot. Differ slot sa) slots
+pub admits-differ : (slots : List Slot) (sa : Record) → admits slots sa ≡ true → AllByRecursion (λ slot. Differ slot sa) (records slots)
 admits-differ slots sa e = go slots (not-true (list_any (clashes sa) slots) e)
   where
-    go : (slots : List Record) → list_any (clashes sa) slots ≡ false → AllByRecursion (λ slot. Differ slot sa) slots
+    go : (slots : List Slot) → list_any (clashes sa) slots ≡ false → AllByRecursion (λ slot. Differ slot sa) (records slots)
     go [] e = tt
     go (slot ∷ more) e =
         let parts : (clashes sa slot ≡ false) × (list_any (clashes sa) more ≡ false) = or_parts (clashes sa slot) (list_any (clashes sa) more) e in
-        let tests : ((slot.spir == sa.spir) ≡ false) × ((slot.spi_out == sa.spi_out) ≡ false) = or_parts (slot.spir == sa.spir) (slot.spi_out == sa.spi_out) parts.0 in
-        (record { spir = eqb-false slot.spir sa.spir tests.0; spi_out = eqb-false slot.spi_out sa.spi_out tests.1 }, go more parts.1)
+        let tests : ((slot.sa.spir == sa.spir) ≡ false) × (receives_at sa.spi_out slot ≡ false) = or_parts (slot.sa.spir == sa.spir) (receives_at sa.spi_out slot) parts.0 in
+        (eqb-false slot.sa.spir sa.spir tests.0, go more parts.1)
 
 pub apart-append : (old : List Record) (sa : Record) → AreDistinct old → AllByRecursion (λ slot. Differ slot sa) old → AreDistinct (old ++ sa ∷ [])
 apart-append [] sa apart differ = (tt, tt)
@@ -70,6 +71,7 @@ module _ (size : ℕ) (turn : Turn) (past : List Turn) where
   abbrev slot_as : Record → List Turn → Slot
   slot_as sa mine = record {
     sa = sa;
+    live = is_live_after sa.spir mine;
     next = next_sent sa.spir sa.starts.esp_in mine;
     window = window_of size sa.starts.esp_out (filter_map (received_of sa.spir) mine);
     iv = greatest sa.starts.iv (map (λ n. n + 1) (filter_map (spent_of sa.spir counter.Iv) mine));
@@ -77,6 +79,7 @@ module _ (size : ℕ) (turn : Turn) (past : List Turn) where
     asked = outstanding_of peer_task sa.spir mine;
     answered = window_of_responses (floor_of sa.starts.ask (filter_map (turn_agreed peer_task sa.spir) mine)) (filter_map (turn_response peer_task sa.spir) mine);
     highest = highest_of (one_below sa.starts.ask) (filter_map (heard_of sa.spir) mine);
+    ticket = found (ticket_of sa.spir) mine;
   }
 
   highest-cons_option : (heard before : Option ℕ) (ids : List ℕ) → highest_of before (cons_option heard ids) ≡ after_heard heard (highest_of before ids)
@@ -88,9 +91,10 @@ module _ (size : ℕ) (turn : Turn) (past : List Turn) where
       window_of-cons_option (received_of sa.spir turn) size sa.starts.esp_out (filter_map (received_of sa.spir) mine)
       ∙ ap (λ n. after_received n (slot_as sa mine).window) (received-peer sa.spir turn.event turn.step.verdict)
 
-  later : (sa : Record) (mine : List Turn) → slot_as sa (turn ∷ mine) ≡ slot_after (peer_task turn.event) turn.step (slot_as sa mine)
+  later : (sa : Record) (mine : List Turn) → slot_as sa (turn ∷ mine) ≡ slot_after turn.moment (peer_task turn.event) turn.step (slot_as sa mine)
   later sa mine i = record {
     sa = sa;
+    live = is_live_after sa.spir (turn ∷ mine);
     next = next_sent sa.spir sa.starts.esp_in (turn ∷ mine);
     window = window_later sa mine i;
     iv = greatest-cons_option (spent_of sa.spir counter.Iv turn) sa.starts.iv (filter_map (spent_of sa.spir counter.Iv) mine) i;
@@ -98,14 +102,15 @@ module _ (size : ℕ) (turn : Turn) (past : List Turn) where
     asked = outstanding_of peer_task sa.spir (turn ∷ mine);
     answered = responses-cons_option (turn_agreed peer_task sa.spir turn) (turn_response peer_task sa.spir turn) sa.starts.ask (filter_map (turn_agreed peer_task sa.spir) mine) (filter_map (turn_response peer_task sa.spir) mine) i;
     highest = highest-cons_option (heard_of sa.spir turn) (one_below sa.starts.ask) (filter_map (heard_of sa.spir) mine) i;
+    ticket = found (ticket_of sa.spir) (turn ∷ mine);
   }
 
   -- what is held of an association that came before
-  earlier : (sa : Record) → is_entered sa.spir (entered_in turn) ≡ false → slot_by size (turn ∷ past) sa ≡ slot_after (peer_task turn.event) turn.step (slot_by size past sa)
+  earlier : (sa : Record) → is_entered sa.spir (entered_in turn) ≡ false → slot_by size (turn ∷ past) sa ≡ slot_after turn.moment (peer_task turn.event) turn.step (slot_by size past sa)
   earlier sa other = ap (λ b. slot_as sa (if b then [] else turn ∷ since_entered sa.spir past)) other ∙ later sa (since_entered sa.spir past)
 
   earlier_all : (associations : List Record) → AllByRecursion (λ sa. is_entered sa.spir (entered_in turn) ≡ false) associations
-      → map (slot_by size (turn ∷ past)) associations ≡ map (slot_after (peer_task turn.event) turn.step) (map (slot_by size past) associations)
+      → map (slot_by size (turn ∷ past)) associations ≡ map (slot_after turn.moment (peer_task turn.event) turn.step) (map (slot_by size past) associations)
   earlier_all [] all = refl
   earlier_all (sa ∷ more) all = ap₂ (λ slot slots. slot ∷ slots) (earlier sa all.0) (earlier_all more all.1)
 
@@ -116,19 +121,17 @@ module _ (size : ℕ) (turn : Turn) (past : List Turn) where
       let same : is_entered sa.spir (entered_in turn) ≡ true = ap (is_entered sa.spir) e ∙ eq-eqb sa.spir sa.spir refl in
       ap (λ b. slot_as sa (if b then [] else turn ∷ since_entered sa.spir past) ∷ []) same
 
-  others : (x : Option Record) → ((sa : Record) → x ≡ Some sa → admits (associations_by past) sa ≡ true) → AllByRecursion (λ sa. is_entered sa.spir x ≡ false) (associations_by past)
-  others None admitted = all-each (associations_by past) (λ sa. refl)
-  others (Some new) admitted = all-weaker (associations_by past)
-      (λ sa differ. ne_eqb new.spir sa.spir (λ same. differ.spir (sym same)))
-      (admits-differ (associations_by past) new (admitted new refl))
+  others : (x : Option Record) → ((sa : Record) → x ≡ Some sa → AllByRecursion (λ old. Differ old sa) (associations_by past)) → AllByRecursion (λ sa. is_entered sa.spir x ≡ false) (associations_by past)
+  others None apart = all-each (associations_by past) (λ sa. refl)
+  others (Some new) apart = all-weaker (associations_by past) (λ sa differ. ne_eqb new.spir sa.spir (λ same. differ (sym same))) (apart new refl)
 
   -- what is held after one more turn
-  pub slots_by-cons : ((sa : Record) → record_entered turn.event turn.step.verdict ≡ Some sa → admits (records (slots_by size past)) sa ≡ true)
-      → slots_by size (turn ∷ past) ≡ slots_after size (peer_task turn.event) turn.step (slots_by size past)
-  slots_by-cons admitted =
+  pub slots_by-cons : ((sa : Record) → record_entered turn.event turn.step.verdict ≡ Some sa → AllByRecursion (λ old. Differ old sa) (associations_by past))
+      → slots_by size (turn ∷ past) ≡ slots_after size turn.moment (peer_task turn.event) turn.step (slots_by size past)
+  slots_by-cons apart =
       map-append (slot_by size (turn ∷ past)) (associations_by past) (option_to_list (entered_in turn))
       ∙ ap₂ (λ old new. old ++ new)
-      (earlier_all (associations_by past) (others (entered_in turn) (λ sa e. subst (λ slots. admits slots sa ≡ true) (records-slots_by size past) (admitted sa e))))
+      (earlier_all (associations_by past) (others (entered_in turn) apart))
       (entered_now (entered_in turn) refl)
 
 -- an event lets no association in that the peer's own stand in the way of
@@ -140,7 +143,7 @@ entered-import : (asked sa : Record) (verdict : Verdict) → record_entered (eve
 entered-import asked sa out.Entered e = (refl, same_Some asked sa e)
 entered-import asked sa verdict e = absurd (cc)
 
-enters-admitted : (state : RunState) (now : Moment) (event : Event) (calls : List Call) (step : Step) (sa : Record) → Does state now event calls step → record_entered event step.verdict ≡ Some sa → admits (records state.peer.slots) sa ≡ true
+enters-admitted : (state : RunState) (now : Moment) (event : Event) (calls : List Call) (step : Step) (sa : Record) → Does state now event calls step → record_entered event step.verdict ≡ Some sa → admits state.peer.slots sa ≡ true
 enters-admitted state now (event.Import asked) calls step sa does e = by_refusal (run_refusal state (event.Import asked)) does
   where
     is : (step.verdict ≡ out.Entered) × (asked ≡ sa)
@@ -149,10 +152,10 @@ enters-admitted state now (event.Import asked) calls step sa does e = by_refusal
     said : (why : Refusal) → step.verdict ≢ out.Refused why
     said why refused = let both : out.Entered ≡ out.Refused why = sym is.0 ∙ refused in absurd (cc)
 
-    by_refusal : (x : Option Refusal) → MatchOption x (Imports state asked calls step) (λ why. Refuses why calls step) → admits (records state.peer.slots) sa ≡ true
+    by_refusal : (x : Option Refusal) → MatchOption x (Imports state asked calls step) (λ why. Refuses why calls step) → admits state.peer.slots sa ≡ true
     by_refusal None imports =
-        let free = unless_refused (not (admits (records state.peer.slots) asked)) refusal.SpiInUse calls step imports (said refusal.SpiInUse) in
-        subst (λ x. admits (records state.peer.slots) x ≡ true) is.1 (not-false (admits (records state.peer.slots) asked) free.0)
+        let free = unless_refused (not (admits state.peer.slots asked)) refusal.SpiInUse calls step imports (said refusal.SpiInUse) in
+        subst (λ x. admits state.peer.slots x ≡ true) is.1 (not-false (admits state.peer.slots asked) free.0)
     by_refusal (Some why) refuses = absurd (said why refuses.says.said)
 enters-admitted state now (event.Send parties.Peer spir payload) calls step sa does e = absurd (cc)
 enters-admitted state now (event.Send (parties.Member member) spir payload) calls step sa does e = absurd (cc)
@@ -166,19 +169,20 @@ enters-admitted state now event calls step sa does e = absurd (cc)
 abbrev pub DoesTold : ℕ → List Turn → Turn → Type 0
 DoesTold boxes past turn = Does (told_state boxes past) turn.moment turn.event turn.calls turn.step
 
--- what comes to the peer was admitted
-pub import-admits : (boxes : ℕ) (past : List Turn) (turn : Turn) → DoesTold boxes past turn → (sa : Record) → record_entered turn.event turn.step.verdict ≡ Some sa → admits (associations_by (own Peer past)) sa ≡ true
-import-admits boxes past turn does sa e =
-    subst (λ slots. admits slots sa ≡ true) (records-slots_by (window_by past) (own Peer past))
-    (enters-admitted (told_state boxes past) turn.moment turn.event turn.calls turn.step sa does e)
+-- what comes to the peer differs from what it has
+pub import-differs : (boxes : ℕ) (past : List Turn) (turn : Turn) → DoesTold boxes past turn → (sa : Record) → record_entered turn.event turn.step.verdict ≡ Some sa
+    → AllByRecursion (λ old. Differ old sa) (associations_by (own Peer past))
+import-differs boxes past turn does sa e =
+    subst (λ slots. AllByRecursion (λ old. Differ old sa) slots) (records-slots_by (window_by past) (own Peer past))
+    (admits-differ (told_state boxes past).peer.slots sa (enters-admitted (told_state boxes past) turn.moment turn.event turn.calls turn.step sa does e))
 
 -- what the peer holds after a turn of its own
 own_slots-cons : (size boxes : ℕ) (past : List Turn) (turn : Turn) → DoesTold boxes past turn → is_by Peer turn ≡ true
-    → slots_by size (own Peer (turn ∷ past)) ≡ slots_after size (peer_task turn.event) turn.step (slots_by size (own Peer past))
+    → slots_by size (own Peer (turn ∷ past)) ≡ slots_after size turn.moment (peer_task turn.event) turn.step (slots_by size (own Peer past))
 own_slots-cons size boxes past turn does mine =
     ap (λ b. slots_by size (if b then turn ∷ own Peer past else own Peer past)) mine
     ∙ slots_by-cons size turn (own Peer past)
-    (λ sa e. subst (λ slots. admits slots sa ≡ true) (sym (records-slots_by size (own Peer past))) (import-admits boxes past turn does sa e))
+    (import-differs boxes past turn does)
 
 -- a turn of an end's own configures nothing
 config-own : (end : Performer) (event : Event) (verdict : Verdict) → is_end end (performer_at event verdict) ≡ true → configured_in event verdict ≡ None
@@ -208,7 +212,7 @@ other-config {X} f end boxes past turn does none = ⊎_elim
 
 -- what is held of the peer's associations, after a turn of the peer's own and after one of another end
 pub slots-own : (boxes : ℕ) (past : List Turn) (turn : Turn) → DoesTold boxes past turn → is_by Peer turn ≡ true
-    → slots_by (window_by (turn ∷ past)) (own Peer (turn ∷ past)) ≡ slots_after (window_by past) (peer_task turn.event) turn.step (slots_by (window_by past) (own Peer past))
+    → slots_by (window_by (turn ∷ past)) (own Peer (turn ∷ past)) ≡ slots_after (window_by past) turn.moment (peer_task turn.event) turn.step (slots_by (window_by past) (own Peer past))
 slots-own boxes past turn does mine =
     ap (λ (config : Configuration). slots_by config.window (own Peer (turn ∷ past))) (own-config Peer past turn mine)
     ∙ own_slots-cons (window_by past) boxes past turn does mine

@@ -5,7 +5,7 @@ use Rattle.std.specs.List.{filter}
 use Rattle.std.specs.Option.{option_map}
 use Rattle.events.specs.declared.turn.Turn.{Turn}
 use Rattle.keeper_book.specs.declared.records.Record.{Record}
-use Rattle.turn_rules.proofs.SlotTies.{DoesTold, admits-differ, apart-append, import-admits, other-config, own-config, slots-other, slots-own}
+use Rattle.turn_rules.proofs.SlotTies.{DoesTold, apart-append, import-differs, other-config, own-config, slots-other, slots-own}
 use Rattle.turn_rules.proofs.Ties.{held_by-cons}
 use Rattle.turn_rules.specs.Configurations.{Configuration, default_configuration, gateway_of, membership}
 use Rattle.turn_rules.specs.Datagrams.{datagrams_of}
@@ -16,7 +16,9 @@ use Rattle.turn_rules.specs.Local.{Explained, IsByRule, Local}
 use Rattle.turn_rules.specs.Peers.{AreDistinct, associations_by, entered_in}
 use Rattle.turn_rules.specs.PeerStates.{PeerHeld, peer_after, peer_by, peer_configured}
 use Rattle.turn_rules.specs.Slots.{Slot, slots_after, slots_by}
-use Rattle.turn_rules.specs.States.{ends, MemberHeld, fresh_at, has_ended, is_join, joined_after, joins, member_after, member_by, member_unless, state_after, state_by, told_state}
+use Rattle.turn_rules.specs.MemberStates.{MemberHeld, fresh_at, member_after, member_by, member_unless}
+use Rattle.turn_rules.specs.States.{ends, has_ended, is_join, joined_after, joins, state_after, state_by, told_state}
+use Rattle.turn_rules.specs.TicketNumbers.{numbers_by}
 use Rattle.turn_rules.specs.Tasks.{member_task, peer_task}
 
 -- what own turns tell of a member, after one more of them
@@ -24,6 +26,7 @@ member_by-cons : (config : Configuration) (turn : Turn) (mine : List Turn) → m
 member_by-cons config turn mine i = record {
   given = newest (fresh_at turn) (found fresh_at mine) i;
   held = λ spir. held_by-cons config.window spir turn mine i;
+  numbers = numbers_by (turn ∷ mine);
 }
   where
     newest : (x y : Option (List ℕ)) → option_map (membership config) (first_some x y) ≡ first_some (option_map (membership config) x) (option_map (membership config) y)
@@ -59,7 +62,7 @@ module _ (boxes : ℕ) (past : List Turn) (turn : Turn) (does : DoesTold boxes p
   peer-more : (b : Bool) → is_by Peer turn ≡ b → peer_by (config_by (turn ∷ past)) (own Peer (turn ∷ past))
       ≡ peer_configured (configured_at turn) (if b then peer_after (window_by past) turn.moment (peer_task turn.event) turn.step (peer_by (config_by past) (own Peer past)) else peer_by (config_by past) (own Peer past))
   peer-more true mine =
-      ap₂ with_slots config-more (slots-own boxes past turn does mine) ∙ peer-set (configured_at turn) (slots_after (window_by past) (peer_task turn.event) turn.step (slots_by (window_by past) (own Peer past)))
+      ap₂ with_slots config-more (slots-own boxes past turn does mine) ∙ peer-set (configured_at turn) (slots_after (window_by past) turn.moment (peer_task turn.event) turn.step (slots_by (window_by past) (own Peer past)))
   peer-more false other =
       ap₂ with_slots config-more (slots-other boxes past turn does other) ∙ peer-set (configured_at turn) (slots_by (window_by past) (own Peer past))
 
@@ -131,7 +134,7 @@ associations-apart boxes (turn ∷ past) local = by_test (associations-apart box
     with_entered : AreDistinct (associations_by (own Peer past)) → (x : Option Record) → entered_in turn ≡ x → AreDistinct (associations_by (own Peer past) ++ option_to_list x)
     with_entered before None e = subst (λ list. AreDistinct list) (sym (append-nil (associations_by (own Peer past)))) before
     with_entered before (Some sa) e = apart-append (associations_by (own Peer past)) sa before
-        (admits-differ (associations_by (own Peer past)) sa (import-admits boxes past turn (does-told boxes past turn local.0 local.1) sa e))
+        (import-differs boxes past turn (does-told boxes past turn local.0 local.1) sa e)
 
     by_test : AreDistinct (associations_by (own Peer past)) → (b : Bool) → is_by Peer turn ≡ b → AreDistinct (associations_by (own Peer (turn ∷ past)))
     by_test before true t = subst (λ b. AreDistinct (associations_by (if b then turn ∷ own Peer past else own Peer past))) (sym t) (with_entered before (entered_in turn) refl)

@@ -12,6 +12,8 @@ use Rattle.events.specs.declared.verdict.Verdict.{Verdict}
 use Rattle.events.specs.declared.verdict.Verdict.TheVariants as out
 use Rattle.ha_base.specs.declared.outside.Moment.{Moment}
 use Rattle.ha_base.specs.declared.limits.TheConstants.{LEAST_ESP_SPI, LEAST_SPI, MAX_DATAGRAMS}
+use Rattle.ike_sas.specs.Answers.{request_payloads}
+use Rattle.ike_sas.specs.TicketMessages.{ticket_request_payloads}
 use Rattle.keeper_book.specs.declared.calls.Call.{Call}
 use Rattle.keeper_book.specs.declared.records.Record.{Record}
 use Rattle.turn_rules.specs.Configurations.{fresh_octets}

@@ -1,4 +1,3 @@
-pub mod Additions
 pub mod Configurations
 pub mod CountersOf
 pub mod Datagrams

@@ -31,7 +31,7 @@ use Rattle.turn_rules.specs.Configurations.{fresh_octets}
 use Rattle.turn_rules.specs.Draws.{counter_name, reach_of, refusal_of_stop}
 use Rattle.turn_rules.specs.Held.{Held}
 use Rattle.turn_rules.specs.MemberStates.{MemberHeld}
-use Rattle.turn_rules.specs.MemberTickets.{AddsTicket}
+use Rattle.turn_rules.specs.MemberTickets.{TellsTicket}
 use Rattle.turn_rules.specs.Messages.{AnswersRequest, Listener, Resends, SendsMessage, SendsRequest, Windowed}
 use Rattle.turn_rules.specs.Slots.{peer_counter}
 use Rattle.turn_rules.specs.Steps.{RefusesThen, Says}
@@ -74,9 +74,9 @@ ReadiesWithIv held c at calls step done =
 abbrev pub HeldAnswers : MemberHeld → Moment → Held → Opened → List Call → Step → Type 0
 HeldAnswers member now held request calls step =
     ReadiesThen held counter.Answer request.header.id calls step
-    (λ rest. AddsTicket member now held.sa request rest step (λ added.
+    (λ rest. TellsTicket member now held.sa request rest step (λ ticket.
     AnswersRequest (counter_name held.sa counter.Answer) (held_ike held)
-    (five_at held.nexts counter.Iv) request added step))
+    (five_at held.nexts counter.Iv) request ticket step))
 
 -- what is held of an association, where it has this initiator's SPI
 abbrev pub of_spii : ℕ → Option Held → Option Held

@@ -1,5 +1,5 @@
 -- What a member holds, and what a turn makes of it.
-use Rattle.std.specs.Prelude.{ℕ, Bool, true, false, Option, None, List, if◌then◌else◌}
+use Rattle.std.specs.Prelude.{ℕ, Bool, true, false, Option, None, List}
 use Rattle.std.specs.Option.{option_map}
 use Rattle.events.specs.declared.turn.Step.{Step}
 use Rattle.events.specs.declared.turn.Turn.{Turn}

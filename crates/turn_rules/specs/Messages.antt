@@ -9,6 +9,8 @@ use Rattle.events.specs.declared.turn.Step.{Step}
 use Rattle.events.specs.declared.ike_outcomes.IkeDrop.{IkeDrop}
 use Rattle.events.specs.declared.ike_outcomes.IkeDrop.TheVariants as drop
 use Rattle.events.specs.declared.ike_outcomes.Kept.{Kept}
+use Rattle.events.specs.declared.ike_outcomes.Mark.{Mark}
+use Rattle.events.specs.declared.ike_outcomes.Mark.TheVariants as mark
 use Rattle.events.specs.declared.seals.Seal.{Seal}
 use Rattle.events.specs.declared.verdict.Refusal.TheVariants as refusal
 use Rattle.events.specs.declared.verdict.Verdict.{Verdict}
@@ -22,12 +24,15 @@ use Rattle.ike_sas.specs.Arrivals.{IsArrival}
 use Rattle.ike_sas.specs.Errors.{first_error}
 use Rattle.ike_sas.specs.Held.{IkeHeld, request_header, response_header}
 use Rattle.ike_sas.specs.Sending.{SendsIke}
+use Rattle.ike_sas.specs.TicketMessages.{ticket_answer_payload, ticket_seals}
 use Rattle.ike_sas.specs.declared.answers.RequestError.{RequestError}
 use Rattle.ike_sas.specs.declared.answers.TheConstants.{LONGEST_REPLY}
 use Rattle.ike_sas.specs.declared.arrival.Arrival.{Arrival}
 use Rattle.ike_sas.specs.declared.arrival.Arrival.TheVariants as arrival
 use Rattle.ike_sas.specs.declared.draft.SentMessage.{SentMessage}
 use Rattle.ike_sas.specs.declared.exchanges.TheConstants.{IKE_SESSION_RESUME}
+use Rattle.ike_sas.specs.declared.ticket_messages.TicketAnswer.{TicketAnswer}
+use Rattle.ike_sas.specs.declared.ticket_messages.TicketAnswer.TheVariants.{Declined, Issued}
 use Rattle.ike_values.specs.Notifications.{first_notify}
 use Rattle.ike_values.specs.Values.{PayloadValue}
 use Rattle.ike_values.specs.declared.header.Header.{Header}
@@ -37,7 +42,6 @@ use Rattle.ike_window.specs.Asking.{FitsBeside, IsLeast}
 use Rattle.ike_window.specs.Kept.{kept_octets, message_ids_of}
 use Rattle.ike_window.specs.declared.TheConstants.{WINDOW}
 use Rattle.sk_payload.specs.declared.open.Opened.{Opened}
-use Rattle.turn_rules.specs.Additions.{Addition, Plain, mark_of, seals_of, with_addition}
 use Rattle.turn_rules.specs.Steps.{Says}
 
 -- ---- what is sent
@@ -88,35 +92,52 @@ Resends id held step = MatchOption (kept_octets id held.asked)
 
 -- ---- new requests
 
--- the response to a request, with the reply of the service where it was executed, and with what
--- stands behind that
-abbrev pub Responds : IkeHeld → ℕ → Opened → List ℕ → Addition → Step → Type 0
-Responds held iv request reply added step = SendsAfter (seals_of added) held iv
-    (response_header held.keys request.header)
-    (with_addition (answer_payloads request reply) added) step
+-- what the response says of a ticket, as the report of the request tells it
+abbrev pub mark_of : Option TicketAnswer → Mark
+mark_of None = mark.Plain
+mark_of (Some (Issued lifetime seal)) = mark.Ticket seal.iv
+mark_of (Some Declined) = mark.Nack
 
--- it was executed, and has the service's reply as its response, and this behind it
+-- that stands behind the reply of the service
+abbrev pub with_ticket : List PayloadValue → Option TicketAnswer → List PayloadValue
+with_ticket told None = told
+with_ticket told (Some answer) = told ++ ticket_answer_payload answer ∷ []
+
+-- and was sealed before the response
+abbrev pub seals_of : Option TicketAnswer → List Seal
+seals_of None = []
+seals_of (Some answer) = ticket_seals answer
+
+-- the response to a request, with the reply of the service where it was executed, and what is said
+-- of a ticket
+abbrev pub Responds : IkeHeld → ℕ → Opened → List ℕ → Option TicketAnswer → Step → Type 0
+Responds held iv request reply ticket step = SendsAfter (seals_of ticket) held iv
+    (response_header held.keys request.header)
+    (with_ticket (answer_payloads request reply) ticket) step
+
+-- it was executed, and has the service's reply as its response, and what is said of a ticket
 pub record ExecutesRequest (name : CounterName) (held : IkeHeld) (iv : ℕ) (request : Opened)
-    (added : Addition) (step : Step) : Type 0 where
+    (ticket : Option TicketAnswer) (step : Step) : Type 0 where
   pub executed : Served
-  pub said : step.verdict ≡ out.Executed name request.header.id (mark_of added)
+  pub said : step.verdict ≡ out.Executed name request.header.id (mark_of ticket)
   pub served : step.served ≡ Some executed
   pub asked : executed.request.octets ≡ data_of request.inner
   pub short : length executed.reply.octets ≤ LONGEST_REPLY
-  pub responds : Responds held iv request executed.reply.octets added step
+  pub responds : Responds held iv request executed.reply.octets ticket step
 
 -- it was answered with an error, and not executed
 pub record RefusesRequest (name : CounterName) (held : IkeHeld) (iv : ℕ) (request : Opened)
     (error : RequestError) (step : Step) : Type 0 where
   pub said : step.verdict ≡ out.Refusing name request.header.id (notify_type_of error)
   pub served : step.served ≡ None
-  pub responds : Responds held iv request [] Plain step
+  pub responds : Responds held iv request [] None step
 
--- a new request is answered under an IV, and where it is executed this stands in the response
--- besides; `name` is the counter of the requests that the end answers
-abbrev pub AnswersRequest : CounterName → IkeHeld → ℕ → Opened → Addition → Step → Type 0
-AnswersRequest name held iv request added step = MatchOption (error_of request)
-    (ExecutesRequest name held iv request added step)
+-- a new request is answered under an IV, and where it is executed this is said of a ticket; `name`
+-- is the counter of the requests that the end answers
+abbrev pub AnswersRequest : CounterName → IkeHeld → ℕ → Opened → Option TicketAnswer → Step
+    → Type 0
+AnswersRequest name held iv request ticket step = MatchOption (error_of request)
+    (ExecutesRequest name held iv request ticket step)
     (λ error. RefusesRequest name held iv request error step)
 
 -- ---- responses

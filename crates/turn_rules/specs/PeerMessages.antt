@@ -1,5 +1,5 @@
 -- What the peer does with IKE messages.
-use Rattle.std.specs.Prelude.{ℕ, ◌≡◌, ◌<◌, ◌≤◌, ◌==◌, ◌&&◌, ◌⊎◌, MatchOption, Bool, true, false, List, [], None, Result, Ok, Err}
+use Rattle.std.specs.Prelude.{ℕ, ◌≡◌, ◌<◌, ◌≤◌, ◌==◌, ◌&&◌, ◌⊎◌, MatchOption, Bool, true, false, List, [], Some, None, Result, Ok, Err}
 use Rattle.events.specs.declared.turn.Step.{Step}
 use Rattle.events.specs.declared.ike_outcomes.IkeDrop.TheVariants as drop
 use Rattle.events.specs.declared.ike_outcomes.Kept.{Kept}
@@ -8,6 +8,7 @@ use Rattle.events.specs.declared.verdict.Refusal.TheVariants as refusal
 use Rattle.events.specs.declared.verdict.Verdict.TheVariants as out
 use Rattle.ha_base.specs.declared.counter_names.End.TheVariants as end
 use Rattle.ike_sas.specs.Held.{IkeHeld, response_header}
+use Rattle.ike_sas.specs.TicketMessages.{declines_ticket, ticket_in}
 use Rattle.ike_sas.specs.declared.keys.IkeKeys.{IkeKeys}
 use Rattle.ike_values.specs.Values.{PayloadValue}
 use Rattle.ike_window.specs.Kept.{message_ids_of}
@@ -26,7 +27,6 @@ use Rattle.sync_exchange.specs.declared.replay_counter.TheConstants.{DELTA_OCTET
 use Rattle.sync_exchange.specs.declared.request.SyncRequest.{SyncRequest}
 use Rattle.sync_exchange.specs.declared.sync_drop.SyncDrop.{SyncDrop}
 use Rattle.sync_exchange.specs.declared.sync_drop.SyncDrop.TheVariants as why
-use Rattle.turn_rules.specs.Additions.{Plain}
 use Rattle.turn_rules.specs.Draws.{counter_name}
 use Rattle.turn_rules.specs.Messages.{AnswersRequest, Listener, Resends, SendsMessage, SendsRequest, Windowed}
 use Rattle.turn_rules.specs.Slots.{Slot, first_slot, has_spir, peer_counter}
@@ -61,8 +61,7 @@ pub record SlotAnswers (slot : Slot) (request : Opened) (calls : List Call)
     (step : Step) : Type 0 where
   pub no_calls : calls ≡ []
   pub within : slot.iv < end_of slot.sa counter.Iv
-      → AnswersRequest (peer_counter slot.sa counter.Answer) (slot_ike slot) slot.iv request Plain
-      step
+      → AnswersRequest (peer_counter slot.sa counter.Answer) (slot_ike slot) slot.iv request None step
   pub ended : end_of slot.sa counter.Iv ≤ slot.iv → Says (out.Refused refusal.Exhausted) step
 
 -- what a slot holds that a synchronisation asks for
@@ -112,10 +111,10 @@ SlotTakesSync slot response calls step = ⊥
 
 -- The peer keeps the first ticket of a response, or sees that there is none (RFC 5723, section 4.1).
 abbrev pub KeepsTicket : List PayloadValue → Kept → Type 0
-KeepsTicket payloads kept.Plain = (ticket_of payloads ≡ None) × (declines_ticket payloads ≡ false)
+KeepsTicket payloads kept.Plain = (ticket_in payloads ≡ None) × (declines_ticket payloads ≡ false)
 KeepsTicket payloads (kept.Ticket lifetime ticket) =
-    ticket_of payloads ≡ Some (record { lifetime = lifetime; ticket = ticket.octets })
-KeepsTicket payloads kept.Nack = (ticket_of payloads ≡ None) × (declines_ticket payloads ≡ true)
+    ticket_in payloads ≡ Some (record { lifetime = lifetime; octets = ticket.octets })
+KeepsTicket payloads kept.Nack = (ticket_in payloads ≡ None) × (declines_ticket payloads ≡ true)
 
 abbrev pub peer_listener : List Slot → Listener Slot
 peer_listener slots = record {

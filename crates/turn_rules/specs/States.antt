@@ -17,7 +17,7 @@ use Rattle.turn_rules.specs.Ends.{Member, Peer, is_end, own, performer_at}
 use Rattle.turn_rules.specs.Held.{config_by}
 use Rattle.turn_rules.specs.MemberStates.{MemberHeld, member_after, member_by, member_unless, no_member}
 use Rattle.turn_rules.specs.PeerStates.{PeerHeld, peer_after, peer_begun, peer_by, peer_configured}
-use Rattle.turn_rules.specs.Tasks.{Task, member_task, peer_task}
+use Rattle.turn_rules.specs.Tasks.{member_task, peer_task}
 
 -- boxes: how many services were handed in for members; config: how members are configured that
 -- join; joined: how many members joined; peer: what the peer holds. `ended` and `members` are by the

@@ -4,7 +4,7 @@ use Rattle.events.specs.declared.event.Event.{Event}
 use Rattle.events.specs.declared.event.Event.TheVariants as event
 use Rattle.events.specs.declared.event.Party.TheVariants as parties
 use Rattle.ike_sas.specs.Answers.{request_payloads}
-use Rattle.ike_sas.specs.TicketPayloads.{ticket_request_payloads}
+use Rattle.ike_sas.specs.TicketMessages.{ticket_request_payloads}
 use Rattle.ike_values.specs.Values.{PayloadValue}
 use Rattle.keeper_book.specs.declared.records.Record.{Record}
 use Rattle.turn_rules.specs.Datagrams.{Delivery, delivery_of}

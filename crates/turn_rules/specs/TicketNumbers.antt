@@ -13,7 +13,7 @@ use Rattle.keeper_book.specs.declared.calls.KeeperAsk.{KeeperAsk}
 use Rattle.keeper_book.specs.declared.calls.KeeperAsk.TheVariants as ask
 use Rattle.keeper_book.specs.declared.pools.Pool.TheVariants as pool
 use Rattle.keeper_book.specs.declared.pools.TheConstants.{FIRST_POOL_NUMBER}
-use Rattle.resume_exchange.specs.Lots.{leased_lot}
+use Rattle.pool_lots.specs.Lots.{leased_lot}
 use Rattle.spend_once.specs.Lot.{Remaining}
 use Rattle.turn_rules.specs.Configurations.{first_ticket_counter}
 use Rattle.turn_rules.specs.Held.{found}

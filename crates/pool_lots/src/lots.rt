@@ -1,6 +1,6 @@
 ghost use Rattle.std.specs.Prelude.{IfOk};
 ghost use Rattle.keeper_book.specs.Asks.{AsksFor};
-ghost use Rattle.resume_exchange.specs.Lots.{AreNumbersOf, DrawsPooled, IsNumberOf};
+ghost use Rattle.pool_lots.specs.Lots.{AreNumbersOf, DrawsPooled, IsNumberOf};
 
 use keeper_book::{Keeper, KeeperFault, Pool};
 use spend_once::{Lot, Number};

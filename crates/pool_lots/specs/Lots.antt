@@ -12,7 +12,7 @@ use Rattle.keeper_book.specs.declared.faults.KeeperFault.{KeeperFault}
 use Rattle.keeper_book.specs.declared.pools.Pool.{Pool}
 use Rattle.keeper_book.specs.declared.pools.TheConstants.{FIRST_POOL_NUMBER}
 use Rattle.spend_once.specs.Lot.{Drawn, Remaining}
-use Rattle.resume_exchange.specs.declared.lots.TheConstants.{LEASED_NUMBERS}
+use Rattle.pool_lots.specs.declared.lots.TheConstants.{LEASED_NUMBERS}
 
 -- the number is one of the pool
 pub record IsNumberOf (pool : Pool) (n : ℕ) : Type 0 where
