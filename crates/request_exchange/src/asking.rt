@@ -1,5 +1,7 @@
 ghost use Rattle.std.specs.Prelude.{◌≡◌, ◌+◌, ◌<◌, ◌≤◌, false, length, IfOk, None};
 ghost use Rattle.ha_base.specs.declared.services.TheConstants.{LONGEST_REQUEST};
+ghost use Rattle.ike_sas.specs.Answers.{request_payloads};
+ghost use Rattle.ike_sas.specs.TicketMessages.{ticket_request_payloads};
 ghost use Rattle.ike_window.specs.Asking.{FitsBeside};
 ghost use Rattle.ike_window.specs.declared.TheConstants.{LAST_ID};
 ghost use Rattle.turn_rules.specs.IkeState.{kept_under, outstanding_after};
@@ -15,33 +17,40 @@ use std::marker::Model;
 
 /// Room for all that the sending of a request writes.
 ///
-/// Contracts see the data that are to be executed.
+/// Contracts see the inner payloads of the request.
 #[derive(Drop)]
 pub struct RequestRoom {
     draft: Draft,
 }
 
 impl Model for RequestRoom {
-    ghost use Rattle.std.specs.Prelude.{ℕ, List, ◌≡◌};
-    ghost use Rattle.ike_sas.specs.Answers.{data_in, request_payloads};
+    ghost use Rattle.std.specs.Prelude.{List};
+    ghost use Rattle.ike_values.specs.Values.{PayloadValue};
 
-    ghost Value = { List ℕ };
+    ghost Value = { List PayloadValue };
 
-    ghost view = { λ room. data_in room.draft.payloads };
-
-    ghost invariant = { λ room.
-        room.draft.payloads ≡ request_payloads (data_in room.draft.payloads) };
+    ghost view = { λ room. room.draft.payloads };
 }
 
 impl RequestRoom {
-    /// Makes the room for a request with these data, of at most 256 octets. An error is want of
-    /// memory.
+    /// Makes the room for a request that asks for the execution of these data, of at most 256
+    /// octets. An error is want of memory.
     pub fn new(alloc: Global, request: &[u8]) -> Result<RequestRoom, Memory>
         requires { length request.now ≤ LONGEST_REQUEST }
-        ensures { IfOk result (λ room. room ≡ request.now) }
+        ensures { IfOk result (λ room. room ≡ request_payloads request.now) }
     {
         Ok(RequestRoom {
             draft: Draft::of_request(alloc, request)?,
+        })
+    }
+
+    /// Makes the room for a request that asks for a ticket (RFC 5723, section 4.1). An error is want
+    /// of memory.
+    pub fn for_ticket(alloc: Global) -> Result<RequestRoom, Memory>
+        ensures { IfOk result (λ room. room ≡ ticket_request_payloads) }
+    {
+        Ok(RequestRoom {
+            draft: Draft::of_ticket_request(alloc)?,
         })
     }
 }

@@ -178,7 +178,7 @@ Performs state now (event.Send (parties.Member member) spir payload) calls step 
 Performs state now (event.Ask parties.Peer spir request) calls step =
     (calls ≡ []) × PeerAsks spir state.peer.slots (request_payloads request.octets) step
 Performs state now (event.Ask (parties.Member member) spir request) calls step =
-    AsksOf ((state.members member).held spir) request.octets calls step
+    AsksOf ((state.members member).held spir) (request_payloads request.octets) calls step
 Performs state now (event.Again parties.Peer spir id) calls step =
     (calls ≡ []) × PeerResends spir state.peer.slots id step
 Performs state now (event.Again (parties.Member member) spir id) calls step =

@@ -11,7 +11,6 @@ use Rattle.events.specs.declared.verdict.Verdict.TheVariants as out
 use Rattle.ha_base.specs.declared.counter_names.End.TheVariants as end
 use Rattle.ha_base.specs.declared.outside.Moment.{Moment}
 use Rattle.horizons.specs.Ready.{Ready}
-use Rattle.ike_sas.specs.Answers.{request_payloads}
 use Rattle.ike_sas.specs.Held.{IkeHeld, request_header}
 use Rattle.ike_sas.specs.declared.keys.IkeKeys.{IkeKeys}
 use Rattle.ike_sas.specs.declared.synchronising.TheConstants.{SYNC_DELTA}
@@ -165,25 +164,26 @@ member_listener member now = record {
   TakesSync = HeldTakesSync (fresh_octets member.given);
 }
 
--- a request is sent under the next Message ID and the next IV, once both are ready
-abbrev pub HeldSendsRequest : Held → List ℕ → List Call → Step → Type 0
-HeldSendsRequest held request calls step =
+-- a request with these inner payloads is sent under the next Message ID and the next IV, once both
+-- are ready
+abbrev pub HeldSendsRequest : Held → List PayloadValue → List Call → Step → Type 0
+HeldSendsRequest held payloads calls step =
     ReadiesWithIv held counter.Ask (five_at held.nexts counter.Ask) calls step
     (SendsRequest (held_ike held) (five_at held.nexts counter.Ask)
-    (five_at held.nexts counter.Iv) (request_payloads request) step)
+    (five_at held.nexts counter.Iv) payloads step)
 
 -- A later epoch asks nothing before it has synchronised, and the window has to have room.
-abbrev pub HeldAsks : Held → List ℕ → List Call → Step → Type 0
-HeldAsks held request calls step = MatchBool held.synced
+abbrev pub HeldAsks : Held → List PayloadValue → List Call → Step → Type 0
+HeldAsks held payloads calls step = MatchBool held.synced
     (Windowed (held_ike held) (five_at held.nexts counter.Ask)
     (λ least. RefusesThen (refusal.WindowFull least) calls step)
-    (HeldSendsRequest held request calls step))
+    (HeldSendsRequest held payloads calls step))
     (RefusesThen refusal.NotSynced calls step)
 
--- a member asks for the execution of a request by what it holds
-abbrev pub AsksOf : Option Held → List ℕ → List Call → Step → Type 0
-AsksOf None request calls step = RefusesThen refusal.NotOwner calls step
-AsksOf (Some held) request calls step = HeldAsks held request calls step
+-- a member sends a request with these inner payloads by what it holds
+abbrev pub AsksOf : Option Held → List PayloadValue → List Call → Step → Type 0
+AsksOf None payloads calls step = RefusesThen refusal.NotOwner calls step
+AsksOf (Some held) payloads calls step = HeldAsks held payloads calls step
 
 -- and sends a request again
 abbrev pub ResendsOf : Option Held → ℕ → List Call → Step → Type 0

@@ -146,19 +146,19 @@ AnswersRequest name held iv request ticket step = MatchOption (error_of request)
 abbrev pub reply_in : List PayloadValue → List ℕ
 reply_in payloads = unwrap_or (first_notify REPLY_DATA payloads) []
 
--- The response to a request came, of which the end keeps something or nothing besides; `name` is
--- the counter of the requests that it asks.
-pub record TakesReply (Keeps : List PayloadValue → Kept → Type 0) (name : CounterName) (id : ℕ)
-    (payloads : List PayloadValue) (step : Step) : Type 0 where
+-- the response to a request came, of which this is kept besides the reply; `name` is the counter of
+-- the requests that the end asks
+pub record TakesReply (kept : Kept) (name : CounterName) (id : ℕ) (payloads : List PayloadValue)
+    (step : Step) : Type 0 where
   pub reply : WithRoom
   pub octets : reply.octets ≡ reply_in payloads
-  pub kept : Kept
-  pub keeps : Keeps payloads kept
   pub says : Says (out.Reply name id reply kept (first_error payloads)) step
 
+-- and that is what the end keeps
 abbrev pub TakesInner : (List PayloadValue → Kept → Type 0) → CounterName → ℕ
     → Result (List PayloadValue) Bad → Step → Type 0
-TakesInner Keeps name id (Ok payloads) step = TakesReply Keeps name id payloads step
+TakesInner Keeps name id (Ok payloads) step =
+    (kept : Kept) × Keeps payloads kept × TakesReply kept name id payloads step
 TakesInner Keeps name id (Err bad) step = ⊥
 
 -- ---- what comes
