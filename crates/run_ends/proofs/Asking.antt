@@ -21,11 +21,11 @@ use Rattle.turn_rules.specs.PeerMessages.{PeerAsks, PeerResends, SlotAsks, SlotS
 use Rattle.turn_rules.specs.Slots.{Slot, first_slot, has_spir}
 use Rattle.turn_rules.specs.Steps.{Says}
 use Rattle.turn_rules.proofs.KeySizes.{sized_sk_ei, sized_sk_er}
-use Rattle.run_ends.proofs.Holding.{IsOfEnd}
 use Rattle.run_ends.proofs.MessageBounds.{request-few, sends_message-brief}
 use Rattle.run_ends.proofs.Messages.{again-brief, first-short, readies-fold, says-proper}
 use Rattle.run_ends.proofs.ShortKept.{AreShort, HeldKeepsShort, KeepsShort, SlotsKeepShort, kept-short}
 use Rattle.run_ends.proofs.Verdicts.{IsProper, none-few, of-refusal, of-verdict}
+use Rattle.run_ends.specs.Acting.{IsOfEnd}
 
 module _ (held : IkeHeld) (sized : (length held.keys.sending.octets ≡ 20) ⊎ (length held.keys.sending.octets ≡ 36)) (id iv : ℕ) (request : List ℕ) (size : length request ≤ 256) (calls : List Call) (step : Step) (few : length calls ≤ 2) where
   sends_request-proper : SendsRequest held id iv request step → IsProper calls step

@@ -27,6 +27,7 @@ use Rattle.turn_rules.specs.Tasks as task
 use Rattle.turn_rules.specs.Tasks.{member_task, peer_task}
 use Rattle.cluster_member.specs.Members.{Holder, IsAfter}
 use Rattle.run_ends.proofs.Seats.{more-gone, more-length, more-seen_here, more-seen_there, seat-any, seat-other, seat-same, seat_here, seat_there, unless-seen}
+use Rattle.run_ends.specs.Acting.{IsOfEnd}
 use Rattle.run_ends.specs.Parties.{EndsHeld, given_to, holder_of, member_at, member_seen, nobody, state_of, state_then}
 
 abbrev pub Holds : List Turn → EndsHeld → Moment → Event → List Call → Step → EndsHeld → Type 0
@@ -108,11 +109,6 @@ refused-holds past old moment at calls step why run said =
     old.config old.peer
     (sym (ap (λ c. unwrap_or c old.config) no_config))
     (peer-then past old moment at calls step None None no_end no_config)
-
--- a verdict that an end itself comes to
-pub record IsOfEnd (verdict : Verdict) : Type 0 where
-  pub no_join : is_join verdict ≡ false
-  pub heard : is_refused_by_run verdict ≡ false
 
 pub of-end : (at : Event) (verdict : Verdict) (end : Performer) → IsOfEnd verdict → performer_of at verdict ≡ Some end → performer_at at verdict ≡ Some end
 of-end at verdict end said by = ap (λ b. if b then None else performer_of at verdict) said.heard ∙ by

@@ -61,11 +61,11 @@ use Rattle.turn_rules.specs.PeerMessages.{AcceptsSync, AnswersSync, SlotAnswers,
 use Rattle.turn_rules.specs.Slots.{Slot, first_slot, peer_counter}
 use Rattle.turn_rules.specs.Steps.{Says}
 use Rattle.turn_rules.proofs.KeySizes.{sized_sk_ei, sized_sk_er}
-use Rattle.run_ends.proofs.Holding.{IsOfEnd}
 use Rattle.run_ends.proofs.MessageBounds.{IsBrief, answer-few, sends_message-brief, synced-few}
 use Rattle.run_ends.proofs.ShortKept.{AreShort, HeldKeepsShort, KeepsShort, SlotsKeepShort, kept-short}
 use Rattle.run_ends.proofs.Verdicts.{IsProper, none-few, of-refusal, of-verdict, quiet-proper}
 use Rattle.run_ends.specs.Parties.{IsShort}
+use Rattle.run_ends.specs.Acting.{IsOfEnd}
 
 -- a step that an end comes to itself, be it with its service or not
 pub record IsAnswered (calls : List Call) (step : Step) : Type 0 where

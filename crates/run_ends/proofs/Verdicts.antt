@@ -1,5 +1,5 @@
 -- What the ends come to themselves: how it comes out, by how many calls, and how long what they send is.
-use Rattle.std.proofs.Common.{◌≡◌, ℕ, ◌≤◌, Bool, false, Option, Some, None, Result, Ok, Err, MatchOption, List, [], ◌∷◌, length, option_to_list, ⊎_elim, refl, ap, sym, subst, arith}
+use Rattle.std.proofs.Common.{◌≡◌, ℕ, ◌≤◌, Bool, true, false, Option, Some, None, Result, Ok, Err, MatchOption, List, [], ◌∷◌, length, option_to_list, ⊎_elim, refl, ap, sym, subst, arith}
 use Rattle.std.proofs.lemmas.Bool.{cases_lt}
 use Rattle.std.specs.List.{AllByRecursion}
 use Rattle.std.specs.Option.{option_map}
@@ -32,16 +32,16 @@ use Rattle.turn_rules.specs.Datagrams.{plain_datagram}
 use Rattle.turn_rules.specs.Deliveries.{MemberTakes, PeerTakes}
 use Rattle.turn_rules.specs.Draws.{Admits, Concludes, EntersRecord, Grants, TakesOver, counter_name, refusal_of_import, refusal_of_stop, refusal_of_takeover}
 use Rattle.turn_rules.specs.Ends.{is_of_run}
-use Rattle.turn_rules.specs.Fits.{DrawsOf, Quietly, Refuses, SendsOf}
+use Rattle.turn_rules.specs.Fits.{DrawsOf, Quietly, Refuses, Refusing, SendsOf}
 use Rattle.turn_rules.specs.Held.{Held}
 use Rattle.turn_rules.specs.MemberPackets.{MemberReceives, TakesPacket, outbound_of}
 use Rattle.turn_rules.specs.Packets.{Drops, IsVerdictOf, SendsEsp}
 use Rattle.turn_rules.specs.Slots.{PeerReceives, PeerSends, Slot, SlotReceives, SlotSends, SlotTakes, first_slot, has_spir, peer_counter, receives_at, slot_outbound}
 use Rattle.turn_rules.specs.Steps.{IsQuiet, Says}
 use Rattle.run_ends.proofs.Bounds.{sends-short}
-use Rattle.run_ends.proofs.Holding.{IsOfEnd}
 use Rattle.run_ends.proofs.MessageBounds.{IsBrief}
 use Rattle.run_ends.specs.Parties.{IsShort}
+use Rattle.run_ends.specs.Acting.{IsOfEnd}
 
 -- a step that an end comes to itself with no service, by two calls at most, and gives nothing long
 pub record IsProper (calls : List Call) (step : Step) : Type 0 where
@@ -125,6 +125,10 @@ enters-proper sa calls step quietly = go calls quietly.follows
 
 refuses-proper : (calls : List Call) (step : Step) (why : Refusal) → is_of_run why ≡ false → Refuses why calls step → IsProper calls step
 refuses-proper calls step why own r = quiet-proper calls step (none-few calls r.no_calls) (of-refusal step.verdict why own r.says.said) r.says.quiet
+
+pub imports-proper : (sa : Record) (clash : Bool) (calls : List Call) (step : Step) → Refusing clash refusal.SpiInUse calls step (Quietly (EntersRecord sa) calls step) → IsProper calls step
+imports-proper sa true calls step r = refuses-proper calls step refusal.SpiInUse refl r
+imports-proper sa false calls step quietly = enters-proper sa calls step quietly
 
 pub draws-proper : (held : Option Held) (calls : List Call) (step : Step) → DrawsOf held calls step → IsProper calls step
 draws-proper None calls step r = refuses-proper calls step refusal.NotOwner refl r

@@ -1,19 +1,17 @@
 -- What the ends of a run hold, and what an event makes of it.
-use Rattle.std.specs.Prelude.{ℕ, zero, suc, ◌-◌, ◌≡◌, ◌<◌, ◌≤◌, ◌&&◌, ◌++◌, Bool, true, false, is_none, nat_le, nat_lt, Option, Some, None, option_to_list, List, [], length, slice_index_or, Result}
+use Rattle.std.specs.Prelude.{ℕ, zero, suc, ◌-◌, ◌≡◌, ◌<◌, ◌≤◌, ◌&&◌, ◌++◌, Bool, true, is_none, nat_le, nat_lt, Option, Some, None, option_to_list, List, [], length, slice_index_or}
 use Rattle.std.specs.List.{AllByRecursion}
 use Rattle.std.specs.Option.{option_map}
 use Rattle.events.specs.declared.event.Event.{Event}
 use Rattle.events.specs.declared.event.Event.TheVariants as event
-use Rattle.events.specs.declared.event.Party.{Party}
 use Rattle.events.specs.declared.turn.Step.{Step}
 use Rattle.events.specs.declared.turn.Turn.{Turn}
-use Rattle.events.specs.declared.verdict.Refusal.{Refusal}
-use Rattle.ha_base.specs.declared.limits.TheConstants.{DATAGRAM_OCTETS, MAX_DATAGRAMS}
+use Rattle.ha_base.specs.declared.limits.TheConstants.{DATAGRAM_OCTETS}
 use Rattle.ha_base.specs.declared.outside.Moment.{Moment}
 use Rattle.keeper_book.specs.declared.calls.Call.{Call}
 use Rattle.turn_rules.specs.Configurations.{Configuration, Membership, default_configuration, first_ticket_key, membership}
-use Rattle.turn_rules.specs.Datagrams.{PlainDatagram, datagrams_of, delivery_of, plain_datagram}
-use Rattle.turn_rules.specs.Fits.{Does}
+use Rattle.turn_rules.specs.Datagrams.{PlainDatagram, datagrams_of, plain_datagram}
+use Rattle.turn_rules.specs.Fits.{Does, Performs}
 use Rattle.turn_rules.specs.Held.{held_at}
 use Rattle.turn_rules.specs.Local.{Local}
 use Rattle.turn_rules.specs.PeerStates.{PeerHeld}
@@ -98,11 +96,6 @@ abbrev pub AreInPlace : EndsHeld → Type 0
 AreInPlace s = (place : ℕ) (holder : Holder) → place < length s.members
     → holder_of s.members (suc place) ≡ Some holder → IsMember (suc place) s.config holder
 
--- the event delivers to this end
-abbrev pub DeliversTo : Event → Party → Type 0
-DeliversTo at to = (made : List PlainDatagram → Result PlainDatagram Refusal)
-    × (delivery_of at ≡ Some (record { to = to; made = made }))
-
 -- what the ends do at a moment at an event after these turns, by what they hold, and that they hold
 -- then what the turn makes of it
 pub record Plays (past : List Turn) (old : EndsHeld) (now : Moment) (at : Event)
@@ -111,14 +104,17 @@ pub record Plays (past : List Turn) (old : EndsHeld) (now : Moment) (at : Event)
   pub holds : state_then past step new ≡ state_after now at calls step (state_of past old)
   pub in_place : AreInPlace new
 
+-- the same of an event that the run does not refuse
+pub record Acts (past : List Turn) (old : EndsHeld) (now : Moment) (at : Event)
+    (calls : List Call) (step : Step) (new : EndsHeld) : Type 0 where
+  pub performs : Performs (state_of past old) now at calls step
+  pub holds : state_then past step new ≡ state_after now at calls step (state_of past old)
+  pub in_place : AreInPlace new
+
 -- so it is at each event that configures the cluster so
 abbrev pub Configures : Configuration → (Event → Type 0) → Type 0
 Configures config plays = (ticket_key : List ℕ) → config.ticket_key ≡ first_ticket_key ticket_key
     → plays (event.Cluster config.identity config.lifetime config.window ticket_key)
-
--- a run after these turns has room for one more datagram
-abbrev pub HasRoom : List Turn → Type 0
-HasRoom past = nat_le MAX_DATAGRAMS (length (datagrams_of past)) ≡ false
 
 -- datagrams are of at most so many octets
 abbrev pub IsShort : PlainDatagram → Type 0

@@ -1,11 +1,11 @@
 //! What is delivered to an end.
 
-ghost use Rattle.std.specs.Prelude.{◌≡◌, ◌+◌, ◌≤◌, length, IfOk, MatchOption, Err, Ok};
-ghost use Rattle.events.specs.declared.verdict.Refusal.TheVariants as refusal;
-ghost use Rattle.turn_rules.specs.Datagrams.{altered, arrives, changed, cut, datagram_at, datagrams_of, plain_datagram};
+ghost use Rattle.std.specs.Prelude.{◌≡◌, ◌<◌, ◌≤◌, length, is_some, true, IfOk, None, Some, Ok};
+ghost use Rattle.turn_rules.specs.Datagrams.{altered, arrives, changed, cut, datagram_at, datagrams_of};
+ghost use Rattle.turn_rules.specs.Fits.{refused_arrival};
 ghost use Rattle.turn_rules.specs.Packets.{IsVerdictOf, LiesWithin};
 
-use events::{Datagram, EspVerdict, Event, Medium, Refusal, Verdict, Which};
+use events::{EspVerdict, Event, Medium, Verdict, Which};
 use ha_base::{Memory, Octets};
 use std::alloc::Global;
 use std::marker::Model;
@@ -26,9 +26,6 @@ impl Model for Arrival {
     ghost view = { λ a. record { medium = a.medium; octets = a.octets.items } };
 }
 
-/// What came, or why nothing did.
-type Found = Result<Arrival, Refusal>;
-
 fn copied(alloc: Global, medium: Medium, octets: &[u8]) -> Result<Arrival, Memory>
     ensures { IfOk result (λ arrival. arrival ≡ record { medium = medium; octets = octets.now }) }
 {
@@ -39,96 +36,59 @@ fn copied(alloc: Global, medium: Medium, octets: &[u8]) -> Result<Arrival, Memor
 }
 
 // the datagram that is meant, as it was given
-fn given(alloc: Global, trace: &Trace, which: Which) -> Result<Option<Arrival>, Memory>
-    ensures { IfOk result (λ found. found ≡ datagram_at which (datagrams_of trace.now.past)) }
+fn given(alloc: Global, trace: &Trace, which: Which) -> Result<Arrival, Memory>
+    requires { is_some (datagram_at which (datagrams_of trace.now.past)) ≡ true }
+    ensures { IfOk result (λ given. datagram_at which (datagrams_of trace.now.past) ≡ Some given) }
 {
     match trace.datagram(which) {
-        Some(datagram) => {
-            let arrival = copied(alloc, datagram.medium, datagram.octets.as_slice())?;
-            Ok(Some(arrival))
-        }
-        None => Ok(None),
+        Some(datagram) => copied(alloc, datagram.medium, datagram.octets.as_slice()),
+        None => unreachable!(),
     }
 }
 
 impl Arrival {
     // the octet at this place is changed by an exclusive or
-    fn altered(mut self, place: usize, octet: u8) -> Found
-        ensures { result ≡ changed (Some self) (altered place octet) }
+    fn altered(mut self, place: usize, octet: u8) -> Arrival
+        requires { place < length self.octets }
+        ensures { changed (Some self) (altered place octet) ≡ Ok result }
     {
-        if place >= self.octets.len() {
-            return Err(Refusal::NoOctet);
-        }
         self.octets[place] ^= octet;
-        Ok(self)
+        self
     }
 
     // the first octets alone
-    fn cut(mut self, keep: usize) -> Found
-        ensures { result ≡ changed (Some self) (cut keep) }
+    fn cut(mut self, keep: usize) -> Arrival
+        requires { keep ≤ length self.octets }
+        ensures { changed (Some self) (cut keep) ≡ Ok result }
     {
-        if keep > self.octets.len() {
-            return Err(Refusal::NoOctet);
-        }
         self.octets.truncate(keep);
-        Ok(self)
+        self
     }
 }
 
-fn delivered(found: Option<Arrival>) -> Found
-    ensures { result ≡ changed found Some }
-{
-    match found {
-        Some(arrival) => Ok(arrival),
-        None => Err(Refusal::NoDatagram),
-    }
-}
-
-fn altered(found: Option<Arrival>, place: usize, octet: u8) -> Found
-    ensures { result ≡ changed found (altered place octet) }
-{
-    match found {
-        Some(arrival) => arrival.altered(place, octet),
-        None => Err(Refusal::NoDatagram),
-    }
-}
-
-fn cut(found: Option<Arrival>, keep: usize) -> Found
-    ensures { result ≡ changed found (cut keep) }
-{
-    match found {
-        Some(arrival) => arrival.cut(keep),
-        None => Err(Refusal::NoDatagram),
-    }
-}
-
-/// What an event delivers, or why it does not. An error is want of memory.
-pub(crate) fn arriving(alloc: Global, trace: &Trace, event: &Event) -> Result<Found, Memory>
-    ensures { IfOk result (λ found. found ≡ arrives (datagrams_of trace.now.past) event.now) }
+/// What an event delivers. An error is want of memory.
+pub(crate) fn arriving(alloc: Global, trace: &Trace, event: &Event) -> Result<Arrival, Memory>
+    requires { refused_arrival (arrives (datagrams_of trace.now.past) event.now) ≡ None }
+    ensures { IfOk result
+        (λ arrival. arrives (datagrams_of trace.now.past) event.now ≡ Ok arrival) }
 {
     match event {
-        Event::Deliver { which, .. } => {
-            let found = given(alloc, trace, *which)?;
-            return Ok(delivered(found));
-        }
+        Event::Deliver { which, .. } => return given(alloc, trace, *which),
         Event::Alter {
             which,
             place,
             octet,
             ..
         } => {
-            let found = given(alloc, trace, *which)?;
-            return Ok(altered(found, *place as usize, *octet));
+            let given = given(alloc, trace, *which)?;
+            return Ok(given.altered(*place as usize, *octet));
         }
         Event::Cut { which, keep, .. } => {
-            let found = given(alloc, trace, *which)?;
-            return Ok(cut(found, *keep as usize));
+            let given = given(alloc, trace, *which)?;
+            return Ok(given.cut(*keep as usize));
         }
-        Event::Inject { medium, octets, .. } => {
-            let arrival = copied(alloc, *medium, octets.as_slice())?;
-            return Ok(Ok(arrival));
-        }
-        _ => return Ok(Err(Refusal::NoDatagram)),
+        Event::Inject { medium, octets, .. } => return copied(alloc, *medium, octets.as_slice()),
+        _ => unreachable!(),
     }
 }
 

@@ -1,126 +1,25 @@
 //! Datagrams that come to an end.
 
-ghost use Rattle.std.specs.Prelude.{◌≡◌, ◌<◌, ◌≤◌, [], IfOk, OnErr, Ok, None, length};
+ghost use Rattle.std.specs.Prelude.{◌≡◌, ◌<◌, ◌≤◌, IfOk, OnErr, None, length};
 ghost use Rattle.cluster_member.specs.Members.{IsAfter};
-ghost use Rattle.events.specs.declared.event.Party.TheVariants as parties;
 ghost use Rattle.ha_base.specs.declared.limits.TheConstants.{DATAGRAM_OCTETS};
 ghost use Rattle.ha_base.specs.declared.services.TheConstants.{MOST_REQUESTS};
 ghost use Rattle.keeper_book.specs.Asks.{AsksFor};
-ghost use Rattle.turn_rules.specs.Datagrams.{PlainDatagram, arrives, datagrams_of};
 ghost use Rattle.turn_rules.specs.Deliveries.{MemberTakes};
 ghost use Rattle.turn_rules.specs.Held.{held_at};
 ghost use Rattle.turn_rules.specs.Services.{Serves};
 ghost use Rattle.turn_rules.specs.Tasks as task;
 ghost use Rattle.run_ends.specs.Arrivals.{MemberTakesIn, PeerTakesIn};
-ghost use Rattle.run_ends.specs.Parties.{AreInPlace, DeliversTo, HasRoom, IsShort, Plays};
+ghost use Rattle.run_ends.specs.Parties.{IsShort};
 
-use crate::arrivals::{Arrival, arriving, verdict_of};
-use crate::parties::{Parties, refused};
-use crate::sends::is_full;
+use crate::arrivals::{Arrival, verdict_of};
 use cluster_member::Member;
 use cluster_peer::Peer;
-use events::{Event, Medium, Party, Refusal, Step};
-use ha_base::{Memory, Moment, Service};
+use events::{Medium, Step};
+use ha_base::{Memory, Service};
 use keeper_book::Keeper;
-use turn_trace::Trace;
 
-impl Parties {
-    pub(crate) fn deliver<K: Keeper>(
-        &mut self,
-        keeper: &mut K,
-        service: &mut Box<dyn Service>,
-        now: Moment,
-        trace: &Trace,
-        to: Party,
-        event: &Event,
-    ) -> Result<Step, Memory>
-        requires to { DeliversTo event.now to }
-        requires short { (datagram : PlainDatagram)
-            → arrives (datagrams_of trace.now.past) event.now ≡ Ok datagram → IsShort datagram }
-        requires served_few { count service.old < MOST_REQUESTS }
-        requires in_place { AreInPlace self.old }
-        ensures delivers { IfOk result (λ step. AsksFor K.Keeper keeper.old keeper.new (λ calls.
-            Plays trace.now.past self.old now event.now calls step self.new)) }
-        ensures serves { IfOk result
-            (λ step. Serves count last gives service.old step.served service.new) }
-        ensures err { OnErr result (self.new ≡ self.old) }
-        ensures unserved { OnErr result (service.new ≡ service.old) }
-        ensures unasked { OnErr result (keeper.new ≡ keeper.old) }
-    {
-        if is_full(trace) {
-            return Ok(refused(Refusal::DatagramsFull));
-        }
-        match to {
-            Party::Peer => return self.deliver_to_peer(service, now, trace, event),
-            Party::Member(member) => {
-                return self.deliver_to_member(keeper, service, now, trace, member, event);
-            }
-        }
-    }
-
-    fn deliver_to_peer(
-        &mut self,
-        service: &mut Box<dyn Service>,
-        now: Moment,
-        trace: &Trace,
-        event: &Event,
-    ) -> Result<Step, Memory>
-        requires to { DeliversTo event.now parties.Peer }
-        requires room { HasRoom trace.now.past }
-        requires short { (datagram : PlainDatagram)
-            → arrives (datagrams_of trace.now.past) event.now ≡ Ok datagram → IsShort datagram }
-        requires served_few { count service.old < MOST_REQUESTS }
-        requires in_place { AreInPlace self.old }
-        ensures delivers { IfOk result
-            (λ step. Plays trace.now.past self.old now event.now [] step self.new) }
-        ensures serves { IfOk result
-            (λ step. Serves count last gives service.old step.served service.new) }
-        ensures err { OnErr result (self.new ≡ self.old) }
-        ensures unserved { OnErr result (service.new ≡ service.old) }
-    {
-        match arriving(self.alloc, trace, event)? {
-            Ok(arrival) => return peer_takes(&mut self.peer, service, arrival),
-            Err(why) => return Ok(refused(why)),
-        }
-    }
-
-    fn deliver_to_member<K: Keeper>(
-        &mut self,
-        keeper: &mut K,
-        service: &mut Box<dyn Service>,
-        now: Moment,
-        trace: &Trace,
-        member: u64,
-        event: &Event,
-    ) -> Result<Step, Memory>
-        requires to { DeliversTo event.now (parties.Member member) }
-        requires room { HasRoom trace.now.past }
-        requires short { (datagram : PlainDatagram)
-            → arrives (datagrams_of trace.now.past) event.now ≡ Ok datagram → IsShort datagram }
-        requires served_few { count service.old < MOST_REQUESTS }
-        requires in_place { AreInPlace self.old }
-        ensures delivers { IfOk result (λ step. AsksFor K.Keeper keeper.old keeper.new (λ calls.
-            Plays trace.now.past self.old now event.now calls step self.new)) }
-        ensures serves { IfOk result
-            (λ step. Serves count last gives service.old step.served service.new) }
-        ensures err { OnErr result (self.new ≡ self.old) }
-        ensures unserved { OnErr result (service.new ≡ service.old) }
-        ensures unasked { OnErr result (keeper.new ≡ keeper.old) }
-    {
-        let Some(place) = self.place_of(member) else {
-            return Ok(refused(Refusal::NoMember));
-        };
-        let Some(member) = &mut self.members[place] else {
-            return Ok(refused(Refusal::Down));
-        };
-        match arriving(self.alloc, trace, event)? {
-            Ok(arrival) => return member_takes(member, keeper, service, arrival),
-            Err(why) => return Ok(refused(why)),
-        }
-    }
-}
-
-fn peer_takes(
+pub(crate) fn peer_takes(
     peer: &mut Peer,
     service: &mut Box<dyn Service>,
     arrival: Arrival,
@@ -144,7 +43,7 @@ fn peer_takes(
     }
 }
 
-fn member_takes<K: Keeper>(
+pub(crate) fn member_takes<K: Keeper>(
     member: &mut Member,
     keeper: &mut K,
     service: &mut Box<dyn Service>,

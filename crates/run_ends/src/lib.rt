@@ -6,9 +6,9 @@ mod deliveries;
 mod ends;
 mod members;
 mod parties;
-mod requests;
-mod sends;
+mod performers;
+mod refusals;
 mod settings;
-mod synchronising;
 
 pub use ends::Ends;
+pub use refusals::named_in;

@@ -1,102 +1,60 @@
-//! What members do that send and receive nothing.
+//! How members join and end, and where they stand.
 
-ghost use Rattle.std.specs.Prelude.{◌≡◌, ℕ, false, [], List, MatchOption, IfOk, OnErr};
-ghost use Rattle.cluster_member.specs.Members.{AsksInVain};
+ghost use Rattle.std.specs.Prelude.{◌≡◌, ◌<◌, None, true, [], List, IfOk, OnErr, length};
 ghost use Rattle.events.specs.declared.event.Event.TheVariants as event;
 ghost use Rattle.events.specs.declared.turn.Turn.{Turn};
 ghost use Rattle.ha_base.specs.declared.outside.Moment.{Moment};
-ghost use Rattle.keeper_book.specs.Asks.{AsksFor};
-ghost use Rattle.run_ends.specs.Parties.{AreInPlace, IsMemberPlace, Plays, has_member};
+ghost use Rattle.turn_rules.specs.Fits.{MAX_MEMBERS};
+ghost use Rattle.run_ends.specs.Parties.{Acts, AreInPlace, IsMemberPlace, has_member};
 
-use crate::parties::{Parties, refused};
+use crate::parties::Parties;
 use cluster_member::Member;
-use events::{Refusal, Step, Verdict};
+use events::{Step, Verdict};
 use ha_base::Memory;
-use keeper_book::Keeper;
-
-/// The most members of a run.
-const MAX_MEMBERS: usize = 64;
 
 impl Parties {
+    /// A member joins, where there is room for one more.
     pub(crate) fn join(&mut self, fresh: [u8; 24]) -> Result<Step, Memory>
+        requires room { length self.old.members < MAX_MEMBERS }
         requires in_place { AreInPlace self.old }
         ensures joins { IfOk result (λ step. (past : List Turn) (now : Moment)
-            → Plays past self.old now (event.Join fresh) [] step self.new) }
+            → Acts past self.old now (event.Join fresh) [] step self.new) }
+        ensures alone { IfOk result (λ step. step.served ≡ None) }
         ensures err { OnErr result (self.new ≡ self.old) }
     {
-        let joined = self.members.len();
-        if joined >= MAX_MEMBERS || joined >= self.boxes {
-            return Ok(refused(Refusal::NoRoom(joined as u32)));
-        }
         if self.members.reserve(1).is_err() {
             return Err(Memory);
         }
-        let number = joined as u32 + 1;
+        let number = self.members.len() as u32 + 1;
         let member = Member::join(self.alloc, number, self.settings.config(), fresh);
         self.members.push_reserved(Some(member));
         Ok(Step::quiet(Verdict::Member(number)))
     }
 
-    /// Where a member of this number stands among those that joined.
-    pub(crate) fn place_of(&self, member: u64) -> Option<usize>
-        ensures { MatchOption result (has_member member self.now.members ≡ false)
-            (λ place. IsMemberPlace member place self.now.members) }
+    /// Whether a member of this number has joined.
+    pub(crate) fn has_member(&self, member: u64) -> bool
+        ensures { result ≡ has_member member self.now.members }
     {
-        if member == 0 || member > self.members.len() as u64 {
-            return None;
-        }
-        Some((member - 1) as usize)
+        member > 0 && member <= self.members.len() as u64
     }
 
-    pub(crate) fn own<K: Keeper>(
-        &mut self,
-        keeper: &mut K,
-        member: u64,
-        spir: u64,
-    ) -> Result<Step, Memory>
-        requires in_place { AreInPlace self.old }
-        ensures owns { IfOk result (λ step. AsksFor K.Keeper keeper.old keeper.new (λ calls.
-            (past : List Turn) (now : Moment)
-            → Plays past self.old now (event.Own member spir) calls step self.new)) }
-        ensures err { OnErr result (self.new ≡ self.old) }
-        ensures in_vain { OnErr result (AsksInVain K.Keeper keeper.old keeper.new) }
+    /// Where a member that has joined stands.
+    pub(crate) fn place_of(&self, member: u64) -> usize
+        requires { has_member member self.now.members ≡ true }
+        ensures { IsMemberPlace member result self.now.members }
     {
-        let Some(place) = self.place_of(member) else {
-            return Ok(refused(Refusal::NoMember));
-        };
-        match &mut self.members[place] {
-            Some(member) => return member.take_over(keeper, spir),
-            None => return Ok(refused(Refusal::Down)),
-        }
+        (member - 1) as usize
     }
 
-    pub(crate) fn draw<K: Keeper>(&mut self, keeper: &mut K, member: u64, spir: u64) -> Step
-        requires in_place { AreInPlace self.old }
-        ensures draws { AsksFor K.Keeper keeper.old keeper.new (λ calls.
-            (past : List Turn) (now : Moment)
-            → Plays past self.old now (event.Draw member spir) calls result self.new) }
-    {
-        let Some(place) = self.place_of(member) else {
-            return refused(Refusal::NoMember);
-        };
-        match &mut self.members[place] {
-            Some(member) => return member.draw(keeper, spir),
-            None => return refused(Refusal::Down),
-        }
-    }
-
-    // A member that crashed never returns.
+    /// Ends a member. It never returns.
     pub(crate) fn crash(&mut self, member: u64) -> Step
+        requires joined { has_member member self.old.members ≡ true }
         requires in_place { AreInPlace self.old }
         ensures crashes { (past : List Turn) (now : Moment)
-            → Plays past self.old now (event.Crash member) [] result self.new }
+            → Acts past self.old now (event.Crash member) [] result self.new }
+        ensures alone { result.served ≡ None }
     {
-        let Some(place) = self.place_of(member) else {
-            return refused(Refusal::NoMember);
-        };
-        if self.members[place].is_none() {
-            return refused(Refusal::Down);
-        }
+        let place = self.place_of(member);
         self.members[place] = None;
         Step::quiet(Verdict::Down)
     }

@@ -1,11 +1,10 @@
 //! The ends of a run, and what they do at an event.
 
-ghost use Rattle.std.specs.Prelude.{◌≡◌, ◌<◌, [], List, IfOk, OnErr};
+ghost use Rattle.std.specs.Prelude.{◌≡◌, ◌<◌, None, [], List, IfOk, OnErr};
 ghost use Rattle.std.specs.List.{AllByRecursion};
 ghost use Rattle.events.specs.Events.{plain};
 ghost use Rattle.events.specs.Ranges.{Fits};
 ghost use Rattle.cluster_member.specs.Members.{AsksInVain};
-ghost use Rattle.events.specs.declared.event.Event.TheVariants as event;
 ghost use Rattle.events.specs.declared.turn.Turn.{Turn};
 ghost use Rattle.ha_base.specs.declared.outside.Moment.{Moment};
 ghost use Rattle.ha_base.specs.declared.services.TheConstants.{MOST_REQUESTS};
@@ -13,18 +12,18 @@ ghost use Rattle.keeper_book.specs.Asks.{AsksFor};
 ghost use Rattle.replay_set.specs.Window.{IsWindowSize};
 ghost use Rattle.turn_rules.specs.Configurations.{default_configuration, gateway_of};
 ghost use Rattle.turn_rules.specs.Datagrams.{datagrams_of};
-ghost use Rattle.turn_rules.specs.Fits.{is_importable};
+ghost use Rattle.turn_rules.specs.Fits.{run_refusal};
 ghost use Rattle.turn_rules.specs.PeerStates.{peer_begun};
 ghost use Rattle.turn_rules.specs.Services.{Serves};
 ghost use Rattle.turn_rules.specs.Steps.{Says};
-ghost use Rattle.run_ends.specs.Parties.{AreInPlace, Configures, IsShort, Plays};
+ghost use Rattle.run_ends.specs.Parties.{Acts, AreInPlace, Configures, IsShort, Plays, state_of};
 
 use crate::settings::Settings;
-use cluster_member::{Member, of_import};
+use cluster_member::Member;
 use cluster_peer::Peer;
 use events::{Event, Refusal, Step, Verdict};
-use ha_base::{LEAST_ESP_SPI, LEAST_SPI, Memory, Moment, Service};
-use keeper_book::{Keeper, Record};
+use ha_base::{Memory, Moment, Service};
+use keeper_book::Keeper;
 use std::alloc::Global;
 use std::marker::Model;
 use turn_trace::Trace;
@@ -65,19 +64,6 @@ pub(crate) fn refused(refusal: Refusal) -> Step
     Step::quiet(Verdict::Refused(refusal))
 }
 
-// the SPIs that a run may import; the smaller ones are for what the cluster draws itself
-fn is_importable(sa: &Record) -> bool
-    ensures { result ≡ is_importable sa.now }
-{
-    sa.spii >= LEAST_SPI
-        && sa.spir >= LEAST_SPI
-        && sa.spi_in >= LEAST_ESP_SPI
-        && sa.spi_out >= LEAST_ESP_SPI
-        && sa.starts.esp_out > 0
-        && sa.starts.esp_in > 0
-        && sa.starts.iv > 0
-}
-
 impl Parties {
     /// Ends that have done nothing, and services for as many members as `boxes` says.
     pub fn new(alloc: Global, boxes: usize) -> Parties
@@ -98,9 +84,10 @@ impl Parties {
         }
     }
 
-    /// What the ends do at a moment at an event, where these turns were before. The service is that
-    /// of the end that acts. An error is want of memory; the ends and the service are then as they
-    /// were, and the keeper was asked only where it lacked the memory itself.
+    /// What the ends do at a moment at an event, where these turns were before: the run refuses it,
+    /// or it is performed. The service is that of the end that acts. An error is want of memory; the
+    /// ends and the service are then as they were, and the keeper was asked only where it lacked the
+    /// memory itself.
     pub fn play<K: Keeper>(
         &mut self,
         keeper: &mut K,
@@ -123,6 +110,35 @@ impl Parties {
         ensures unserved { OnErr result (service.new ≡ service.old) }
         ensures in_vain { OnErr result (AsksInVain K.Keeper keeper.old keeper.new) }
     {
+        match self.refusal(trace, event) {
+            Some(why) => return Ok(refused(why)),
+            None => return self.act(keeper, service, trace, event),
+        }
+    }
+
+    // what the ends do at an event that the run does not refuse
+    fn act<K: Keeper>(
+        &mut self,
+        keeper: &mut K,
+        service: &mut Box<dyn Service>,
+        trace: &Trace,
+        event: &Event,
+    ) -> Result<Step, Memory>
+        requires unrefused { run_refusal (state_of trace.now.past self.old) event.now ≡ None }
+        requires fits { Fits (plain event.now) }
+        requires room { count service.old < MOST_REQUESTS }
+        requires short { AllByRecursion IsShort (datagrams_of trace.now.past) }
+        requires first { trace.now.past ≡ []
+            → (self.old.peer.slots ≡ []) × (self.old.members ≡ []) }
+        requires in_place { AreInPlace self.old }
+        ensures acts { IfOk result (λ step. AsksFor K.Keeper keeper.old keeper.new (λ calls.
+            (now : Moment) → Acts trace.now.past self.old now event.now calls step self.new)) }
+        ensures serves { IfOk result
+            (λ step. Serves count last gives service.old step.served service.new) }
+        ensures err { OnErr result (self.new ≡ self.old) }
+        ensures unserved { OnErr result (service.new ≡ service.old) }
+        ensures in_vain { OnErr result (AsksInVain K.Keeper keeper.old keeper.new) }
+    {
         match event {
             Event::Cluster {
                 identity,
@@ -131,78 +147,25 @@ impl Parties {
                 ticket_key,
             } => {
                 let settings = Settings::of(*identity, *lifetime, *window, ticket_key);
-                return Ok(self.configure(trace, settings));
+                return Ok(self.configure(settings));
             }
-            Event::Import { sa } => return self.import(keeper, sa),
             Event::Join { fresh } => return self.join(*fresh),
-            Event::Own { member, spir } => return self.own(keeper, *member, *spir),
-            Event::Draw { member, spir } => return Ok(self.draw(keeper, *member, *spir)),
             Event::Crash { member } => return Ok(self.crash(*member)),
-            Event::Send {
-                from,
-                spir,
-                payload,
-            } => return self.send(keeper, trace, *from, *spir, payload.as_slice()),
-            Event::Ask {
-                from,
-                spir,
-                request,
-            } => return self.ask(keeper, trace, *from, *spir, request.as_slice()),
-            Event::Again { from, spir, id } => return self.again(trace, *from, *spir, *id),
-            Event::Sync { member, spir } => return self.sync(keeper, trace, *member, *spir),
-            Event::Deliver { to, .. } => {
-                return self.deliver(keeper, service, now, trace, *to, event);
-            }
-            Event::Alter { to, .. } => {
-                return self.deliver(keeper, service, now, trace, *to, event);
-            }
-            Event::Cut { to, .. } => return self.deliver(keeper, service, now, trace, *to, event),
-            Event::Inject { to, .. } => {
-                return self.deliver(keeper, service, now, trace, *to, event);
-            }
+            _ => return self.perform(keeper, service, trace, event),
         }
     }
 
-    fn configure(&mut self, trace: &Trace, settings: Settings) -> Step
+    // before the first turn
+    fn configure(&mut self, settings: Settings) -> Step
         requires window { IsWindowSize settings.window }
-        requires first { trace.now.past ≡ []
-            → (self.old.peer.slots ≡ []) × (self.old.members ≡ []) }
-        requires in_place { AreInPlace self.old }
-        ensures configures { Configures settings
-            (λ event. (now : Moment) → Plays trace.now.past self.old now event [] result self.new) }
+        requires no_slots { self.old.peer.slots ≡ [] }
+        requires nobody { self.old.members ≡ [] }
+        ensures configures { Configures settings (λ event. (past : List Turn) (now : Moment)
+            → Acts past self.old now event [] result self.new) }
+        ensures alone { result.served ≡ None }
     {
-        if trace.turns() > 0 {
-            return refused(Refusal::Late);
-        }
         self.peer.configure(settings.gateway(), settings.window);
         self.settings = settings;
         Step::quiet(Verdict::Configured)
-    }
-
-    fn import<K: Keeper>(&mut self, keeper: &mut K, sa: &Record) -> Result<Step, Memory>
-        requires in_place { AreInPlace self.old }
-        ensures imports { IfOk result (λ step. AsksFor K.Keeper keeper.old keeper.new (λ calls.
-            (past : List Turn) (now : Moment)
-            → Plays past self.old now (event.Import sa.now) calls step self.new)) }
-        ensures err { OnErr result (self.new ≡ self.old) }
-        ensures in_vain { OnErr result (AsksInVain K.Keeper keeper.old keeper.new) }
-    {
-        if !is_importable(sa) {
-            return Ok(refused(Refusal::SpiRange));
-        }
-        if !self.peer.admits(sa) {
-            return Ok(refused(Refusal::SpiInUse));
-        }
-        self.peer.reserve()?;
-        match keeper.enter(sa) {
-            Ok(()) => {
-                self.peer.add(sa);
-                return Ok(Step::quiet(Verdict::Entered));
-            }
-            Err(fault) => match of_import(fault) {
-                Some(refusal) => return Ok(refused(refusal)),
-                None => return Err(Memory),
-            },
-        }
     }
 }

@@ -5,7 +5,7 @@ use Rattle.turn_rules.specs.Deliveries.{MemberGets, MemberTakes}
 use Rattle.turn_rules.specs.Held.{held_at}
 use Rattle.turn_rules.specs.MemberMessages.{member_listener}
 use Rattle.turn_rules.specs.Messages.{TakesMessage}
-use Rattle.run_ends.proofs.Plays.{asked-as, if_ok-as}
+use Rattle.run_ends.proofs.Events.{asked-as, if_ok-as}
 use Rattle.run_ends.proofs.deliveries.member_takes.Goals as goal
 
 pub returns-in-Ike-clause-takes : goal.returns-in-Ike-clause-takes
