@@ -83,8 +83,8 @@ pub enum Event {
     Ticket {
         spir: u64,
     },
-    /// The peer closes its end of the association with this SPIr, and sends nothing that tells it. It
-    /// keeps the ticket.
+    /// The peer closes its end of the association with this SPIr, and sends nothing that tells it.
+    /// It keeps the ticket.
     Forget {
         spir: u64,
     },

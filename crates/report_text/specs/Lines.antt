@@ -18,7 +18,7 @@ use Rattle.report_text.specs.declared.line.PlainAsk.{PlainAsk}
 use Rattle.report_text.specs.declared.line.Line.{Line}
 use Rattle.report_text.specs.declared.line.Line.TheVariants as lines
 
--- What was kept of a response besides the reply, by the words that tell it: no line has the ticket.
+-- what was kept of a response besides the reply, as far as a line tells it: not the ticket itself
 pub data PlainKept : Type 0 where
   KeptNothing : PlainKept
   KeptTicket : PlainKept

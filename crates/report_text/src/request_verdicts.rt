@@ -74,7 +74,8 @@ pub(crate) fn put_reply(
     error: Option<u16>,
 ) -> Result<(), Memory>
     ensures { OnOk result (out.new.octets
-        ≡ with_words out.old.octets (verdict_words (Reply id reply.now (plain_kept kept.now) error))) }
+        ≡ with_words out.old.octets
+        (verdict_words (Reply id reply.now (plain_kept kept.now) error))) }
 {
     put_named_number(alloc, out, b"reply", u64::from(id))?;
     put_octets(alloc, out, reply)?;
