@@ -4,3 +4,4 @@ pub mod Drafts
 pub mod Errors
 pub mod Held
 pub mod Sending
+pub mod TicketMessages

@@ -19,6 +19,7 @@ mod responses;
 mod sa;
 mod synchronisation;
 mod synchronising;
+mod ticket_messages;
 
 pub use answers::{ANSWER_OCTETS, LONGEST_REPLY, RequestError, data_of, error_of, execute};
 pub use arrival::Arrival;
@@ -30,3 +31,7 @@ pub use keys::IkeKeys;
 pub use receiving::{Associations, receive};
 pub use sa::IkeSa;
 pub use synchronising::{AcceptedSync, SYNC_DELTA, SYNC_RESPONSE_OCTETS};
+pub use ticket_messages::{
+    GivenTicket, LIFETIME_OCTETS, LONGEST_KEPT_TICKET, TICKET_ANSWER_OCTETS, TicketAnswer,
+    TicketReply, is_ticket_due, ticket_reply,
+};

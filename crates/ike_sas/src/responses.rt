@@ -2,13 +2,16 @@ ghost use Rattle.std.specs.Prelude.{◌≡◌, ◌≤◌, [], length};
 ghost use Rattle.ike_sas.specs.Answers.{answer_payloads};
 ghost use Rattle.ike_sas.specs.Held.{response_header, with_answered};
 ghost use Rattle.ike_sas.specs.Sending.{SendsIke};
+ghost use Rattle.ike_sas.specs.TicketMessages.{IsShortTicket, payloads_with_ticket};
 ghost use Rattle.ike_sas.specs.declared.answers.TheConstants.{ANSWER_OCTETS, LONGEST_REPLY};
+ghost use Rattle.ike_sas.specs.declared.ticket_messages.TheConstants.{TICKET_ANSWER_OCTETS};
 ghost use Rattle.ike_window.specs.Requests.{IsNewRequest};
 ghost use Rattle.ike_window.specs.Windows.{IsAnswered};
 
 use crate::draft::{Draft, Sealed, SentMessage};
 use crate::keys::IkeKeys;
 use crate::sa::IkeSa;
+use crate::ticket_messages::TicketAnswer;
 use ha_base::End;
 use ike_values::Header;
 use sk_payload::Opened;
@@ -71,6 +74,34 @@ impl IkeSa {
             ≡ with_answered request.now.header.id result.datagram.octets.octets self.old }
     {
         draft.put_answer(request, reply);
+        self.respond(draft, &request.header, number)
+    }
+
+    /// Answers a new request that asks for a ticket and was executed: with the reply of the service,
+    /// and behind it what is said of the ticket. The rest is as with `answer`.
+    pub fn answer_with_ticket(
+        &mut self,
+        mut draft: Draft,
+        request: &Opened,
+        reply: &[u8],
+        ticket: &TicketAnswer,
+        number: Number,
+    ) -> SentMessage
+        requires named { number.name ≡ self.old.keys.sending.name }
+        requires new { IsNewRequest self.old.answered.low (IsAnswered self.old.answered)
+            request.now.header.id }
+        requires empty { draft.payloads ≡ [] }
+        requires room { TICKET_ANSWER_OCTETS ≤ draft.room }
+        requires short { length reply.now ≤ LONGEST_REPLY }
+        requires short_ticket { IsShortTicket ticket.now }
+        ensures sends { SendsIke self.old.keys.sending number.value
+            (response_header self.old.keys request.now.header)
+            (payloads_with_ticket request.now reply.now ticket.now) result }
+        ensures held { self.new
+            ≡ with_answered request.now.header.id result.datagram.octets.octets self.old }
+    {
+        draft.put_answer(request, reply);
+        draft.put_ticket_answer(ticket);
         self.respond(draft, &request.header, number)
     }
 }

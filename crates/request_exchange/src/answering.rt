@@ -1,7 +1,8 @@
-ghost use Rattle.std.specs.Prelude.{◌≡◌, ◌<◌, ◌≤◌, [], None, Some, length};
+ghost use Rattle.std.specs.Prelude.{◌≡◌, ◌<◌, ◌≤◌, [], None, Some, length, IfOk};
 ghost use Rattle.ha_base.specs.declared.services.TheConstants.{LONGEST_REQUEST, MOST_REQUESTS};
 ghost use Rattle.ike_sas.specs.Answers.{data_of, error_of};
 ghost use Rattle.ike_sas.specs.declared.answers.TheConstants.{ANSWER_OCTETS, LONGEST_REPLY};
+ghost use Rattle.ike_sas.specs.declared.ticket_messages.TheConstants.{TICKET_ANSWER_OCTETS};
 ghost use Rattle.ike_window.specs.Requests.{IsNewRequest};
 ghost use Rattle.ike_window.specs.Windows.{IsAnswered};
 ghost use Rattle.turn_rules.specs.IkeState.{with_taken, kept_under};
@@ -12,7 +13,8 @@ use crate::steps::sent_step;
 use events::{Mark, Served, Step, Verdict};
 use ha_base::{CounterName, LONGEST_REQUEST, Memory, Octets, Service};
 use ike_sas::{
-    ANSWER_OCTETS, Draft, IkeSa, LONGEST_REPLY, RequestError, data_of, error_of, execute,
+    ANSWER_OCTETS, Draft, IkeSa, LONGEST_REPLY, RequestError, TICKET_ANSWER_OCTETS, data_of,
+    error_of, execute,
 };
 use sk_payload::Opened;
 use spend_once::Number;
@@ -21,20 +23,22 @@ use std::marker::Model;
 
 /// Room for all that the answer to any request writes: the response, and copies of the request's
 /// data and of the reply, which are noted.
+///
+/// Contracts see how many octets of inner payloads the response may have.
 #[derive(Drop)]
 pub struct AnswerRoom {
-    draft: Draft,
-    request: Octets,
-    reply: Octets,
+    pub(crate) draft: Draft,
+    pub(crate) request: Octets,
+    pub(crate) reply: Octets,
 }
 
 impl Model for AnswerRoom {
-    ghost use Rattle.std.specs.Prelude.{⊤};
+    ghost use Rattle.std.specs.Prelude.{ℕ};
     ghost use Rattle.request_exchange.specs.Rooms.{IsAnswerRoom};
 
-    ghost Value = { ⊤ };
+    ghost Value = { ℕ };
 
-    ghost view = { λ room. tt };
+    ghost view = { λ room. room.draft.room };
 
     ghost invariant = { λ room. IsAnswerRoom room.draft room.request room.reply };
 }
@@ -42,8 +46,24 @@ impl Model for AnswerRoom {
 impl AnswerRoom {
     /// Makes the room. An error is want of memory.
     pub fn new(alloc: Global) -> Result<AnswerRoom, Memory> {
+        AnswerRoom::of_size(alloc, ANSWER_OCTETS)
+    }
+
+    /// Makes the room for an answer in which a ticket is due. An error is want of memory.
+    pub fn with_ticket(alloc: Global) -> Result<AnswerRoom, Memory>
+        ensures { IfOk result (λ room. room ≡ TICKET_ANSWER_OCTETS) }
+    {
+        AnswerRoom::of_size(alloc, TICKET_ANSWER_OCTETS)
+    }
+
+    // Makes the room for a response with so many octets of inner payloads.
+    fn of_size(alloc: Global, octets: usize) -> Result<AnswerRoom, Memory>
+        requires from { ANSWER_OCTETS ≤ octets }
+        requires within { octets ≤ TICKET_ANSWER_OCTETS }
+        ensures { IfOk result (λ room. room ≡ octets) }
+    {
         Ok(AnswerRoom {
-            draft: Draft::new(alloc, ANSWER_OCTETS)?,
+            draft: Draft::new(alloc, octets)?,
             request: Octets::with_room(alloc, LONGEST_REQUEST)?,
             reply: Octets::with_room(alloc, LONGEST_REPLY)?,
         })
@@ -87,7 +107,7 @@ pub fn answer(
 }
 
 /// The service executes a new request, and what it did is noted in the lists, which have room.
-fn serve(
+pub(crate) fn serve(
     mut asked: Octets,
     mut replied: Octets,
     request: &Opened,

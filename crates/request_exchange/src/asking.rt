@@ -1,9 +1,11 @@
 ghost use Rattle.std.specs.Prelude.{◌≡◌, ◌+◌, ◌<◌, ◌≤◌, false, length, IfOk, None};
+ghost use Rattle.events.specs.declared.verdict.Verdict.TheVariants as out;
 ghost use Rattle.ha_base.specs.declared.services.TheConstants.{LONGEST_REQUEST};
+ghost use Rattle.ike_sas.specs.Held.{request_header};
 ghost use Rattle.ike_window.specs.Asking.{FitsBeside};
 ghost use Rattle.ike_window.specs.declared.TheConstants.{LAST_ID};
 ghost use Rattle.turn_rules.specs.IkeState.{kept_under, outstanding_after};
-ghost use Rattle.turn_rules.specs.Messages.{Resends, SendsRequest};
+ghost use Rattle.turn_rules.specs.Messages.{Resends, SendsMessage, SendsRequest};
 
 use crate::steps::{given_again, sent_step};
 use events::{Refusal, Step, Verdict};
@@ -59,7 +61,25 @@ pub fn ask(sa: &mut IkeSa, room: RequestRoom, id: u32, iv: Number) -> Step
       next = id + 1;
     } }
 {
-    let sent = sa.ask(room.draft, id, iv);
+    send_request(sa, room.draft, id, iv)
+}
+
+/// Sends the request of a draft in the same way, whatever it asks for.
+pub fn send_request(sa: &mut IkeSa, draft: Draft, id: u32, iv: Number) -> Step
+    requires named { iv.name ≡ sa.old.keys.sending.name }
+    requires fits { FitsBeside id sa.old.asked }
+    requires next { sa.old.next ≤ id }
+    requires below_the_end { id < LAST_ID }
+    ensures verdict { result.verdict ≡ out.Asked id }
+    ensures served { result.served ≡ None }
+    ensures sends { SendsMessage sa.old iv.value (request_header sa.old.keys id) draft.payloads
+        result }
+    ensures held { sa.new ≡ record sa.old {
+      asked = outstanding_after false (kept_under id result.gives) None sa.old.asked;
+      next = id + 1;
+    } }
+{
+    let sent = sa.ask(draft, id, iv);
     sent_step(Verdict::Asked(id), None, sent)
 }
 

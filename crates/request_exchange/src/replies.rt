@@ -1,5 +1,6 @@
 ghost use Rattle.std.specs.Prelude.{◌≡◌, IfOk, OnErr, IsOk};
 ghost use Rattle.ike_sas.specs.Held.{without_asked};
+ghost use Rattle.request_exchange.specs.TicketSteps.{TakesInnerKeeping};
 ghost use Rattle.turn_rules.specs.Messages.{TakesInner, reply_in};
 
 use events::{Kept, Step, Verdict};
@@ -35,6 +36,23 @@ pub fn take_reply(
     ensures held { IfOk result (λ _. sa.new ≡ without_asked response.now.header.id sa.old) }
     ensures err { OnErr result (sa.new ≡ sa.old) }
 {
+    take_reply_keeping(alloc, sa, name, response, Kept::Plain)
+}
+
+/// The same, where this is kept of the response besides the reply.
+pub fn take_reply_keeping(
+    alloc: Global,
+    sa: &mut IkeSa,
+    name: CounterName,
+    response: &Opened,
+    kept: Kept,
+) -> Result<Step, Memory>
+    requires good { IsOk response.now.inner }
+    ensures takes { IfOk result
+        (TakesInnerKeeping kept name response.now.header.id response.now.inner) }
+    ensures held { IfOk result (λ _. sa.new ≡ without_asked response.now.header.id sa.old) }
+    ensures err { OnErr result (sa.new ≡ sa.old) }
+{
     let Ok(payloads) = &response.inner else {
         unreachable!()
     };
@@ -45,7 +63,7 @@ pub fn take_reply(
         counter: name,
         id,
         reply,
-        kept: Kept::Plain,
+        kept,
         error: first_error(payloads.as_slice()),
     }))
 }
