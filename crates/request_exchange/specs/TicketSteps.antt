@@ -10,7 +10,7 @@ use Rattle.ike_sas.specs.Answers.{data_of}
 use Rattle.ike_sas.specs.Errors.{first_error}
 use Rattle.ike_sas.specs.Held.{IkeHeld, response_header}
 use Rattle.ike_sas.specs.Sending.{SendsIke}
-use Rattle.ike_sas.specs.TicketMessages.{payloads_with_ticket, ticket_seals}
+use Rattle.ike_sas.specs.TicketMessages.{IsShortTicket, payloads_with_ticket, ticket_seals}
 use Rattle.ike_sas.specs.declared.answers.TheConstants.{LONGEST_REPLY}
 use Rattle.ike_sas.specs.declared.draft.SentMessage.{SentMessage}
 use Rattle.ike_sas.specs.declared.ticket_messages.TicketAnswer.{TicketAnswer}
@@ -28,6 +28,7 @@ pub record ExecutesWithTicket (ticket : TicketAnswer) (held : IkeHeld) (iv : ℕ
   pub served : step.served ≡ Some executed
   pub asked : executed.request.octets ≡ data_of request.inner
   pub short : length executed.reply.octets ≤ LONGEST_REPLY
+  pub short_ticket : IsShortTicket ticket
   pub sent : SentMessage
   pub sends :
       SendsIke held.keys.sending iv (response_header held.keys request.header)
