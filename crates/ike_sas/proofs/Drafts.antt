@@ -8,7 +8,7 @@ use Rattle.ike_values.specs.Writing.{body_written, chain_written}
 use Rattle.sk_payload.specs.Framed.{Framed}
 use Rattle.sk_payload.specs.Message.{plain_of}
 
-chain_longer : (xs : List PayloadValue) (y : PayloadValue) →
+pub chain_longer : (xs : List PayloadValue) (y : PayloadValue) →
     length (chain_written (xs ++ y ∷ [])) ≡ length (chain_written xs) + 4 + length (body_written y)
 chain_longer [] y = omega (arith, length-append (body_written y) [])
 chain_longer (x ∷ xs) y = omega (

@@ -4,4 +4,5 @@ pub mod Drafts
 pub mod Errors
 pub mod Held
 pub mod Sending
+pub mod TicketLaws
 pub mod TicketMessages
