@@ -1,7 +1,7 @@
 -- What the ends do at an event is one by the rules, and they hold then what the turn makes of what they held.
-use Rattle.std.proofs.Common.{◌≡◌, ℕ, suc, true, false, Option, Some, None, Ok, List, [], get_or, refl, ap, sym, ◌∙◌, subst}
+use Rattle.std.proofs.Common.{◌≡◌, ℕ, suc, true, Option, Some, None, Ok, List, [], get_or, refl, ap, sym, ◌∙◌, subst}
 use Rattle.std.proofs.Math.ListN.{set}
-use Rattle.std.specs.Prelude.{MatchOption, is_none, is_some}
+use Rattle.std.specs.Prelude.{MatchOption, is_some}
 use Rattle.events.specs.declared.event.Event.{Event}
 use Rattle.events.specs.declared.event.Event.TheVariants as event
 use Rattle.events.specs.declared.event.Party.{Party}
@@ -76,23 +76,19 @@ stays-up : (at : Event) (verdict : Verdict) → asks_an_end at ≡ true → ende
 stays-up (event.Crash member) verdict asks = absurd (cc)
 stays-up at verdict asks = refl
 
--- who is at the place of a member that is up
-module _ (s : EndsHeld) (in_place : AreInPlace s) (member place : ℕ) (x : Option Holder) (is : IsMemberPlace member place s.members) (seat : x ≡ get_or s.members place x) where
-  pub not-gone : is_none (holder_of s.members member) ≡ false → x ≡ None → ⊥
-  not-gone up none = let never : true ≡ false = sym (ap is_none (seat_of (Some nobody) s.members member place x is seat ∙ none)) ∙ up in absurd (cc)
+-- a member that is up has its number, and holds what it is seen to hold
+module _ (s : EndsHeld) (in_place : AreInPlace s) (member place : ℕ) (x : Option Holder) (is : IsMemberPlace member place s.members) (seat : x ≡ get_or s.members place x) (was : Holder) (some : x ≡ Some was) where
+  its-seat : holder_of s.members (suc place) ≡ Some was
+  its-seat = ap (holder_of s.members) (sym (counted member place s.members is)) ∙ seat_of (Some nobody) s.members member place x is seat ∙ some
 
-  module _ (was : Holder) (some : x ≡ Some was) where
-    its-seat : holder_of s.members (suc place) ≡ Some was
-    its-seat = ap (holder_of s.members) (sym (counted member place s.members is)) ∙ seat_of (Some nobody) s.members member place x is seat ∙ some
+  pub its-member : IsMember (suc place) s.config was
+  its-member = in_place place was is.within its-seat
 
-    pub its-member : IsMember (suc place) s.config was
-    its-member = in_place place was is.within its-seat
+  pub its-number : was.number ≡ member
+  its-number = its-member.number_is ∙ sym (counted member place s.members is)
 
-    pub its-number : was.number ≡ member
-    its-number = its-member.number_is ∙ sym (counted member place s.members is)
-
-    pub its-state : member_at s.members was.number ≡ member_seen (Some was)
-    its-state = ap (member_at s.members) its-number ∙ ap member_seen (seat_of None s.members member place x is seat ∙ some)
+  pub its-state : member_at s.members was.number ≡ member_seen (Some was)
+  its-state = ap (member_at s.members) its-number ∙ ap member_seen (seat_of None s.members member place x is seat ∙ some)
 
 module _ (past : List Turn) (s : EndsHeld) (in_place : AreInPlace s) (at : Event) (asks : asks_an_end at ≡ true) (calls : List Call) (step : Step) (moment : Moment) where
   -- a member does its part, and the others stay

@@ -22,8 +22,6 @@ use Rattle.events.specs.declared.turn.Step.{Step}
 use Rattle.events.specs.declared.verdict.Refusal.{Refusal}
 use Rattle.events.specs.declared.verdict.Refusal.TheVariants as refusal
 use Rattle.ha_base.specs.Octets.{WithRoom}
-use Rattle.ha_base.specs.declared.identities.Identity.{Identity}
-use Rattle.replay_set.specs.Window.{IsWindowSize}
 use Rattle.turn_rules.specs.Datagrams.{PlainDatagram, altered, arrives, changed, cut, datagram_at, plain_datagram}
 use Rattle.turn_rules.specs.Packets.{Outbound, SendsEsp}
 use Rattle.run_ends.specs.Parties.{IsShort}
@@ -36,9 +34,6 @@ fits_ask from spir request fits = fits.ranges.1.1.0.most_size
 
 pub fits_inject : (to : Party) (medium : Medium) (octets : WithRoom) → Fits (plain (event.Inject to medium octets)) → length octets.octets ≤ 2048
 fits_inject to medium octets fits = fits.ranges.1.1.0.most_size
-
-pub fits_cluster : (identity : Identity) (lifetime window : ℕ) (ticket_key : List ℕ) → Fits (plain (event.Cluster identity lifetime window ticket_key)) → IsWindowSize window
-fits_cluster identity lifetime window ticket_key fits = fits.ranges.1.1.0
 
 -- what stands in a list of short datagrams is short
 short_at : (datagrams : List PlainDatagram) (place : ℕ) (datagram : PlainDatagram) → AllByRecursion IsShort datagrams → slice_get datagrams place ≡ Some datagram → IsShort datagram

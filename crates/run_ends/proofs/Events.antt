@@ -142,17 +142,22 @@ module _ (datagrams : List PlainDatagram) (was now : PeerWithRoom) (step : Step)
   }
 
   -- an association is entered, or not
-  pub not_entered : (sa : Record) (why : Refusal) → now.window ≡ was.window → now.held ≡ was.held → Says (out.Refused why) step → IsPeerAfter (task.Enter sa) step was now
-  not_entered sa why window held says = record {
-    window = window;
-    holds = λ moment. held ∙ ap (λ slots. record was.held { slots = slots }) (not_entered-after was.window sa step was.held.slots why says.said says.quiet.seals);
+  pub not_entered : (sa : Record) (why : Refusal) → now ≡ record was { spare = now.spare } → Says (out.Refused why) step → IsPeerAfter (task.Enter sa) step was now
+  not_entered sa why same says = record {
+    window = ap (λ (p : PeerWithRoom). p.window) same;
+    holds = λ moment. ap (λ (p : PeerWithRoom). p.held) same ∙ ap (λ slots. record was.held { slots = slots }) (not_entered-after was.window sa step was.held.slots why says.said says.quiet.seals);
   }
 
-  pub entered : (sa : Record) → now.window ≡ was.window → now.held ≡ record was.held { slots = was.held.slots ++ entered_slot was.window sa ∷ [] } → Says out.Entered step → IsPeerAfter (task.Enter sa) step was now
-  entered sa window held says = record {
-    window = window;
-    holds = λ moment. held ∙ ap (λ slots. record was.held { slots = slots }) (entered-after was.window sa step was.held.slots says.said says.quiet.seals);
-  }
+  abbrev with_entry : Record → PeerWithRoom → PeerWithRoom
+  with_entry sa peer = record peer { held = record peer.held { slots = peer.held.slots ++ entered_slot peer.window sa ∷ [] }; spare = now.spare }
+
+  pub entered : (sa : Record) (roomy : PeerWithRoom) → roomy ≡ record was { spare = roomy.spare } → now ≡ with_entry sa roomy → Says out.Entered step → IsPeerAfter (task.Enter sa) step was now
+  entered sa roomy same grown says =
+      let is : now ≡ with_entry sa was = grown ∙ ap (with_entry sa) same in
+      record {
+        window = ap (λ (p : PeerWithRoom). p.window) is;
+        holds = λ moment. ap (λ (p : PeerWithRoom). p.held) is ∙ ap (λ slots. record was.held { slots = slots }) (entered-after was.window sa step was.held.slots says.said says.quiet.seals);
+      }
 
   pub peer_sends : (from : Party) (spir : ℕ) (payload : WithRoom) → member_of from ≡ None → length payload.octets ≤ PAYLOAD_OCTETS → PeerSends spir was.held.slots payload.octets step → IsPeerAfter (task.Send spir payload.octets) step was now → PeerActs datagrams (event.Send from spir payload) [] step was now
   peer_sends from spir payload named size does after = subst (λ party. PeerActs datagrams (event.Send party spir payload) [] step was now) (peers-party from named) (record {

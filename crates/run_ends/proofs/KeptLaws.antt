@@ -1,8 +1,7 @@
 -- After an event the ends hold what the turns make of it, and each turn is explained.
-use Rattle.std.proofs.Common.{◌≡◌, ℕ, zero, suc, ◌≤◌, true, false, arith, Option, List, [], ◌∷◌, ◌++◌, length, refl, ap, sym, ◌∙◌, subst}
-use Rattle.std.proofs.lemmas.Bool.{lt-ltb}
+use Rattle.std.proofs.Common.{◌≡◌, ℕ, zero, suc, ◌≤◌, false, arith, List, [], ◌∷◌, ◌++◌, length, refl, ap, sym, ◌∙◌, subst}
 use Rattle.std.specs.List.{AllByRecursion}
-use Rattle.std.specs.Prelude.{is_none, nat_lt}
+use Rattle.std.specs.Prelude.{is_none}
 use Rattle.events.specs.Events.{plain}
 use Rattle.events.specs.Ranges.{Fits}
 use Rattle.events.specs.declared.turn.Turn.{Turn}
@@ -12,8 +11,7 @@ use Rattle.turn_rules.specs.Datagrams.{PlainDatagram}
 use Rattle.turn_rules.specs.Fits.{Does}
 use Rattle.turn_rules.specs.Local.{AreShown, IsExplained, Local}
 use Rattle.turn_rules.specs.PeerStates.{peer_begun}
-use Rattle.turn_rules.specs.States.{RunState, has_turns, no_member, state_after, state_by}
-use Rattle.cluster_member.specs.Members.{Holder}
+use Rattle.turn_rules.specs.States.{RunState, no_member, state_after, state_by}
 use Rattle.run_ends.proofs.Performing.{does-few}
 use Rattle.run_ends.proofs.ShortKept.{StateKeepsShort, state-short}
 use Rattle.run_ends.specs.Parties.{AreKept, EndsHeld, IsShort, Plays, holder_of, member_at, state_of}
@@ -21,15 +19,6 @@ use Rattle.run_ends.specs.Parties.{AreKept, EndsHeld, IsShort, Plays, holder_of,
 all-append : (xs ys : List PlainDatagram) → AllByRecursion IsShort xs → AllByRecursion IsShort ys → AllByRecursion IsShort (xs ++ ys)
 all-append [] ys a b = b
 all-append (x ∷ xs) ys a b = (a.0, all-append xs ys a.1 b)
-
--- before the first turn there are no associations and no members
-pub nothing-first : (past : List Turn) (s : EndsHeld) → AreKept past s → past ≡ [] → (s.peer.slots ≡ []) × (s.members ≡ [])
-nothing-first [] s k e = (ap (λ (x : RunState). x.peer.slots) k.state, no_members s.members (ap (λ (x : RunState). x.joined) k.state))
-  where
-    no_members : (members : List (Option Holder)) → length members ≡ 0 → members ≡ []
-    no_members [] e = refl
-    no_members (x ∷ xs) e = absurd (cc)
-nothing-first (turn ∷ past) s k e = absurd (cc)
 
 -- so it is before the first turn
 first-gone : (k : ℕ) → is_none (holder_of [] k) ≡ false
@@ -56,21 +45,6 @@ kept-at_first boxes = record {
   short = tt;
   local = tt;
 }
-
--- no turns are none
-pub none-played : (past : List Turn) (turns : ℕ) → turns ≡ length past → nat_lt 0 turns ≡ false → past ≡ []
-none-played [] turns count none = refl
-none-played (turn ∷ past) turns count none =
-    let more : turns ≡ suc (length past) = count in
-    let both : true ≡ false = sym (lt-ltb 0 turns (omega (arith, more))) ∙ none in
-    absurd (cc)
-
--- and some are some
-pub some-played : (past : List Turn) (turns : ℕ) → turns ≡ length past → nat_lt 0 turns ≡ true → has_turns past ≡ true
-some-played [] turns count some =
-    let none : nat_lt 0 0 ≡ true = subst (λ n. nat_lt 0 n ≡ true) count some in
-    absurd (cc)
-some-played (turn ∷ past) turns count some = refl
 
 module _ (past : List Turn) (turn : Turn) (s new : EndsHeld) (k : AreKept past s) (fits : Fits (plain turn.event)) (shown : AreShown turn.calls) (answers : AreAnswers turn.calls) (p : Plays past s turn.moment turn.event turn.calls turn.step new) where
   keeps : StateKeepsShort (state_of past s)

@@ -2,7 +2,7 @@
 use Rattle.std.proofs.Common.{◌≡◌, ℕ, zero, suc, ◌-◌, ◌<◌, ◌≤◌, ◌==◌, Bool, true, false, Option, Some, None, List, [], ◌∷◌, ◌++◌, length, get_or, ⊎_elim, refl, ap, sym, ◌∙◌, arith, subst}
 use Rattle.std.proofs.Math.ListN.{set}
 use Rattle.std.proofs.lemmas.Bool.{and_parts, cases_lt, eqb-false, eqb-true, ltb-true}
-use Rattle.std.proofs.lemmas.List.{get_or_append_left, get_or_at, get_or_default, get_or_past, get_or-set_same, get_or-set_other, length-append, length-set, set-get_or}
+use Rattle.std.proofs.lemmas.List.{get_or_append_left, get_or_at, get_or_default, get_or_past, get_or-set_same, get_or-set_other, length-append, length-set}
 use Rattle.std.proofs.lemmas.Option.{same_Some}
 use Rattle.std.specs.Prelude.{is_none, nat_le, nat_lt}
 use Rattle.turn_rules.specs.States.{member_unless}
@@ -19,10 +19,6 @@ counted member place members is =
 -- who is at the place of a member, whoever stands for nobody
 pub seat_of : (none : Option Holder) (members : List (Option Holder)) (member place : ℕ) (x : Option Holder) → IsMemberPlace member place members → x ≡ get_or members place x → seat_or none members member ≡ x
 seat_of none members member place x is at = ap (seat_or none members) (counted member place members is) ∙ get_or_default members place none x is.within ∙ sym at
-
--- a place whose member is put back
-pub put_back : (members : List (Option Holder)) (place : ℕ) (x : Option Holder) → x ≡ get_or members place x → set members place x ≡ members
-put_back members place x at = ap (set members place) at ∙ set-get_or members place x
 
 -- nobody holds anything where nobody is
 pub unless-seen : (members : List (Option Holder)) (k : ℕ) → member_at members k ≡ member_unless (is_none (holder_of members k)) (member_at members k)
