@@ -51,7 +51,7 @@ pub record LotReady (pool : Pool) (lot : Remaining) (calls : List Call)
     (stops : KeeperFault → List Call → Type 0)
     (goes : ℕ → Remaining → List Call → Type 0) : Type 0 where
   pub left : lot.next < lot.end → goes lot.next (drawn_once lot) calls
-  pub none_left : lot.next ≡ lot.end → Leases pool lot calls stops goes
+  pub none_left : lot.end ≤ lot.next → Leases pool lot calls stops goes
 
 -- nothing more was asked, the answer is this one, and the lot is so
 pub record LeavesLot (calls : List Call) (result value : Result Drawn KeeperFault)

@@ -92,24 +92,24 @@ module _ (s : EndsHeld) (in_place : AreInPlace s) (member place : ℕ) (x : Opti
 
 module _ (past : List Turn) (s : EndsHeld) (in_place : AreInPlace s) (at : Event) (asks : asks_an_end at ≡ true) (calls : List Call) (step : Step) (moment : Moment) where
   -- a member does its part, and the others stay
-  pub member-plays : (member place : ℕ) → named_in at ≡ Some member → (x : Option Holder) → IsMemberPlace member place s.members → x ≡ get_or s.members place x → (was now : Holder) → x ≡ Some was → MemberActs (datagrams_of past) at calls step was now
+  pub member-plays : (member place : ℕ) → named_in at ≡ Some member → (x : Option Holder) → IsMemberPlace member place s.members → x ≡ get_or s.members place x → (was now : Holder) → x ≡ Some was → MemberActs (datagrams_of past) moment at calls step was now
       → Acts past s moment at calls step (record s { members = set s.members place (Some now) })
   member-plays member place named x is seat was now some acts =
       let mine = its-member s in_place member place x is seat was some in
       let by : named_in at ≡ Some (suc place) = named ∙ ap Some (counted member place s.members is) in
       record {
-        performs = acts.performs (state_of past s) moment (its-state s in_place member place x is seat was some) refl;
+        performs = acts.performs (state_of past s) (its-state s in_place member place x is seat was some) refl;
         holds = member-holds past s moment at calls step place is.within (record { by = λ v. by-named at v asks ∙ ap (λ m. Some (named_end m)) by; no_config = λ v. unset at v asks })
             acts.own.said (stays-up at step.verdict asks) was now (its-seat s in_place member place x is seat was some) mine.config_is acts.after;
         in_place = acted-in_place s place now is.within in_place (record { number_is = acts.after.number ∙ mine.number_is; config_is = acts.after.config ∙ mine.config_is });
       }
 
   -- and the peer does
-  pub peer-plays : named_in at ≡ None → (was now : PeerWithRoom) → was.held ≡ s.peer → was.window ≡ s.config.window → PeerActs (datagrams_of past) at calls step was now → Acts past s moment at calls step (record s { peer = now.held })
+  pub peer-plays : named_in at ≡ None → (was now : PeerWithRoom) → was.held ≡ s.peer → was.window ≡ s.config.window → PeerActs (datagrams_of past) moment at calls step was now → Acts past s moment at calls step (record s { peer = now.held })
   peer-plays named was now held window acts = record {
-    performs = acts.performs (state_of past s) moment (sym held) refl;
+    performs = acts.performs (state_of past s) (sym held) refl;
     holds = peer-holds past s moment at calls step now.held acts.own.said (by-named at step.verdict asks ∙ ap (λ m. Some (named_end m)) named) (stays-up at step.verdict asks) (unset at step.verdict asks)
-        (acts.after.holds moment ∙ ap (λ w. peer_after w moment (peer_task at) step was.held) window ∙ ap (peer_after s.config.window moment (peer_task at) step) held);
+        (acts.after.holds ∙ ap (λ w. peer_after w moment (peer_task at) step was.held) window ∙ ap (peer_after s.config.window moment (peer_task at) step) held);
     in_place = in_place;
   }
 

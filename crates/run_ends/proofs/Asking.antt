@@ -21,63 +21,63 @@ use Rattle.turn_rules.specs.PeerMessages.{PeerAsks, PeerResends, SlotAsks, SlotS
 use Rattle.turn_rules.specs.Slots.{Slot, first_slot, has_spir}
 use Rattle.turn_rules.specs.Steps.{Says}
 use Rattle.turn_rules.proofs.KeySizes.{sized_sk_ei, sized_sk_er}
-use Rattle.run_ends.proofs.MessageBounds.{request-few, sends_message-brief}
+use Rattle.run_ends.proofs.MessageBounds.{payloads-few, sends_message-brief}
 use Rattle.run_ends.proofs.Messages.{again-brief, first-short, readies-fold, says-proper}
 use Rattle.run_ends.proofs.ShortKept.{AreShort, HeldKeepsShort, KeepsShort, SlotsKeepShort, kept-short}
 use Rattle.run_ends.proofs.Verdicts.{IsProper, none-few, of-refusal, of-verdict}
 use Rattle.run_ends.specs.Acting.{IsOfEnd}
 
-module _ (held : IkeHeld) (sized : (length held.keys.sending.octets ≡ 20) ⊎ (length held.keys.sending.octets ≡ 36)) (id iv : ℕ) (request : List ℕ) (size : length request ≤ 256) (calls : List Call) (step : Step) (few : length calls ≤ 2) where
-  sends_request-proper : SendsRequest held id iv request step → IsProper calls step
+module _ (held : IkeHeld) (sized : (length held.keys.sending.octets ≡ 20) ⊎ (length held.keys.sending.octets ≡ 36)) (id iv : ℕ) (payloads : List PayloadValue) (size : length (chain_written payloads) ≤ 264) (calls : List Call) (step : Step) (few : length calls ≤ 3) where
+  sends_request-proper : SendsRequest held id iv payloads step → IsProper calls step
   sends_request-proper s = record {
     few = few;
     said = of-verdict step.verdict (out.Asked id) (record { no_join = refl; heard = refl }) s.said;
-    brief = sends_message-brief held iv (request_header held.keys id) (request_payloads request) step sized (request-few request size) s.sends;
+    brief = sends_message-brief held iv (request_header held.keys id) payloads step sized (omega (arith, size)) s.sends;
     alone = s.served;
   }
 
-module _ (slot : Slot) (request : List ℕ) (step : Step) (size : length request ≤ 256) where
+module _ (slot : Slot) (payloads : List PayloadValue) (step : Step) (size : length (chain_written payloads) ≤ 264) where
   exhausted : Says (out.Refused refusal.Exhausted) step → IsProper [] step
   exhausted says = says-proper [] step refusal.Exhausted refl (omega arith) says
 
-  slot_sends : SlotSendsRequest slot request step → IsProper [] step
+  slot_sends : SlotSendsRequest slot payloads step → IsProper [] step
   slot_sends s = ⊎_elim
       (λ below. ⊎_elim
-      (λ under. sends_request-proper (slot_ike slot) (sized_sk_ei slot.sa.size slot.sa.keys slot.sa.child slot.sa.key_lengths) slot.ask slot.iv request size [] step (omega arith) (s.within below under))
+      (λ under. sends_request-proper (slot_ike slot) (sized_sk_ei slot.sa.size slot.sa.keys slot.sa.child slot.sa.key_lengths) slot.ask slot.iv payloads size [] step (omega arith) (s.within below under))
       (λ over. exhausted (s.ended (inr over)))
       (cases_lt slot.iv (end_of slot.sa counter.Iv)))
       (λ above. exhausted (s.ended (inl above)))
       (cases_lt slot.ask (end_of slot.sa counter.Ask))
 
-  slot_asks : SlotAsks slot request step → IsProper [] step
+  slot_asks : SlotAsks slot payloads step → IsProper [] step
   slot_asks w = ⊎_elim (λ fits. slot_sends fits.1) (λ full. says-proper [] step (refusal.WindowFull full.0) refl (omega arith) full.3) w
 
-pub peer_asks-proper : (spir : ℕ) (slots : List Slot) (request : List ℕ) (step : Step) → length request ≤ 256 → PeerAsks spir slots request step → IsProper [] step
-peer_asks-proper spir slots request step size asks = go (first_slot (has_spir spir) slots) asks
+pub peer_asks-proper : (spir : ℕ) (slots : List Slot) (payloads : List PayloadValue) (step : Step) → length (chain_written payloads) ≤ 264 → PeerAsks spir slots payloads step → IsProper [] step
+peer_asks-proper spir slots payloads step size asks = go (first_slot (has_spir spir) slots) asks
   where
-    go : (x : Option Slot) → MatchOption x (Says (out.Refused refusal.Unknown) step) (λ slot. SlotAsks slot request step) → IsProper [] step
+    go : (x : Option Slot) → MatchOption x (Says (out.Refused refusal.Unknown) step) (λ slot. SlotAsks slot payloads step) → IsProper [] step
     go None says = says-proper [] step refusal.Unknown refl (omega arith) says
-    go (Some slot) w = slot_asks slot request step size w
+    go (Some slot) w = slot_asks slot payloads step size w
 
-module _ (held : Held) (request : List ℕ) (calls : List Call) (step : Step) (size : length request ≤ 256) where
-  held_sends : HeldSendsRequest held request calls step → IsProper calls step
-  held_sends s = readies-fold held counter.Ask (five_at held.nexts counter.Ask) calls step (SendsRequest (held_ike held) (five_at held.nexts counter.Ask) (five_at held.nexts counter.Iv) request step)
+module _ (held : Held) (payloads : List PayloadValue) (calls : List Call) (step : Step) (size : length (chain_written payloads) ≤ 264) where
+  held_sends : HeldSendsRequest held payloads calls step → IsProper calls step
+  held_sends s = readies-fold held counter.Ask (five_at held.nexts counter.Ask) calls step (SendsRequest (held_ike held) (five_at held.nexts counter.Ask) (five_at held.nexts counter.Iv) payloads step)
       (λ why few says. says-proper calls step (refusal_of_stop why) (stop-own why) few says)
-      (λ few. sends_request-proper (held_ike held) (sized_sk_er held.sa.size held.sa.keys held.sa.child held.sa.key_lengths) (five_at held.nexts counter.Ask) (five_at held.nexts counter.Iv) request size calls step few)
+      (λ few. sends_request-proper (held_ike held) (sized_sk_er held.sa.size held.sa.keys held.sa.child held.sa.key_lengths) (five_at held.nexts counter.Ask) (five_at held.nexts counter.Iv) payloads size calls step few)
       s
 
   abbrev FitsWindow : Type 0
-  FitsWindow = Windowed (held_ike held) (five_at held.nexts counter.Ask) (λ least. RefusesThen (refusal.WindowFull least) calls step) (HeldSendsRequest held request calls step)
+  FitsWindow = Windowed (held_ike held) (five_at held.nexts counter.Ask) (λ least. RefusesThen (refusal.WindowFull least) calls step) (HeldSendsRequest held payloads calls step)
 
   held_asks : (b : Bool) → MatchBool b FitsWindow (RefusesThen refusal.NotSynced calls step) → IsProper calls step
   held_asks true w = ⊎_elim (λ fits. held_sends fits.1) (λ full. says-proper calls step (refusal.WindowFull full.0) refl (none-few calls full.3.0) full.3.1) w
   held_asks false r = says-proper calls step refusal.NotSynced refl (none-few calls r.0) r.1
 
-pub asks-proper : (held : Option Held) (request : List ℕ) (calls : List Call) (step : Step) → length request ≤ 256 → AsksOf held request calls step → IsProper calls step
-asks-proper None request calls step size r = says-proper calls step refusal.NotOwner refl (none-few calls r.0) r.1
-asks-proper (Some held) request calls step size asks = held_asks held request calls step size held.synced asks
+pub asks-proper : (held : Option Held) (payloads : List PayloadValue) (calls : List Call) (step : Step) → length (chain_written payloads) ≤ 264 → AsksOf held payloads calls step → IsProper calls step
+asks-proper None payloads calls step size r = says-proper calls step refusal.NotOwner refl (none-few calls r.0) r.1
+asks-proper (Some held) payloads calls step size asks = held_asks held payloads calls step size held.synced asks
 
--- a request that is sent again: what is kept is given, and nothing is sealed
+-- a payloads that is sent again: what is kept is given, and nothing is sealed
 module _ (held : IkeHeld) (id : ℕ) (step : Step) where
   resends-said : Resends id held step → IsOfEnd step.verdict
   resends-said r = go (kept_octets id held.asked) r
@@ -132,3 +132,11 @@ resends_of-alone (Some held) id calls step r = resends-alone (held_ike held) id 
 pub resends_of-proper : (held : Option Held) (id : ℕ) (calls : List Call) (step : Step) → HeldKeepsShort held → ResendsOf held id calls step → IsProper calls step
 resends_of-proper None id calls step short r = says-proper calls step refusal.NotOwner refl (none-few calls r.0) r.1
 resends_of-proper (Some held) id calls step short r = let p = resends-proper (held_ike held) id step short.of_asked r.1 in record { few = none-few calls r.0; said = p.said; brief = p.brief; alone = p.alone }
+
+-- an association that the peer closes
+pub peer_forgets-proper : (spir : ℕ) (slots : List Slot) (step : Step) → PeerForgets spir slots step → IsProper [] step
+peer_forgets-proper spir slots step f = go (first_slot (has_spir spir) slots) f
+  where
+    go : (x : Option Slot) → MatchOption x (Says (out.Refused refusal.Unknown) step) (λ slot. Says out.Forgotten step) → IsProper [] step
+    go None says = says-proper [] step refusal.Unknown refl (omega arith) says
+    go (Some slot) says = quiet-proper [] step (omega arith) (of-verdict step.verdict out.Forgotten (record { no_join = refl; heard = refl }) says.said) says.quiet

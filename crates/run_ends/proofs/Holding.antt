@@ -22,7 +22,10 @@ use Rattle.turn_rules.specs.Held.{Held, after_number, first_some, held_after, he
 use Rattle.turn_rules.specs.Peers.{entered_at_task}
 use Rattle.turn_rules.specs.PeerStates.{PeerHeld, peer_after, peer_configured}
 use Rattle.turn_rules.specs.Slots.{Slot, entered_slot, slot_after, slots_after}
-use Rattle.turn_rules.specs.States.{MemberHeld, ended_by, ends, is_join, is_number, joined_after, member_after, member_unless, no_member, state_after}
+use Rattle.turn_rules.specs.MemberStates.{MemberHeld, member_after, member_unless, no_member}
+use Rattle.turn_rules.specs.States.{ended_by, ends, is_join, is_number, joined_after, state_after}
+use Rattle.turn_rules.specs.TicketNumbers.{after_lease, after_ticket, lease_in, no_ticket_numbers, numbers_after, ticket_number}
+use Rattle.spend_once.specs.Lot.{Remaining}
 use Rattle.turn_rules.specs.Tasks as task
 use Rattle.turn_rules.specs.Tasks.{member_task, peer_task}
 use Rattle.cluster_member.specs.Members.{Holder, IsAfter}
@@ -181,6 +184,7 @@ module _ (past : List Turn) (old : EndsHeld) (moment : Moment) (at : Event) (cal
   now-seen i = record {
     given = given i;
     held = λ spir. (after.holds spir ∙ ap (λ (c : Configuration). held_after c.window spir (member_task at) calls step (held_at was.held spir)) config) i;
+    numbers = after.numbers i;
   }
 
   member-same : (k : ℕ) (b : Bool) → (k == suc place) ≡ b → member_at acted k ≡ member_unless (is_none (holder_of old.members k)) (if b then acts past old moment at calls step k else member_at old.members k)
@@ -206,9 +210,17 @@ idle-held size spir calls step x none unsealed = subst (λ cs. held_after size s
     go None = refl
     go (Some held) = ap (λ seals. Some (record held { nexts = record held.nexts { iv = after_number (iv_in end.Cluster spir seals) held.nexts.iv } })) unsealed
 
-either-member : (b : Bool) (config : Configuration) (moment : Moment) (calls : List Call) (step : Step) (m : MemberHeld) → calls ≡ [] → step.seals ≡ [] → (if b then member_after config moment None task.Nothing calls step m else m) ≡ m
-either-member true config moment calls step m none unsealed = λ i. record { given = m.given; held = λ spir. idle-held config.window spir calls step (m.held spir) none unsealed i }
-either-member false config moment calls step m none unsealed = refl
+idle-numbers : (calls : List Call) (step : Step) (numbers : Remaining) → calls ≡ [] → ticket_number step.verdict ≡ None → numbers_after calls step numbers ≡ numbers
+idle-numbers calls step numbers none untold =
+    ap (λ cs. after_ticket (ticket_number step.verdict) (after_lease (lease_in cs) numbers)) none ∙ ap (λ n. after_ticket n numbers) untold
+
+either-member : (b : Bool) (config : Configuration) (moment : Moment) (calls : List Call) (step : Step) (m : MemberHeld) → calls ≡ [] → step.seals ≡ [] → ticket_number step.verdict ≡ None → (if b then member_after config moment None task.Nothing calls step m else m) ≡ m
+either-member true config moment calls step m none unsealed untold = λ i. record {
+  given = m.given;
+  held = λ spir. idle-held config.window spir calls step (m.held spir) none unsealed i;
+  numbers = idle-numbers calls step m.numbers none untold i;
+}
+either-member false config moment calls step m none unsealed untold = refl
 
 -- nobody is in the place of a member that ended
 module _ (past : List Turn) (old : EndsHeld) (moment : Moment) (calls : List Call) (step : Step) (place : ℕ) (within : place < length old.members) (none : calls ≡ []) (said : step.verdict ≡ out.Down) (unsealed : step.seals ≡ []) where
@@ -236,10 +248,10 @@ module _ (past : List Turn) (old : EndsHeld) (moment : Moment) (calls : List Cal
       (λ k.
       crash-member k (k == suc place) refl
       ∙ ap (λ b. member_unless (b || is_none (holder_of old.members k)) (member_at old.members k)) (sym (is_ended k (k == suc place) refl))
-      ∙ ap (member_unless (ends k crash step.verdict || is_none (holder_of old.members k))) (sym (either-member (k == suc place) old.config moment calls step (member_at old.members k) none unsealed)))
+      ∙ ap (member_unless (ends k crash step.verdict || is_none (holder_of old.members k))) (sym (either-member (k == suc place) old.config moment calls step (member_at old.members k) none unsealed (ap ticket_number said))))
 
 -- a member that joined is the newest, and holds nothing
-module _ (past : List Turn) (old : EndsHeld) (moment : Moment) (fresh : List ℕ) (calls : List Call) (step : Step) (x : Holder) (empty : x.held ≡ []) (given : given_to x ≡ membership old.config fresh)
+module _ (past : List Turn) (old : EndsHeld) (moment : Moment) (fresh : List ℕ) (calls : List Call) (step : Step) (x : Holder) (empty : x.held ≡ []) (new : x.numbers ≡ no_ticket_numbers) (given : given_to x ≡ membership old.config fresh)
     (none : calls ≡ []) (number : ℕ) (last : number ≡ suc (length old.members)) (said : step.verdict ≡ out.Member number) (unsealed : step.seals ≡ []) where
   abbrev join : Event
   join = event.Join fresh
@@ -261,6 +273,7 @@ module _ (past : List Turn) (old : EndsHeld) (moment : Moment) (fresh : List ℕ
   new-seen i = record {
     given = ap Some given i;
     held = λ spir. (ap (λ hs. held_at hs spir) empty ∙ sym (idle-held old.config.window spir calls step None none unsealed)) i;
+    numbers = (new ∙ sym (idle-numbers calls step no_ticket_numbers none (ap ticket_number said))) i;
   }
 
   free : is_none (holder_of old.members (suc (length old.members))) ≡ false
@@ -296,23 +309,23 @@ module _ (past : List Turn) (old : EndsHeld) (moment : Moment) (fresh : List ℕ
   }
 
 -- an association that was entered is the peer's newest
-entered-slot : (sa : Record) (step : Step) (slot : Slot) → step.seals ≡ [] → slot_after (task.Enter sa) step slot ≡ slot
-entered-slot sa step slot unsealed = ap (λ seals. record slot { iv = after_number (iv_in end.Peer slot.sa.spir seals) slot.iv }) unsealed
+entered-slot : (now : Moment) (sa : Record) (step : Step) (slot : Slot) → step.seals ≡ [] → slot_after now (task.Enter sa) step slot ≡ slot
+entered-slot now sa step slot unsealed = ap (λ seals. record slot { iv = after_number (iv_in end.Peer slot.sa.spir seals) slot.iv }) unsealed
 
-entered-slots : (sa : Record) (step : Step) (slots : List Slot) → step.seals ≡ [] → map (slot_after (task.Enter sa) step) slots ≡ slots
-entered-slots sa step [] unsealed = refl
-entered-slots sa step (slot ∷ slots) unsealed = ap₂ (λ first rest. first ∷ rest) (entered-slot sa step slot unsealed) (entered-slots sa step slots unsealed)
+entered-slots : (now : Moment) (sa : Record) (step : Step) (slots : List Slot) → step.seals ≡ [] → map (slot_after now (task.Enter sa) step) slots ≡ slots
+entered-slots now sa step [] unsealed = refl
+entered-slots now sa step (slot ∷ slots) unsealed = ap₂ (λ first rest. first ∷ rest) (entered-slot now sa step slot unsealed) (entered-slots now sa step slots unsealed)
 
-abbrev with_entry : ℕ → Record → Step → List Slot → Verdict → List Slot
-with_entry size sa step slots verdict = map (slot_after (task.Enter sa) step) slots ++ option_to_list (option_map (entered_slot size) (entered_at_task (task.Enter sa) verdict))
+abbrev with_entry : ℕ → Moment → Record → Step → List Slot → Verdict → List Slot
+with_entry size now sa step slots verdict = map (slot_after now (task.Enter sa) step) slots ++ option_to_list (option_map (entered_slot size) (entered_at_task (task.Enter sa) verdict))
 
-pub entered-after : (size : ℕ) (sa : Record) (step : Step) (slots : List Slot) → step.verdict ≡ out.Entered → step.seals ≡ [] → slots ++ entered_slot size sa ∷ [] ≡ slots_after size (task.Enter sa) step slots
-entered-after size sa step slots said unsealed =
-    ap (λ old. old ++ entered_slot size sa ∷ []) (sym (entered-slots sa step slots unsealed)) ∙ ap (with_entry size sa step slots) (sym said)
+pub entered-after : (size : ℕ) (now : Moment) (sa : Record) (step : Step) (slots : List Slot) → step.verdict ≡ out.Entered → step.seals ≡ [] → slots ++ entered_slot size sa ∷ [] ≡ slots_after size now (task.Enter sa) step slots
+entered-after size now sa step slots said unsealed =
+    ap (λ old. old ++ entered_slot size sa ∷ []) (sym (entered-slots now sa step slots unsealed)) ∙ ap (with_entry size now sa step slots) (sym said)
 
-pub not_entered-after : (size : ℕ) (sa : Record) (step : Step) (slots : List Slot) (why : Refusal) → step.verdict ≡ out.Refused why → step.seals ≡ [] → slots ≡ slots_after size (task.Enter sa) step slots
-not_entered-after size sa step slots why said unsealed =
-    sym (append-nil (map (slot_after (task.Enter sa) step) slots) ∙ entered-slots sa step slots unsealed) ∙ ap (with_entry size sa step slots) (sym said)
+pub not_entered-after : (size : ℕ) (now : Moment) (sa : Record) (step : Step) (slots : List Slot) (why : Refusal) → step.verdict ≡ out.Refused why → step.seals ≡ [] → slots ≡ slots_after size now (task.Enter sa) step slots
+not_entered-after size now sa step slots why said unsealed =
+    sym (append-nil (map (slot_after now (task.Enter sa) step) slots) ∙ entered-slots now sa step slots unsealed) ∙ ap (with_entry size now sa step slots) (sym said)
 
 -- the cluster was configured before anything else
 pub configured-holds : (past : List Turn) (old : EndsHeld) (moment : Moment) (config : Configuration) (ticket_key : List ℕ) → config.ticket_key ≡ first_ticket_key ticket_key → (calls : List Call) (step : Step) → step.verdict ≡ out.Configured

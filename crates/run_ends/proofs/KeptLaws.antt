@@ -50,7 +50,7 @@ module _ (past : List Turn) (turn : Turn) (s new : EndsHeld) (k : AreKept past s
   keeps : StateKeepsShort (state_of past s)
   keeps = subst StateKeepsShort (sym k.state) (state-short s.boxes past k.short)
 
-  pub few : length turn.calls ≤ 2
+  pub few : length turn.calls ≤ 3
   few = (does-few (state_of past s) keeps turn.moment turn.calls turn.step turn.event fits p.does).0
 
   pub boxes-stay : new.boxes ≡ s.boxes

@@ -48,8 +48,8 @@ message_length key sized iv header payloads octets d =
     )
 
 -- a message is sent with few inner payloads
-pub sends_message-brief : (held : IkeHeld) (iv : ℕ) (header : Header) (payloads : List PayloadValue) (step : Step) → (length held.keys.sending.octets ≡ 20) ⊎ (length held.keys.sending.octets ≡ 36) → length (chain_written payloads) ≤ 264
-    → SendsMessage held iv header payloads step → IsBrief step
+pub sends_message-brief : {before : List Seal} (held : IkeHeld) (iv : ℕ) (header : Header) (payloads : List PayloadValue) (step : Step) → (length held.keys.sending.octets ≡ 20) ⊎ (length held.keys.sending.octets ≡ 36) → length (chain_written payloads) ≤ 788
+    → SendsAfter before held iv header payloads step → IsBrief step
 sends_message-brief held iv header payloads step sized few s =
     subst (λ gives. AllByRecursion IsShort (option_to_list (option_map plain_datagram gives))) (sym s.gives)
     (omega (arith, few, ap length s.sends.same, message_length held.keys.sending.octets sized iv header payloads s.sent.seal.sealed.octets s.sends.sealed), tt)
@@ -60,6 +60,9 @@ notify-length kind content = omega (arith, length-append (body_written (notify_o
 -- the payloads of a request
 pub request-few : (request : List ℕ) → length request ≤ 256 → length (chain_written (request_payloads request)) ≤ 264
 request-few request size = omega (arith, size, notify-length REQUEST_DATA request)
+
+pub ticket_request-few : length (chain_written ticket_request_payloads) ≤ 264
+ticket_request-few = omega (arith, notify-length TICKET_REQUEST [])
 
 -- those of a request to synchronise, and of the response to one
 pub sync-few : (ids : MessageIds) (delta : ℕ) → length (chain_written (request_with ids delta)) ≤ 264
@@ -92,3 +95,8 @@ answer-few request reply size = by_error (error_of request)
     by_error : (x : Option RequestError) → length (chain_written (answer_by x request.inner reply)) ≤ 264
     by_error None = by_inner request.inner
     by_error (Some why) = error-few why
+
+-- and with what is said of a ticket
+pub answered-few : (request : Opened) (reply : List ℕ) (ticket : Option TicketAnswer) → length reply ≤ 256 → IfSome ticket IsShortTicket → length (chain_written (with_ticket (answer_payloads request reply) ticket)) ≤ 788
+answered-few request reply None size short = omega (arith, answer-few request reply size)
+answered-few request reply (Some answer) size short = answers_fit request reply answer size short

@@ -69,11 +69,11 @@ use Rattle.run_ends.specs.Acting.{IsOfEnd}
 
 -- a step that an end comes to itself, be it with its service or not
 pub record IsAnswered (calls : List Call) (step : Step) : Type 0 where
-  pub few : length calls ≤ 2
+  pub few : length calls ≤ 3
   pub said : IsOfEnd step.verdict
   pub brief : IsBrief step
 
-pub says-proper : (calls : List Call) (step : Step) (why : Refusal) → is_of_run why ≡ false → length calls ≤ 2 → Says (out.Refused why) step → IsProper calls step
+pub says-proper : (calls : List Call) (step : Step) (why : Refusal) → is_of_run why ≡ false → length calls ≤ 3 → Says (out.Refused why) step → IsProper calls step
 says-proper calls step why own few says = quiet-proper calls step few (of-refusal step.verdict why own says.said) says.quiet
 
 -- ---- numbers that are made ready, one after the other
@@ -105,12 +105,12 @@ module _ {P : Type 0} (S : Stop → List Call → Type 0) (G : ℕ → List Call
       (cases_lt at h.high)
 
 -- and so two for two numbers
-pub readies-fold : {P : Type 0} (held : Held) (c : Counter) (at : ℕ) (calls : List Call) (step : Step) (done : Type 0) → ((why : Stop) → length calls ≤ 2 → Says (out.Refused (refusal_of_stop why)) step → P) → (length calls ≤ 2 → done → P) → ReadiesWithIv held c at calls step done → P
-readies-fold {P} held c at calls step done stops goes r = ready-fold stopped (λ high rest. Ready (reach_of held counter.Iv) (five_at held.nexts counter.Iv) rest stopped finished) (reach_of held c) at calls
+readies-then : {P : Type 0} (held : Held) (c : Counter) (at : ℕ) (calls : List Call) (step : Step) (goes_on : List Call → Type 0) → ((why : Stop) → length calls ≤ 3 → Says (out.Refused (refusal_of_stop why)) step → P) → ((rest : List Call) → length calls ≤ 2 + length rest → goes_on rest → P) → ReadiesThen held c at calls step goes_on → P
+readies-then {P} held c at calls step goes_on stops goes r = ready-fold stopped (λ high rest. Ready (reach_of held counter.Iv) (five_at held.nexts counter.Iv) rest stopped finished) (reach_of held c) at calls
     (λ why rest one refuses. stops why (omega (arith, one, ap length refuses.0)) refuses.1)
     (λ high rest one more. ready-fold stopped finished (reach_of held counter.Iv) (five_at held.nexts counter.Iv) rest
     (λ why last two refuses. stops why (omega (arith, one, two, ap length refuses.0)) refuses.1)
-    (λ high last two it. goes (omega (arith, one, two, ap length it.0)) it.1)
+    (λ high last two it. goes last (omega (arith, one, two)) it)
     more)
     r
   where
@@ -118,24 +118,75 @@ readies-fold {P} held c at calls step done stops goes r = ready-fold stopped (λ
     stopped why rest = RefusesThen (refusal_of_stop why) rest step
 
     finished : ℕ → List Call → Type 0
-    finished high rest = (rest ≡ []) × done
+    finished high rest = goes_on rest
+
+pub readies-fold : {P : Type 0} (held : Held) (c : Counter) (at : ℕ) (calls : List Call) (step : Step) (done : Type 0) → ((why : Stop) → length calls ≤ 3 → Says (out.Refused (refusal_of_stop why)) step → P) → (length calls ≤ 3 → done → P) → ReadiesWithIv held c at calls step done → P
+readies-fold held c at calls step done stops goes r = readies-then held c at calls step (λ rest. (rest ≡ []) × done) stops (λ rest few it. goes (omega (arith, few, ap length it.0)) it.1) r
+
+-- one call at most is made for the number of a ticket, which is short
+module _ {P : Type 0} (calls : List Call) (step : Step) (done : Option TicketAnswer → Type 0) (stops : (why : Refusal) → is_of_run why ≡ false → length calls ≤ 1 → Says (out.Refused why) step → P) (goes : (ticket : Option TicketAnswer) → length calls ≤ 1 → IfSome ticket IsShortTicket → done ticket → P) where
+  told : (ticket : Option TicketAnswer) → IfSome ticket IsShortTicket → Tells ticket calls done → P
+  told ticket short t = goes ticket (omega (arith, ap length t.0)) short t.1
+
+  without : (why : KeeperFault) (rest : List Call) → length calls ≤ suc (length rest) → TellsWithout why rest step done → P
+  without (fault.Full limit) rest few t = goes (Some Declined) (omega (arith, few, ap length t.0)) tt t.1
+  without fault.Failed rest few t = stops refusal.KeeperFault refl (omega (arith, few, ap length t.0)) t.1
+  without other rest few t = absurd t
+
+  issued : (key : NamedKey) (config : Configuration) (now : Moment) (sa : Record) (number : ℕ) (rest : List Call) → length calls ≤ suc (length rest) → IssuesTicket key config now sa number rest done → P
+  issued key config now sa number rest few t = goes (Some (Issued config.lifetime t.seal)) (omega (arith, few, ap length t.no_more)) t.sealed.short t.does
+
+  module _ (member : MemberHeld) (now : Moment) (sa : Record) (key : NamedKey) where
+    abbrev stopped : KeeperFault → List Call → Type 0
+    stopped why rest = TellsWithout why rest step done
+
+    abbrev given : ℕ → Remaining → List Call → Type 0
+    given number lot rest = IssuesTicket key (config_of member.given) now sa number rest done
+
+    leased : (lot : Remaining) (call : Call) (rest : List Call) → calls ≡ call ∷ rest → (answered : KeeperAnswer) → Leased answered (λ why. stopped why rest) (λ first. given first (drawn_once (leased_lot lot first)) rest) → P
+    leased lot call rest is (answer.First first) l = issued key (config_of member.given) now sa first rest (omega (arith, ap length is)) l
+    leased lot call rest is (answer.Refused why) l = without why rest (omega (arith, ap length is)) l
+    leased lot call rest is answer.Done l = absurd l
+    leased lot call rest is (answer.Taken taken) l = absurd l
+    leased lot call rest is (answer.Look spent) l = absurd l
+
+    leases : (lot : Remaining) (cs : List Call) → calls ≡ cs → Leases pool.Ticket lot cs stopped given → P
+    leases lot [] is l = absurd l
+    leases lot (call ∷ rest) is l = leased lot call rest is (seen call) l.1
+
+    tells-issued : TellsIssued member now sa key calls step done → P
+    tells-issued r = ⊎_elim
+        (λ left. issued key (config_of member.given) now sa member.numbers.next calls (omega arith) (r.left left))
+        (λ none. leases member.numbers calls refl (r.none_left none))
+        (cases_lt member.numbers.next member.numbers.end)
+
+  pub tells-fold : (member : MemberHeld) (now : Moment) (sa : Record) (request : Opened) → TellsTicket member now sa request calls step done → P
+  tells-fold member now sa request t = by_due (is_ticket_due request) t
+    where
+      by_key : (x : Option NamedKey) → MatchOption x (Tells (Some Declined) calls done) (λ key. TellsIssued member now sa key calls step done) → P
+      by_key None t = told (Some Declined) tt t
+      by_key (Some key) t = tells-issued member now sa key t
+
+      by_due : (b : Bool) → MatchBool b (MatchOption (config_of member.given).ticket_key (Tells (Some Declined) calls done) (λ key. TellsIssued member now sa key calls step done)) (Tells None calls done) → P
+      by_due true t = by_key (config_of member.given).ticket_key t
+      by_due false t = told None tt t
 
 -- ---- new requests
 
-module _ (name : CounterName) (held : IkeHeld) (sized : (length held.keys.sending.octets ≡ 20) ⊎ (length held.keys.sending.octets ≡ 36)) (iv : ℕ) (request : Opened) (calls : List Call) (step : Step) (few : length calls ≤ 2) where
-  answers-answered : AnswersRequest name held iv request step → IsAnswered calls step
+module _ (name : CounterName) (held : IkeHeld) (sized : (length held.keys.sending.octets ≡ 20) ⊎ (length held.keys.sending.octets ≡ 36)) (iv : ℕ) (request : Opened) (ticket : Option TicketAnswer) (short : IfSome ticket IsShortTicket) (calls : List Call) (step : Step) (few : length calls ≤ 3) where
+  answers-answered : AnswersRequest name held iv request ticket step → IsAnswered calls step
   answers-answered a = go (error_of request) a
     where
-      go : (x : Option RequestError) → MatchOption x (ExecutesRequest name held iv request step) (λ why. RefusesRequest name held iv request why step) → IsAnswered calls step
+      go : (x : Option RequestError) → MatchOption x (ExecutesRequest name held iv request ticket step) (λ why. RefusesRequest name held iv request why step) → IsAnswered calls step
       go None e = record {
         few = few;
-        said = of-verdict step.verdict (out.Executed name request.header.id mark.Plain) (record { no_join = refl; heard = refl }) e.said;
-        brief = sends_message-brief held iv (response_header held.keys request.header) (answer_payloads request e.executed.reply.octets) step sized (answer-few request e.executed.reply.octets e.short) e.responds;
+        said = of-verdict step.verdict (out.Executed name request.header.id (mark_of ticket)) (record { no_join = refl; heard = refl }) e.said;
+        brief = sends_message-brief held iv (response_header held.keys request.header) (with_ticket (answer_payloads request e.executed.reply.octets) ticket) step sized (answered-few request e.executed.reply.octets ticket e.short short) e.responds;
       }
       go (Some why) e = record {
         few = few;
         said = of-verdict step.verdict (out.Refusing name request.header.id (notify_type_of why)) (record { no_join = refl; heard = refl }) e.said;
-        brief = sends_message-brief held iv (response_header held.keys request.header) (answer_payloads request []) step sized (answer-few request [] (omega arith)) e.responds;
+        brief = sends_message-brief held iv (response_header held.keys request.header) (answer_payloads request []) step sized (omega (arith, answer-few request [] (omega arith))) e.responds;
       }
 
 proper-answered : (calls : List Call) (step : Step) → IsProper calls step → IsAnswered calls step
@@ -143,16 +194,21 @@ proper-answered calls step p = record { few = p.few; said = p.said; brief = p.br
 
 slot-answered : (slot : Slot) (request : Opened) (calls : List Call) (step : Step) → SlotAnswers slot request calls step → IsAnswered calls step
 slot-answered slot request calls step a = ⊎_elim
-    (λ below. answers-answered (peer_counter slot.sa counter.Answer) (slot_ike slot) (sized_sk_ei slot.sa.size slot.sa.keys slot.sa.child slot.sa.key_lengths) slot.iv request calls step (none-few calls a.no_calls) (a.within below))
+    (λ below. answers-answered (peer_counter slot.sa counter.Answer) (slot_ike slot) (sized_sk_ei slot.sa.size slot.sa.keys slot.sa.child slot.sa.key_lengths) slot.iv request None tt calls step (none-few calls a.no_calls) (a.within below))
     (λ above. proper-answered calls step (says-proper calls step refusal.Exhausted refl (none-few calls a.no_calls) (a.ended above)))
     (cases_lt slot.iv (end_of slot.sa counter.Iv))
 
-held-answered : (held : Held) (request : Opened) (calls : List Call) (step : Step) → HeldAnswers held request calls step → IsAnswered calls step
-held-answered held request calls step a = readies-fold held counter.Answer request.header.id calls step
-    (AnswersRequest (counter_name held.sa counter.Answer) (held_ike held) (five_at held.nexts counter.Iv) request step)
+held-answered : (member : MemberHeld) (now : Moment) (held : Held) (request : Opened) (calls : List Call) (step : Step) → HeldAnswers member now held request calls step → IsAnswered calls step
+held-answered member now held request calls step a = readies-then held counter.Answer request.header.id calls step (λ rest. TellsTicket member now held.sa request rest step answers)
     (λ why few says. proper-answered calls step (says-proper calls step (refusal_of_stop why) (stop-own why) few says))
-    (λ few. answers-answered (counter_name held.sa counter.Answer) (held_ike held) (sized_sk_er held.sa.size held.sa.keys held.sa.child held.sa.key_lengths) (five_at held.nexts counter.Iv) request calls step few)
+    (λ rest few told. tells-fold rest step answers
+    (λ why own one says. proper-answered calls step (says-proper calls step why own (omega (arith, few, one)) says))
+    (λ ticket one short. answers-answered (counter_name held.sa counter.Answer) (held_ike held) (sized_sk_er held.sa.size held.sa.keys held.sa.child held.sa.key_lengths) (five_at held.nexts counter.Iv) request ticket short calls step (omega (arith, few, one)))
+    member now held.sa request told)
     a
+  where
+    answers : Option TicketAnswer → Type 0
+    answers ticket = AnswersRequest (counter_name held.sa counter.Answer) (held_ike held) (five_at held.nexts counter.Iv) request ticket step
 
 -- ---- synchronisations
 
@@ -160,7 +216,7 @@ held-answered held request calls step a = readies-fold held counter.Answer reque
 slot-synchronised : (slot : Slot) (request : Opened) (calls : List Call) (step : Step) → SlotSynchronises slot request calls step → IsAnswered calls step
 slot-synchronised slot request calls step does = by_answer does.answer does.answers
   where
-    few : length calls ≤ 2
+    few : length calls ≤ 3
     few = none-few calls does.no_calls
 
     dropped-answered : (why : IkeDrop) → Says (out.DroppedIke why) step → IsAnswered calls step
@@ -320,11 +376,11 @@ module _ {X P : Type 0} (listener : Listener X) (octets : List ℕ) (calls : Lis
   answered request None a = absurd a
   answered request (Some held) a = answers held request a
 
-  replied : (name : CounterName) (id : ℕ) (inner : Result (List PayloadValue) Bad) → calls ≡ [] → TakesInner name id inner step → P
-  replied name id (Ok payloads) none t = quiet (out.Reply name id t.reply kept.Plain _) (record { no_join = refl; heard = refl }) none t.says
+  replied : (name : CounterName) (id : ℕ) (inner : Result (List PayloadValue) Bad) → calls ≡ [] → TakesInner listener.Keeps name id inner step → P
+  replied name id (Ok payloads) none t = quiet (out.Reply name id t.2.reply t.0 _) (record { no_join = refl; heard = refl }) none t.2.says
   replied name id (Err bad) none t = absurd t
 
-  responded : (response : Opened) (x : Option X) → calls ≡ [] → MatchOption x ⊥ (λ held. TakesInner (listener.asks held) response.header.id response.inner step) → P
+  responded : (response : Opened) (x : Option X) → calls ≡ [] → MatchOption x ⊥ (λ held. TakesInner listener.Keeps (listener.asks held) response.header.id response.inner step) → P
   responded response None none t = absurd t
   responded response (Some held) none t = replied (listener.asks held) response.header.id response.inner none t
 
@@ -399,8 +455,8 @@ member-syncs fresh calls step = (λ held request never. absurd never, λ held re
 pub peer_message-said : (slots : List Slot) (octets : List ℕ) (calls : List Call) (step : Step) → TakesMessage (peer_listener slots) octets calls step → IsOfEnd step.verdict
 peer_message-said slots octets calls step = message-said (peer_listener slots) octets calls step (λ slot request. slot-answered slot request calls step) (peer-syncs calls step)
 
-pub member_message-said : (fresh : List ℕ) (held : ℕ → Option Held) (octets : List ℕ) (calls : List Call) (step : Step) → TakesMessage (member_listener fresh held) octets calls step → IsOfEnd step.verdict
-member_message-said fresh held octets calls step = message-said (member_listener fresh held) octets calls step (λ h request. held-answered h request calls step) (member-syncs fresh calls step)
+pub member_message-said : (member : MemberHeld) (now : Moment) (octets : List ℕ) (calls : List Call) (step : Step) → TakesMessage (member_listener member now) octets calls step → IsOfEnd step.verdict
+member_message-said member now octets calls step = message-said (member_listener member now) octets calls step (λ h request. held-answered member now h request calls step) (member-syncs (fresh_octets member.given) calls step)
 
 pub first-short : (test : Slot → Bool) (slots : List Slot) → SlotsKeepShort slots → IfSome (first_slot test slots) (λ slot. KeepsShort slot.asked slot.answered)
 first-short test [] all = tt
@@ -421,5 +477,5 @@ spii-short spii (Some held) short = by_spii (held.sa.spii == spii)
     by_spii true = short
     by_spii false = tt
 
-pub member_message-answered : (fresh : List ℕ) (held : ℕ → Option Held) (octets : List ℕ) (calls : List Call) (step : Step) → ((spir : ℕ) → HeldKeepsShort (held spir)) → TakesMessage (member_listener fresh held) octets calls step → IsAnswered calls step
-member_message-answered fresh held octets calls step short = message-answered (member_listener fresh held) octets calls step (λ spii spir. spii-short spii (held spir) (short spir)) (λ h request. held-answered h request calls step) (member-syncs fresh calls step)
+pub member_message-answered : (member : MemberHeld) (now : Moment) (octets : List ℕ) (calls : List Call) (step : Step) → ((spir : ℕ) → HeldKeepsShort (member.held spir)) → TakesMessage (member_listener member now) octets calls step → IsAnswered calls step
+member_message-answered member now octets calls step short = message-answered (member_listener member now) octets calls step (λ spii spir. spii-short spii (member.held spir) (short spir)) (λ h request. held-answered member now h request calls step) (member-syncs (fresh_octets member.given) calls step)

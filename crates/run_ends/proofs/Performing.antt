@@ -32,18 +32,18 @@ use Rattle.run_ends.proofs.Verdicts.{IsProper, draws-proper, imports-proper, mem
 use Rattle.run_ends.specs.Acting.{IsOfEnd}
 
 -- what a datagram comes to, as an end words it
-pub member_gets-said : (m : Medium) (fresh : List ℕ) (held : ℕ → Option Held) (octets : List ℕ) (calls : List Call) (step : Step) → MemberGets m fresh held octets calls step → IsOfEnd step.verdict
-member_gets-said medium.Ike fresh held octets calls step t = member_message-said fresh held octets calls step t
-member_gets-said medium.Esp fresh held octets calls step t = (member_takes-proper held octets calls step t).said
+pub member_gets-said : (m : Medium) (member : MemberHeld) (now : Moment) (octets : List ℕ) (calls : List Call) (step : Step) → MemberGets m member now octets calls step → IsOfEnd step.verdict
+member_gets-said medium.Ike member now octets calls step t = member_message-said member now octets calls step t
+member_gets-said medium.Esp member now octets calls step t = (member_takes-proper member.held octets calls step t).said
 
 pub peer_gets-said : (m : Medium) (slots : List Slot) (octets : List ℕ) (calls : List Call) (step : Step) → PeerGets m slots octets calls step → IsOfEnd step.verdict
 peer_gets-said medium.Ike slots octets calls step t = peer_message-said slots octets calls step t
 peer_gets-said medium.Esp slots octets calls step t = (peer_takes-proper slots octets calls step t).said
 
--- of each event: by two calls at most, and nothing long is given
+-- of each event: by three calls at most, and nothing long is given
 module _ (state : RunState) (short : StateKeepsShort state) (moment : Moment) (calls : List Call) (step : Step) where
   abbrev IsFew : Type 0
-  IsFew = (length calls ≤ 2) × IsBrief step
+  IsFew = (length calls ≤ 3) × IsBrief step
 
   yields-few : (verdict : Verdict) → Yields verdict calls step → IsFew
   yields-few verdict y = (none-few calls y.no_calls, quiet-brief step y.says.quiet.gives)
@@ -51,9 +51,9 @@ module _ (state : RunState) (short : StateKeepsShort state) (moment : Moment) (c
   proper-few : IsProper calls step → IsFew
   proper-few p = (p.few, p.brief)
 
-  member-few : (m : Medium) (fresh : List ℕ) (held : ℕ → Option Held) (octets : List ℕ) → ((spir : ℕ) → HeldKeepsShort (held spir)) → MemberGets m fresh held octets calls step → IsFew
-  member-few medium.Ike fresh held octets keeps t = let a = member_message-answered fresh held octets calls step keeps t in (a.few, a.brief)
-  member-few medium.Esp fresh held octets keeps t = proper-few (member_takes-proper held octets calls step t)
+  member-few : (m : Medium) (member : MemberHeld) (octets : List ℕ) → ((spir : ℕ) → HeldKeepsShort (member.held spir)) → MemberGets m member moment octets calls step → IsFew
+  member-few medium.Ike member octets keeps t = let a = member_message-answered member moment octets calls step keeps t in (a.few, a.brief)
+  member-few medium.Esp member octets keeps t = proper-few (member_takes-proper member.held octets calls step t)
 
   peer-few : (m : Medium) (octets : List ℕ) → PeerGets m state.peer.slots octets calls step → IsFew
   peer-few medium.Ike octets t = let a = peer_message-answered state.peer.slots octets calls step short.of_peer t in (a.few, a.brief)
@@ -62,11 +62,11 @@ module _ (state : RunState) (short : StateKeepsShort state) (moment : Moment) (c
   receives-few : (to : Party) (found : Result PlainDatagram Refusal) → Receives state moment to found calls step → IsFew
   receives-few to (Err why) r = absurd r
   receives-few parties.Peer (Ok datagram) r = peer-few datagram.medium datagram.octets r
-  receives-few (parties.Member member) (Ok datagram) r = member-few datagram.medium (fresh_octets (state.members member).given) (state.members member).held datagram.octets (short.of_members member) r
+  receives-few (parties.Member member) (Ok datagram) r = member-few datagram.medium (state.members member) datagram.octets (short.of_members member) r
 
   performs-few : (at : Event) → Fits (plain at) → Performs state moment at calls step → IsFew
   performs-few (event.Cluster identity lifetime window ticket_key) fits p = yields-few out.Configured p
-  performs-few (event.Import sa) fits p = proper-few (imports-proper sa (not (admits (records state.peer.slots) sa)) calls step p)
+  performs-few (event.Import sa) fits p = proper-few (imports-proper sa (not (admits state.peer.slots sa)) calls step p)
   performs-few (event.Join fresh) fits p = yields-few _ p
   performs-few (event.Own member spir) fits p = proper-few (takes-proper spir member calls step p)
   performs-few (event.Draw member spir) fits p = proper-few (draws-proper ((state.members member).held spir) calls step p)
@@ -76,12 +76,14 @@ module _ (state : RunState) (short : StateKeepsShort state) (moment : Moment) (c
   performs-few (event.Send (parties.Member member) spir payload) fits p =
       proper-few (sends-proper ((state.members member).held spir) payload.octets calls step (fits_send (parties.Member member) spir payload fits) p)
   performs-few (event.Ask parties.Peer spir request) fits p =
-      (none-few calls p.0, (peer_asks-proper spir state.peer.slots request.octets step (fits_ask parties.Peer spir request fits) p.1).brief)
+      (none-few calls p.0, (peer_asks-proper spir state.peer.slots (request_payloads request.octets) step (request-few request.octets (fits_ask parties.Peer spir request fits)) p.1).brief)
   performs-few (event.Ask (parties.Member member) spir request) fits p =
-      proper-few (asks-proper ((state.members member).held spir) request.octets calls step (fits_ask (parties.Member member) spir request fits) p)
+      proper-few (asks-proper ((state.members member).held spir) (request_payloads request.octets) calls step (request-few request.octets (fits_ask (parties.Member member) spir request fits)) p)
   performs-few (event.Again parties.Peer spir id) fits p = (none-few calls p.0, (peer_resends-proper spir state.peer.slots id step short.of_peer p.1).brief)
   performs-few (event.Again (parties.Member member) spir id) fits p = proper-few (resends_of-proper ((state.members member).held spir) id calls step (short.of_members member spir) p)
   performs-few (event.Sync member spir) fits p = proper-few (syncs-proper (fresh_octets (state.members member).given) ((state.members member).held spir) calls step p)
+  performs-few (event.Ticket spir) fits p = (none-few calls p.0, (peer_asks-proper spir state.peer.slots ticket_request_payloads step ticket_request-few p.1).brief)
+  performs-few (event.Forget spir) fits p = (none-few calls p.0, (peer_forgets-proper spir state.peer.slots step p.1).brief)
   performs-few (event.Deliver which to) fits p = receives-few to (arrives state.datagrams (event.Deliver which to)) p
   performs-few (event.Alter which to place octet) fits p = receives-few to (arrives state.datagrams (event.Alter which to place octet)) p
   performs-few (event.Cut which to keep) fits p = receives-few to (arrives state.datagrams (event.Cut which to keep)) p

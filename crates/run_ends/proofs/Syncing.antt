@@ -22,7 +22,7 @@ module _ (fresh : List ℕ) (held : Held) (calls : List Call) (step : Step) wher
   abbrev iv : ℕ
   iv = five_at held.nexts counter.Iv
 
-  sends_sync : length calls ≤ 2 → SendsSync fresh held iv step → IsProper calls step
+  sends_sync : length calls ≤ 3 → SendsSync fresh held iv step → IsProper calls step
   sends_sync few s = record {
     few = few;
     said = of-verdict step.verdict (out.Syncing (sync_id held) held.answered.floor) (record { no_join = refl; heard = refl }) s.said;

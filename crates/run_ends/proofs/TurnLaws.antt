@@ -15,7 +15,7 @@ got_all calls got true e = absurd (cc)
 got_all calls got false e = cc
 
 -- a gate that had told no call has recorded these
-pub told-all : {K : Type 0} (calls : List Call) (before after : Gated K) → told_calls before ≡ Some [] → length calls ≤ 2 → AddsAllTold (told_calls before) calls (told_calls after) → after.first ≡ calls
+pub told-all : {K : Type 0} (calls : List Call) (before after : Gated K) → told_calls before ≡ Some [] → length calls ≤ 3 → AddsAllTold (told_calls before) calls (told_calls after) → after.first ≡ calls
 told-all calls before after told few adds =
     let said : AddsAllTold (Some []) calls (told_calls after) = subst (λ t. AddsAllTold t calls (told_calls after)) told adds in
     got_all calls after.first after.missed (said (omega (arith, few)))

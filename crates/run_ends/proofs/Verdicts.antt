@@ -43,14 +43,14 @@ use Rattle.run_ends.proofs.MessageBounds.{IsBrief}
 use Rattle.run_ends.specs.Parties.{IsShort}
 use Rattle.run_ends.specs.Acting.{IsOfEnd}
 
--- a step that an end comes to itself with no service, by two calls at most, and gives nothing long
+-- a step that an end comes to itself with no service, by three calls at most, and gives nothing long
 pub record IsProper (calls : List Call) (step : Step) : Type 0 where
-  pub few : length calls ≤ 2
+  pub few : length calls ≤ 3
   pub said : IsOfEnd step.verdict
   pub brief : IsBrief step
   pub alone : step.served ≡ None
 
-pub none-few : (calls : List Call) → calls ≡ [] → length calls ≤ 2
+pub none-few : (calls : List Call) → calls ≡ [] → length calls ≤ 3
 none-few calls none = omega (arith, ap length none)
 
 pub quiet-brief : (step : Step) → step.gives ≡ None → IsBrief step
@@ -90,7 +90,7 @@ keeper-refused : (refused : Option Refusal) (verdict : Verdict) → own_of refus
 keeper-refused None verdict own m = absurd m
 keeper-refused (Some r) verdict own m = of-refusal verdict r own m
 
-pub quiet-proper : (calls : List Call) (step : Step) → length calls ≤ 2 → IsOfEnd step.verdict → IsQuiet step → IsProper calls step
+pub quiet-proper : (calls : List Call) (step : Step) → length calls ≤ 3 → IsOfEnd step.verdict → IsQuiet step → IsProper calls step
 quiet-proper calls step few said quiet = record { few = few; said = said; brief = quiet-brief step quiet.gives; alone = quiet.served }
 
 pub takes-proper : (spir member : ℕ) (calls : List Call) (step : Step) → Quietly (TakesOver spir member) calls step → IsProper calls step

@@ -12,7 +12,7 @@ use Rattle.turn_rules.specs.Fits.{Performs, refused_arrival}
 use Rattle.turn_rules.specs.States.{RunState, is_join}
 use Rattle.turn_rules.specs.Tasks.{member_task, peer_task}
 use Rattle.cluster_member.specs.Members.{Holder, IsAfter}
-use Rattle.cluster_peer.specs.Slots.{IsPeerAfter, PeerWithRoom}
+use Rattle.cluster_peer.specs.Slots.{IsPeerAfterAt, PeerWithRoom}
 use Rattle.run_ends.specs.Parties.{member_seen}
 
 -- the event asks an end for something: it is none by which the run configures the ends, lets a
@@ -38,21 +38,21 @@ pub record IsOwnStep (at : Event) (step : Step) : Type 0 where
   pub said : IsOfEnd step.verdict
   pub alone : delivery_of at ≡ None → step.served ≡ None
 
--- a member does what the rule of the event says, whatever the other ends hold, and holds then what
--- the turn makes of it
-pub record MemberActs (datagrams : List PlainDatagram) (at : Event) (calls : List Call)
-    (step : Step) (old new : Holder) : Type 0 where
-  pub performs : (state : RunState) (now : Moment)
+-- a member does what the rule of the event says at a moment, whatever the other ends hold, and holds
+-- then what the turn makes of it
+pub record MemberActs (datagrams : List PlainDatagram) (now : Moment) (at : Event)
+    (calls : List Call) (step : Step) (old new : Holder) : Type 0 where
+  pub performs : (state : RunState)
       → state.members old.number ≡ member_seen (Some old) → state.datagrams ≡ datagrams
       → Performs state now at calls step
   pub after : IsAfter (member_task at) calls step old new
   pub own : IsOwnStep at step
 
 -- and so does the peer
-pub record PeerActs (datagrams : List PlainDatagram) (at : Event) (calls : List Call)
-    (step : Step) (old new : PeerWithRoom) : Type 0 where
-  pub performs : (state : RunState) (now : Moment)
+pub record PeerActs (datagrams : List PlainDatagram) (now : Moment) (at : Event)
+    (calls : List Call) (step : Step) (old new : PeerWithRoom) : Type 0 where
+  pub performs : (state : RunState)
       → state.peer ≡ old.held → state.datagrams ≡ datagrams
       → Performs state now at calls step
-  pub after : IsPeerAfter (peer_task at) step old new
+  pub after : IsPeerAfterAt now (peer_task at) step old new
   pub own : IsOwnStep at step

@@ -10,11 +10,11 @@ use Rattle.cluster_member.specs.Members.{Holder, IsAfter}
 use Rattle.cluster_peer.specs.Slots.{IsPeerAfter, PeerWithRoom}
 
 -- an IKE message or an ESP packet is received by its rule
-abbrev pub MemberTakesIn : Medium → List ℕ → List Call → Step → Holder → Holder → Type 0
-MemberTakesIn medium octets calls step old new =
-    MemberGets medium old.fresh (held_at old.held) octets calls step
+abbrev pub MemberTakesIn : Medium → Moment → List ℕ → List Call → Step → Holder → Holder → Type 0
+MemberTakesIn medium now octets calls step old new =
+    MemberGets medium (member_held old) now octets calls step
     × IsAfter task.Receive calls step old new
 
-abbrev pub PeerTakesIn : Medium → List ℕ → Step → PeerWithRoom → PeerWithRoom → Type 0
-PeerTakesIn medium octets step old new =
-    PeerGets medium old.held.slots octets [] step × IsPeerAfter task.Receive step old new
+abbrev pub PeerTakesIn : Medium → Moment → List ℕ → Step → PeerWithRoom → PeerWithRoom → Type 0
+PeerTakesIn medium now octets step old new =
+    PeerGets medium old.held.slots octets [] step × IsPeerAfterAt now task.Receive step old new

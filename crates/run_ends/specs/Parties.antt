@@ -15,8 +15,10 @@ use Rattle.turn_rules.specs.Fits.{Does, Performs}
 use Rattle.turn_rules.specs.Held.{held_at}
 use Rattle.turn_rules.specs.Local.{Local}
 use Rattle.turn_rules.specs.PeerStates.{PeerHeld}
-use Rattle.turn_rules.specs.States.{MemberHeld, RunState, has_turns, no_member, state_after, state_by}
-use Rattle.cluster_member.specs.Members.{Holder}
+use Rattle.turn_rules.specs.MemberStates.{MemberHeld, no_member}
+use Rattle.turn_rules.specs.States.{RunState, has_turns, state_after, state_by}
+use Rattle.turn_rules.specs.TicketNumbers.{no_ticket_numbers}
+use Rattle.cluster_member.specs.Members.{Holder, member_held}
 
 -- boxes: how many services were handed in for members; config: how members are configured that
 -- join; peer: what the peer holds; members: what each member holds that joined, and nothing where it
@@ -29,7 +31,13 @@ pub record EndsHeld : Type 0 where
 
 -- a member that has not joined
 abbrev pub nobody : Holder
-nobody = record { number = 0; config = default_configuration; fresh = []; held = [] }
+nobody = record {
+  number = 0;
+  config = default_configuration;
+  fresh = [];
+  held = [];
+  numbers = no_ticket_numbers;
+}
 
 -- who has this number, or else the other one: members are counted from 1, in the order in which
 -- they joined
@@ -48,7 +56,7 @@ given_to holder = membership holder.config holder.fresh
 -- what is held where somebody is
 abbrev pub member_seen : Option Holder → MemberHeld
 member_seen None = no_member
-member_seen (Some holder) = record { given = Some (given_to holder); held = held_at holder.held }
+member_seen (Some holder) = member_held holder
 
 -- what the member of this number holds, where it joined and did not end
 abbrev pub member_at : List (Option Holder) → ℕ → MemberHeld

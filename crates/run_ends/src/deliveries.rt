@@ -16,18 +16,19 @@ use crate::arrivals::{Arrival, verdict_of};
 use cluster_member::Member;
 use cluster_peer::Peer;
 use events::{Medium, Step};
-use ha_base::{Memory, Service};
+use ha_base::{Memory, Moment, Service};
 use keeper_book::Keeper;
 
 pub(crate) fn peer_takes(
     peer: &mut Peer,
     service: &mut Box<dyn Service>,
+    now: Moment,
     arrival: Arrival,
 ) -> Result<Step, Memory>
     requires short { IsShort arrival }
     requires served_few { count service.old < MOST_REQUESTS }
     ensures takes { IfOk result
-        (λ step. PeerTakesIn arrival.medium arrival.octets step peer.old peer.new) }
+        (λ step. PeerTakesIn arrival.medium now arrival.octets step peer.old peer.new) }
     ensures serves { IfOk result
         (λ step. Serves count last gives service.old step.served service.new) }
     ensures err { OnErr result (peer.new ≡ peer.old) }
@@ -35,7 +36,7 @@ pub(crate) fn peer_takes(
 {
     let Arrival { medium, mut octets } = arrival;
     match medium {
-        Medium::Ike => peer.receive_ike(service, &octets),
+        Medium::Ike => peer.receive_ike(service, now, &octets),
         Medium::Esp => {
             let answer = peer.receive_esp(&mut octets);
             Ok(Step::quiet(verdict_of(answer, octets)))
@@ -47,12 +48,13 @@ pub(crate) fn member_takes<K: Keeper>(
     member: &mut Member,
     keeper: &mut K,
     service: &mut Box<dyn Service>,
+    now: Moment,
     arrival: Arrival,
 ) -> Result<Step, Memory>
     requires short { IsShort arrival }
     requires served_few { count service.old < MOST_REQUESTS }
     ensures takes { IfOk result (λ step. AsksFor K.Keeper keeper.old keeper.new (λ calls.
-        MemberTakesIn arrival.medium arrival.octets calls step member.old member.new)) }
+        MemberTakesIn arrival.medium now arrival.octets calls step member.old member.new)) }
     ensures serves { IfOk result
         (λ step. Serves count last gives service.old step.served service.new) }
     ensures err { OnErr result (member.new ≡ member.old) }
@@ -61,7 +63,7 @@ pub(crate) fn member_takes<K: Keeper>(
 {
     let Arrival { medium, octets } = arrival;
     match medium {
-        Medium::Ike => member.receive_ike(keeper, service, &octets),
+        Medium::Ike => member.receive_ike(keeper, service, now, &octets),
         Medium::Esp => Ok(member_takes_packet(member, keeper, octets)),
     }
 }

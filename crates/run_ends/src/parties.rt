@@ -112,7 +112,7 @@ impl Parties {
     {
         match self.refusal(trace, event) {
             Some(why) => return Ok(refused(why)),
-            None => return self.act(keeper, service, trace, event),
+            None => return self.act(keeper, service, now, trace, event),
         }
     }
 
@@ -121,6 +121,7 @@ impl Parties {
         &mut self,
         keeper: &mut K,
         service: &mut Box<dyn Service>,
+        now: Moment,
         trace: &Trace,
         event: &Event,
     ) -> Result<Step, Memory>
@@ -132,7 +133,7 @@ impl Parties {
             → (self.old.peer.slots ≡ []) × (self.old.members ≡ []) }
         requires in_place { AreInPlace self.old }
         ensures acts { IfOk result (λ step. AsksFor K.Keeper keeper.old keeper.new (λ calls.
-            (now : Moment) → Acts trace.now.past self.old now event.now calls step self.new)) }
+            Acts trace.now.past self.old now event.now calls step self.new)) }
         ensures serves { IfOk result
             (λ step. Serves count last gives service.old step.served service.new) }
         ensures err { OnErr result (self.new ≡ self.old) }
@@ -151,7 +152,7 @@ impl Parties {
             }
             Event::Join { fresh } => return self.join(*fresh),
             Event::Crash { member } => return Ok(self.crash(*member)),
-            _ => return self.perform(keeper, service, trace, event),
+            _ => return self.perform(keeper, service, now, trace, event),
         }
     }
 

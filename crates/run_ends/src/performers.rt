@@ -13,9 +13,9 @@ ghost use Rattle.keeper_book.specs.Asks.{AsksFor};
 ghost use Rattle.turn_rules.specs.Datagrams.{datagrams_of, delivery_of};
 ghost use Rattle.turn_rules.specs.Draws.{EntersRecord};
 ghost use Rattle.turn_rules.specs.Fits.{Quietly, Refusing, named_in, run_refusal};
-ghost use Rattle.turn_rules.specs.Peers.{admits};
+
 ghost use Rattle.turn_rules.specs.Services.{Serves};
-ghost use Rattle.turn_rules.specs.Slots.{records};
+ghost use Rattle.turn_rules.specs.Slots.{admits};
 ghost use Rattle.turn_rules.specs.Tasks as task;
 ghost use Rattle.run_ends.specs.Acting.{Arrives, MemberActs, PeerActs, asks_an_end};
 ghost use Rattle.run_ends.specs.Parties.{Acts, AreInPlace, IsShort, state_of};
@@ -27,7 +27,7 @@ use crate::refusals::named_in;
 use cluster_member::{Member, of_import};
 use cluster_peer::Peer;
 use events::{Event, Refusal, Step, Verdict};
-use ha_base::{Memory, Service};
+use ha_base::{Memory, Moment, Service};
 use keeper_book::{Keeper, Record};
 use std::alloc::Global;
 use turn_trace::Trace;
@@ -39,6 +39,7 @@ impl Parties {
         &mut self,
         keeper: &mut K,
         service: &mut Box<dyn Service>,
+        now: Moment,
         trace: &Trace,
         event: &Event,
     ) -> Result<Step, Memory>
@@ -49,7 +50,7 @@ impl Parties {
         requires short { AllByRecursion IsShort (datagrams_of trace.now.past) }
         requires in_place { AreInPlace self.old }
         ensures acts { IfOk result (λ step. AsksFor K.Keeper keeper.old keeper.new (λ calls.
-            (now : Moment) → Acts trace.now.past self.old now event.now calls step self.new)) }
+            Acts trace.now.past self.old now event.now calls step self.new)) }
         ensures serves { IfOk result
             (λ step. Serves count last gives service.old step.served service.new) }
         ensures err { OnErr result (self.new ≡ self.old) }
@@ -57,12 +58,12 @@ impl Parties {
         ensures in_vain { OnErr result (AsksInVain K.Keeper keeper.old keeper.new) }
     {
         let Some(number) = named_in(event) else {
-            return peer_performs(self.alloc, &mut self.peer, keeper, service, trace, event);
+            return peer_performs(self.alloc, &mut self.peer, keeper, service, now, trace, event);
         };
         let place = self.place_of(number);
         match &mut self.members[place] {
             Some(member) => {
-                return member_performs(self.alloc, member, keeper, service, trace, event);
+                return member_performs(self.alloc, member, keeper, service, now, trace, event);
             }
             None => unreachable!(),
         }
@@ -74,6 +75,7 @@ fn member_performs<K: Keeper>(
     member: &mut Member,
     keeper: &mut K,
     service: &mut Box<dyn Service>,
+    now: Moment,
     trace: &Trace,
     event: &Event,
 ) -> Result<Step, Memory>
@@ -84,7 +86,7 @@ fn member_performs<K: Keeper>(
     requires room { count service.old < MOST_REQUESTS }
     requires short { AllByRecursion IsShort (datagrams_of trace.now.past) }
     ensures acts { IfOk result (λ step. AsksFor K.Keeper keeper.old keeper.new (λ calls. MemberActs
-        (datagrams_of trace.now.past) event.now calls step member.old member.new)) }
+        (datagrams_of trace.now.past) now event.now calls step member.old member.new)) }
     ensures serves { IfOk result
         (λ step. Serves count last gives service.old step.served service.new) }
     ensures err { OnErr result (member.new ≡ member.old) }
@@ -102,7 +104,7 @@ fn member_performs<K: Keeper>(
         Event::Sync { spir, .. } => return member.begin_sync(keeper, *spir),
         _ => {
             let arrival = arriving(alloc, trace, event)?;
-            return member_takes(member, keeper, service, arrival);
+            return member_takes(member, keeper, service, now, arrival);
         }
     }
 }
@@ -112,6 +114,7 @@ fn peer_performs<K: Keeper>(
     peer: &mut Peer,
     keeper: &mut K,
     service: &mut Box<dyn Service>,
+    now: Moment,
     trace: &Trace,
     event: &Event,
 ) -> Result<Step, Memory>
@@ -122,7 +125,7 @@ fn peer_performs<K: Keeper>(
     requires room { count service.old < MOST_REQUESTS }
     requires short { AllByRecursion IsShort (datagrams_of trace.now.past) }
     ensures acts { IfOk result (λ step. AsksFor K.Keeper keeper.old keeper.new (λ calls. PeerActs
-        (datagrams_of trace.now.past) event.now calls step peer.old peer.new)) }
+        (datagrams_of trace.now.past) now event.now calls step peer.old peer.new)) }
     ensures serves { IfOk result
         (λ step. Serves count last gives service.old step.served service.new) }
     ensures window { peer.new.window ≡ peer.old.window }
@@ -135,9 +138,11 @@ fn peer_performs<K: Keeper>(
         Event::Send { spir, payload, .. } => return peer.send_data(*spir, payload.as_slice()),
         Event::Ask { spir, request, .. } => return peer.ask(*spir, request.as_slice()),
         Event::Again { spir, id, .. } => return peer.again(*spir, *id),
+        Event::Ticket { spir } => return peer.ask_ticket(*spir),
+        Event::Forget { spir } => return Ok(peer.forget(*spir)),
         _ => {
             let arrival = arriving(alloc, trace, event)?;
-            return peer_takes(peer, service, arrival);
+            return peer_takes(peer, service, now, arrival);
         }
     }
 }
@@ -145,7 +150,7 @@ fn peer_performs<K: Keeper>(
 // an association that both ends have from the beginning
 fn import<K: Keeper>(peer: &mut Peer, keeper: &mut K, sa: &Record) -> Result<Step, Memory>
     ensures imports { IfOk result (λ step. AsksFor K.Keeper keeper.old keeper.new (λ calls.
-        Refusing (not (admits (records peer.old.held.slots) sa.now)) refusal.SpiInUse calls step
+        Refusing (not (admits peer.old.held.slots sa.now)) refusal.SpiInUse calls step
         (Quietly (EntersRecord sa.now) calls step)
         × IsPeerAfter (task.Enter sa.now) step peer.old peer.new)) }
     ensures window { peer.new.window ≡ peer.old.window }

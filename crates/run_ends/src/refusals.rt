@@ -60,6 +60,7 @@ fn is_of_datagrams(event: &Event) -> bool
 {
     match event {
         Event::Send { .. } | Event::Ask { .. } | Event::Again { .. } | Event::Sync { .. } => true,
+        Event::Ticket { .. } => true,
         Event::Deliver { .. } | Event::Alter { .. } | Event::Cut { .. } => true,
         Event::Inject { .. } => true,
         _ => false,

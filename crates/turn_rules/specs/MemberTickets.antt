@@ -1,5 +1,5 @@
 -- What a member does with a request for a ticket (RFC 5723, section 4.1).
-use Rattle.std.specs.Prelude.{ℕ, ◌+◌, ◌≡◌, MatchBool, MatchOption, unwrap_or, Option, None, Some, List, []}
+use Rattle.std.specs.Prelude.{ℕ, ◌+◌, ◌≡◌, ◌≤◌, length, MatchBool, MatchOption, unwrap_or, Option, None, Some, List, []}
 use Rattle.std.specs.Option.{option_map}
 use Rattle.aes_gcm.specs.NamedKey.{NamedKey}
 use Rattle.events.specs.declared.seals.Seal.{Seal}
@@ -7,6 +7,7 @@ use Rattle.events.specs.declared.turn.Step.{Step}
 use Rattle.events.specs.declared.verdict.Refusal.TheVariants as refusal
 use Rattle.ha_base.specs.declared.outside.Moment.{Moment}
 use Rattle.ike_sas.specs.TicketMessages.{is_ticket_due}
+use Rattle.ike_sas.specs.declared.ticket_messages.TheConstants.{LONGEST_KEPT_TICKET}
 use Rattle.ike_sas.specs.declared.ticket_messages.TicketAnswer.{TicketAnswer}
 use Rattle.ike_sas.specs.declared.ticket_messages.TicketAnswer.TheVariants.{Declined, Issued}
 use Rattle.keeper_book.specs.declared.calls.Call.{Call}
@@ -38,12 +39,13 @@ content_of config now sa = record {
   identity = sa.identity;
 }
 
--- the content was sealed in a ticket of this number
+-- the content was sealed in a ticket of this number, which is no longer than one that a peer keeps
 pub record SealsTicket (key : NamedKey) (number : ℕ) (content : Content) (seal : Seal) : Type 0 where
   pub named : seal.name ≡ key.name
   pub iv_is : seal.iv ≡ number
   pub plain : seal.plain.octets ≡ content_octets content
   pub sealed : seal.sealed.octets ≡ ticket_octets key.octets number (content_octets content)
+  pub short : length seal.sealed.octets ≤ LONGEST_KEPT_TICKET
 
 -- a ticket was issued, and no call is left
 pub record IssuesTicket (key : NamedKey) (config : Configuration) (now : Moment) (sa : Record)

@@ -10,20 +10,18 @@ use Rattle.run_ends.proofs.deliveries.member_takes.Goals as goal
 
 pub returns-in-Ike-clause-takes : goal.returns-in-Ike-clause-takes
 returns-in-Ike-clause-takes g c =
-    let held = held_at c.args.member.now.held in
-    let fresh = c.args.member.now.fresh in
+    let was = member_held c.args.member.now in
     let medium_is : c.args.arrival.medium ≡ medium.Ike = search rules in
     let octets_are : c.deref.result.now ≡ c.args.arrival.octets = search rules in
     if_ok-as c.receive_ike.result
     (λ step. asked-as (λ calls it.
-    (subst (λ m. MemberGets m fresh held c.args.arrival.octets calls step) (sym medium_is) (subst (λ o. TakesMessage (member_listener fresh held) o calls step) octets_are it.0), it.1)))
+    (subst (λ m. MemberGets m was c.args.now c.args.arrival.octets calls step) (sym medium_is) (subst (λ o. TakesMessage (member_listener was c.args.now) o calls step) octets_are it.0), it.1)))
     c.receive_ike.ensures.takes
 
 pub returns-in-Esp-clause-takes : goal.returns-in-Esp-clause-takes
 returns-in-Esp-clause-takes g c =
-    let held = held_at c.args.member.now.held in
-    let fresh = c.args.member.now.fresh in
+    let was = member_held c.args.member.now in
     let medium_is : c.args.arrival.medium ≡ medium.Esp = search rules in
     let octets_are : c.arrival.inside.octets.items ≡ c.args.arrival.octets = search rules in
     let step = c.member_takes_packet.result in
-    asked-as (λ calls it. (subst (λ m. MemberGets m fresh held c.args.arrival.octets calls step) (sym medium_is) (subst (λ o. MemberTakes held o calls step) octets_are it.0), it.1)) c.member_takes_packet.ensures.takes
+    asked-as (λ calls it. (subst (λ m. MemberGets m was c.args.now c.args.arrival.octets calls step) (sym medium_is) (subst (λ o. MemberTakes was.held o calls step) octets_are it.0), it.1)) c.member_takes_packet.ensures.takes

@@ -9,39 +9,39 @@ use Rattle.run_ends.proofs.performers.member_performs.Goals as goal
 pub returns-in-Own-clause-acts : goal.returns-in-Own-clause-acts
 returns-in-Own-clause-acts g c = if_ok-as c.take_over.result
     (λ step. asked-as (λ calls it. rw c.in-Own.is
-    (owns (datagrams_of c.args.trace.now.past) c.args.member.now c.take_over.new.self calls step c.in-Own.member c.in-Own.spir (rw c.in-Own.is at c.requires.named) it.0 it.1)))
+    (owns (datagrams_of c.args.trace.now.past) c.args.now c.args.member.now c.take_over.new.self calls step c.in-Own.member c.in-Own.spir (rw c.in-Own.is at c.requires.named) it.0 it.1)))
     c.take_over.ensures.takes
 
 pub returns-in-Draw-clause-acts : goal.returns-in-Draw-clause-acts
 returns-in-Draw-clause-acts g c = asked-as
     (λ calls it. rw c.in-Draw.is
-    (draws (datagrams_of c.args.trace.now.past) c.args.member.now c.draw.new.self calls c.draw.result c.in-Draw.member c.in-Draw.spir (rw c.in-Draw.is at c.requires.named) it.0 it.1))
+    (draws (datagrams_of c.args.trace.now.past) c.args.now c.args.member.now c.draw.new.self calls c.draw.result c.in-Draw.member c.in-Draw.spir (rw c.in-Draw.is at c.requires.named) it.0 it.1))
     c.draw.ensures.draws
 
 pub returns-in-Send-clause-acts : goal.returns-in-Send-clause-acts
 returns-in-Send-clause-acts g c = if_ok-as c.send_data.result
     (λ step. asked-as (λ calls it. rw c.in-Send.is
-    (sends (datagrams_of c.args.trace.now.past) c.args.member.now c.send_data.new.self calls step c.in-Send.from c.in-Send.spir c.in-Send.payload (rw c.in-Send.is at c.requires.named)
+    (sends (datagrams_of c.args.trace.now.past) c.args.now c.args.member.now c.send_data.new.self calls step c.in-Send.from c.in-Send.spir c.in-Send.payload (rw c.in-Send.is at c.requires.named)
     (fits_send c.in-Send.from c.in-Send.spir c.in-Send.payload (rw c.in-Send.is at c.requires.fits)) (rw c.as_slice.ensures.value at it.0) (rw c.as_slice.ensures.value at it.1))))
     c.send_data.ensures.sends
 
 pub returns-in-Ask-clause-acts : goal.returns-in-Ask-clause-acts
 returns-in-Ask-clause-acts g c = if_ok-as c.ask.result
     (λ step. asked-as (λ calls it. rw c.in-Ask.is
-    (asks (datagrams_of c.args.trace.now.past) c.args.member.now c.ask.new.self calls step c.in-Ask.from c.in-Ask.spir c.in-Ask.request (rw c.in-Ask.is at c.requires.named)
+    (asks (datagrams_of c.args.trace.now.past) c.args.now c.args.member.now c.ask.new.self calls step c.in-Ask.from c.in-Ask.spir c.in-Ask.request (rw c.in-Ask.is at c.requires.named)
     (fits_ask c.in-Ask.from c.in-Ask.spir c.in-Ask.request (rw c.in-Ask.is at c.requires.fits)) (rw c.as_slice-in-Ask.ensures.value at it.0) (rw c.as_slice-in-Ask.ensures.value at it.1))))
     c.ask.ensures.asks
 
 pub returns-in-Again-clause-acts : goal.returns-in-Again-clause-acts
 returns-in-Again-clause-acts g c = if_ok-as c.again.result
     (λ step it. asks_for_none g.K.Keeper c.args.keeper.now (rw c.in-Again.is
-    (asks_again (datagrams_of c.args.trace.now.past) c.args.member.now c.args.member.now [] step c.in-Again.from c.in-Again.spir c.in-Again.id (rw c.in-Again.is at c.requires.named) it.0 it.1)))
+    (asks_again (datagrams_of c.args.trace.now.past) c.args.now c.args.member.now c.args.member.now [] step c.in-Again.from c.in-Again.spir c.in-Again.id (rw c.in-Again.is at c.requires.named) it.0 it.1)))
     c.again.ensures.resends
 
 pub returns-in-Sync-clause-acts : goal.returns-in-Sync-clause-acts
 returns-in-Sync-clause-acts g c = if_ok-as c.begin_sync.result
     (λ step. asked-as (λ calls it. rw c.in-Sync.is
-    (syncs (datagrams_of c.args.trace.now.past) c.args.member.now c.begin_sync.new.self calls step c.in-Sync.member c.in-Sync.spir (rw c.in-Sync.is at c.requires.named) it.0 it.1)))
+    (syncs (datagrams_of c.args.trace.now.past) c.args.now c.args.member.now c.begin_sync.new.self calls step c.in-Sync.member c.in-Sync.spir (rw c.in-Sync.is at c.requires.named) it.0 it.1)))
     c.begin_sync.ensures.syncs
 
 pub member_takes-requires-clause-short : goal.member_takes-requires-clause-short
@@ -50,7 +50,7 @@ member_takes-requires-clause-short g c = arrives-short (datagrams_of c.args.trac
 pub returns-in_default-clause-acts : goal.returns-in_default-clause-acts
 returns-in_default-clause-acts g c = if_ok-as c.member_takes.result
     (λ step. asked-as (λ calls.
-    takes (datagrams_of c.args.trace.now.past) c.args.member.now c.member_takes.new.member calls step c.args.event.now c.requires.named c.in_ok-arrival-in_default.arrival c.in_ok-arrival-in_default.ensures))
+    takes (datagrams_of c.args.trace.now.past) c.args.now c.args.member.now c.member_takes.new.member calls step c.args.event.now c.requires.named c.in_ok-arrival-in_default.arrival c.in_ok-arrival-in_default.ensures))
     c.member_takes.ensures.takes
 
 -- nothing was delivered, so no service executed anything

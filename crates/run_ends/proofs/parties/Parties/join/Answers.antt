@@ -12,7 +12,7 @@ pub returns-clause-joins : goal.returns-clause-joins
 returns-clause-joins c = λ past moment.
     let members : List (Option Holder) = c.self.inside.members.items in
     let view : EndsHeld = record { boxes = c.self.inside.boxes; config = c.self.inside.settings; peer = c.self.inside.peer.held; members = members } in
-    let holder : Holder = record { number = length members + 1; config = view.config; fresh = c.args.fresh; held = [] } in
+    let holder : Holder = record { number = length members + 1; config = view.config; fresh = c.args.fresh; held = []; numbers = no_ticket_numbers } in
     let says : Says (out.Member (length members + 1)) c.quiet.result = search rules in
     let pushed : c.push_reserved.new.self.items ≡ members ++ Some holder ∷ [] = search rules in
     subst (λ (s : EndsHeld). Acts past s moment (event.Join c.args.fresh) [] c.quiet.result (record view { members = c.push_reserved.new.self.items })) c.self.view_is

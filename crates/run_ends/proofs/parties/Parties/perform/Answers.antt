@@ -15,8 +15,8 @@ returns-in_default-clause-acts g c =
     let none : named_in at ≡ None = search rules in
     let leaves = ap (λ (v : EndsHeld). record v { peer = c.peer_performs.new.peer.held }) c.self.view_is in
     if_ok-as c.peer_performs.result
-    (λ step. asked-as (λ calls acts moment. subst (λ (v : EndsHeld). Acts past s moment at calls step v) (sym leaves)
-    (peer-plays past s c.requires.in_place at c.requires.asks calls step moment none c.self.inside.peer c.peer_performs.new.peer
+    (λ step. asked-as (λ calls acts. subst (λ (v : EndsHeld). Acts past s c.args.now at calls step v) (sym leaves)
+    (peer-plays past s c.requires.in_place at c.requires.asks calls step c.args.now none c.self.inside.peer c.peer_performs.new.peer
     (ap (λ (v : EndsHeld). v.peer) c.self.view_is) (c.self.invariant.1 ∙ ap (λ (v : EndsHeld). v.config.window) c.self.view_is) acts)))
     c.peer_performs.ensures.acts
 
@@ -37,7 +37,7 @@ returns-in-Some-index_mut-clause-acts g c =
     let members_are = ap (λ (v : EndsHeld). v.members) c.self.view_is in
     let leaves = ap (λ (v : EndsHeld). record v { members = set v.members place (Some now) }) c.self.view_is in
     if_ok-as c.member_performs.result
-    (λ step. asked-as (λ calls acts moment. subst (λ (v : EndsHeld). Acts past s moment at calls step v) (sym leaves)
-    (member-plays past s c.requires.in_place at c.requires.asks calls step moment c.in-Some.number place (sym c.named_in.ensures ∙ c.in-Some.is) c.index_mut.result.now c.place_of-place.ensures
+    (λ step. asked-as (λ calls acts. subst (λ (v : EndsHeld). Acts past s c.args.now at calls step v) (sym leaves)
+    (member-plays past s c.requires.in_place at c.requires.asks calls step c.args.now c.in-Some.number place (sym c.named_in.ensures ∙ c.in-Some.is) c.index_mut.result.now c.place_of-place.ensures
     (rw members_are at c.index_mut.ensures.value) c.in-Some-index_mut.member now c.in-Some-index_mut.is acts)))
     c.member_performs.ensures.acts

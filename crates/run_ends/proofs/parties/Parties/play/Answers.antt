@@ -11,5 +11,5 @@ returns-in-Some-clause-plays g c = asks_for_none g.K.Keeper c.args.keeper.now
 
 pub returns-in-None-clause-plays : goal.returns-in-None-clause-plays
 returns-in-None-clause-plays g c = if_ok-as c.act.result
-    (λ step. asked-as (λ calls it. acted-plays c.args.trace.now.past c.args.self.now c.args.now c.args.event.now calls step _ (sym c.refusal.ensures ∙ c.in-None.is) (it c.args.now)))
+    (λ step. asked-as (λ calls it. acted-plays c.args.trace.now.past c.args.self.now c.args.now c.args.event.now calls step _ (sym c.refusal.ensures ∙ c.in-None.is) it))
     c.act.ensures.acts
