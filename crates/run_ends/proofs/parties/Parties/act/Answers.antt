@@ -13,7 +13,7 @@ returns-in-Cluster-clause-acts g c = asks_for_none g.K.Keeper c.args.keeper.now 
     (subst (λ (s : Configuration). Configures s (λ at. (past : List Turn) (now : Moment) → Acts past c.args.self.now now at [] c.configure.result c.configure.new.self)) c.of-settings.ensures c.configure.ensures.configures _ refl c.args.trace.now.past c.args.now))
 
 pub returns-in-Join-clause-acts : goal.returns-in-Join-clause-acts
-returns-in-Join-clause-acts g c = if_ok-as c.join.result (λ step it. asks_for_none g.K.Keeper c.args.keeper.now (λ moment. rw c.in-Join.is (it c.args.trace.now.past c.args.now))) c.join.ensures.joins
+returns-in-Join-clause-acts g c = if_ok-as c.join.result (λ step it. asks_for_none g.K.Keeper c.args.keeper.now (rw c.in-Join.is (it c.args.trace.now.past c.args.now))) c.join.ensures.joins
 
 pub returns-in-Crash-clause-acts : goal.returns-in-Crash-clause-acts
-returns-in-Crash-clause-acts g c = asks_for_none g.K.Keeper c.args.keeper.now (λ moment. rw c.in-Crash.is (c.crash.ensures.crashes c.args.trace.now.past c.args.now))
+returns-in-Crash-clause-acts g c = asks_for_none g.K.Keeper c.args.keeper.now (rw c.in-Crash.is (c.crash.ensures.crashes c.args.trace.now.past c.args.now))
