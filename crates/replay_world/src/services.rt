@@ -4,10 +4,9 @@ ghost use Rattle.std.specs.Prelude.{◌≡◌, ℕ, map, Some, None, IfOk, Match
 ghost use Rattle.replay_world.specs.Crashes.{services_after};
 ghost use Rattle.replay_world.specs.Worlds.{IsServicePlace};
 ghost use Rattle.turn_laws.specs.Serving.{member_box};
-ghost use Rattle.turn_rules.specs.Fits.{member_of, named_in};
 ghost use Rattle.turn_rules.specs.States.{ended_in};
 
-use events::{Event, Party, Turn, Verdict};
+use events::{Event, Turn, Verdict};
 use ha_base::{Memory, Service};
 use std::alloc::Global;
 
@@ -44,35 +43,6 @@ pub(crate) fn drop_service(services: &mut Vec<Option<Box<dyn Service>>>, ended: 
     let Some(member) = ended else { return };
     if member > 0 && member <= services.len() as u64 {
         services[(member - 1) as usize] = None;
-    }
-}
-
-fn member_of(party: Party) -> Option<u64>
-    ensures { result ≡ member_of party }
-{
-    match party {
-        Party::Peer => None,
-        Party::Member(member) => Some(member),
-    }
-}
-
-/// The member that an event names, if it names one.
-pub(crate) fn named_in(event: &Event) -> Option<u64>
-    ensures { result ≡ named_in event.now }
-{
-    match event {
-        Event::Own { member, .. } => Some(*member),
-        Event::Draw { member, .. } => Some(*member),
-        Event::Crash { member } => Some(*member),
-        Event::Sync { member, .. } => Some(*member),
-        Event::Send { from, .. } => member_of(*from),
-        Event::Ask { from, .. } => member_of(*from),
-        Event::Again { from, .. } => member_of(*from),
-        Event::Deliver { to, .. } => member_of(*to),
-        Event::Alter { to, .. } => member_of(*to),
-        Event::Cut { to, .. } => member_of(*to),
-        Event::Inject { to, .. } => member_of(*to),
-        _ => None,
     }
 }
 

@@ -20,11 +20,11 @@ ghost use Rattle.replay_world.specs.Crashes.{ended_last};
 ghost use Rattle.replay_world.specs.Owning.{OwnedTold};
 ghost use Rattle.replay_world.specs.Worlds.{ServeNewest, boxes_of, lent_for, peer_service_of, run_of, services_of};
 
-use crate::services::{all_kept, drop_service, ended_in, named_in, place_of};
+use crate::services::{all_kept, drop_service, ended_in, place_of};
 use events::{Event, Turn};
 use ha_base::{Memory, Moment, Service};
 use keeper_book::{Gate, Keeper};
-use run_ends::Ends;
+use run_ends::{Ends, named_in};
 use std::alloc::Global;
 use turn_laws::{
     all_is_owned, all_synchronisations_catch_up, covers_are_caught_up, no_number_past_its_end,
