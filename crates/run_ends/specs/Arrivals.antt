@@ -2,12 +2,12 @@
 use Rattle.std.specs.Prelude.{ℕ, List, []}
 use Rattle.events.specs.declared.turn.Medium.{Medium}
 use Rattle.events.specs.declared.turn.Step.{Step}
+use Rattle.ha_base.specs.declared.outside.Moment.{Moment}
 use Rattle.keeper_book.specs.declared.calls.Call.{Call}
 use Rattle.turn_rules.specs.Deliveries.{MemberGets, PeerGets}
-use Rattle.turn_rules.specs.Held.{held_at}
 use Rattle.turn_rules.specs.Tasks as task
-use Rattle.cluster_member.specs.Members.{Holder, IsAfter}
-use Rattle.cluster_peer.specs.Slots.{IsPeerAfter, PeerWithRoom}
+use Rattle.cluster_member.specs.Members.{Holder, IsAfter, member_held}
+use Rattle.cluster_peer.specs.Slots.{IsPeerAfterAt, PeerWithRoom}
 
 -- an IKE message or an ESP packet is received by its rule
 abbrev pub MemberTakesIn : Medium → Moment → List ℕ → List Call → Step → Holder → Holder → Type 0

@@ -2,7 +2,7 @@
 
 ghost use Rattle.std.specs.Prelude.{◌≡◌, ◌<◌, ◌≤◌, IfOk, OnErr, None, length};
 ghost use Rattle.cluster_member.specs.Members.{IsAfter};
-ghost use Rattle.ha_base.specs.declared.limits.TheConstants.{DATAGRAM_OCTETS};
+ghost use Rattle.ha_base.specs.declared.limits.TheConstants.{DATAGRAM_OCTETS, NUMBER_END};
 ghost use Rattle.ha_base.specs.declared.services.TheConstants.{MOST_REQUESTS};
 ghost use Rattle.keeper_book.specs.Asks.{AsksFor};
 ghost use Rattle.turn_rules.specs.Deliveries.{MemberTakes};
@@ -51,6 +51,7 @@ pub(crate) fn member_takes<K: Keeper>(
     now: Moment,
     arrival: Arrival,
 ) -> Result<Step, Memory>
+    requires moment { now.0 < NUMBER_END }
     requires short { IsShort arrival }
     requires served_few { count service.old < MOST_REQUESTS }
     ensures takes { IfOk result (λ step. AsksFor K.Keeper keeper.old keeper.new (λ calls.

@@ -5,6 +5,7 @@ ghost use Rattle.events.specs.Events.{plain};
 ghost use Rattle.events.specs.Ranges.{Fits};
 ghost use Rattle.turn_rules.specs.Datagrams.{datagrams_of};
 ghost use Rattle.turn_rules.specs.Services.{Serves};
+ghost use Rattle.ha_base.specs.declared.limits.TheConstants.{NUMBER_END};
 ghost use Rattle.ha_base.specs.declared.services.TheConstants.{MOST_REQUESTS};
 ghost use Rattle.keeper_book.specs.Gates.{told_calls};
 ghost use Rattle.run_ends.specs.Asked.{AsksAsSeen, newest_calls};
@@ -59,6 +60,7 @@ impl Ends {
         event: Event,
     ) -> Result<(), Memory>
         requires told { told_calls keeper.old ≡ Some [] }
+        requires moment { now.0 < NUMBER_END }
         requires fits { Fits (plain event) }
         requires room { count service.old < MOST_REQUESTS }
         ensures grows { OnOk result (Grows self.old now event self.new) }

@@ -7,6 +7,7 @@ ghost use Rattle.events.specs.Ranges.{Fits};
 ghost use Rattle.cluster_member.specs.Members.{AsksInVain};
 ghost use Rattle.events.specs.declared.turn.Turn.{Turn};
 ghost use Rattle.ha_base.specs.declared.outside.Moment.{Moment};
+ghost use Rattle.ha_base.specs.declared.limits.TheConstants.{NUMBER_END};
 ghost use Rattle.ha_base.specs.declared.services.TheConstants.{MOST_REQUESTS};
 ghost use Rattle.keeper_book.specs.Asks.{AsksFor};
 ghost use Rattle.replay_set.specs.Window.{IsWindowSize};
@@ -96,6 +97,7 @@ impl Parties {
         trace: &Trace,
         event: &Event,
     ) -> Result<Step, Memory>
+        requires moment { now.0 < NUMBER_END }
         requires fits { Fits (plain event.now) }
         requires room { count service.old < MOST_REQUESTS }
         requires short { AllByRecursion IsShort (datagrams_of trace.now.past) }
@@ -126,6 +128,7 @@ impl Parties {
         event: &Event,
     ) -> Result<Step, Memory>
         requires unrefused { run_refusal (state_of trace.now.past self.old) event.now ≡ None }
+        requires moment { now.0 < NUMBER_END }
         requires fits { Fits (plain event.now) }
         requires room { count service.old < MOST_REQUESTS }
         requires short { AllByRecursion IsShort (datagrams_of trace.now.past) }

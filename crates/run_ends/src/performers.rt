@@ -8,6 +8,7 @@ ghost use Rattle.events.specs.Events.{plain};
 ghost use Rattle.events.specs.Ranges.{Fits};
 ghost use Rattle.events.specs.declared.verdict.Refusal.TheVariants as refusal;
 ghost use Rattle.ha_base.specs.declared.outside.Moment.{Moment};
+ghost use Rattle.ha_base.specs.declared.limits.TheConstants.{NUMBER_END};
 ghost use Rattle.ha_base.specs.declared.services.TheConstants.{MOST_REQUESTS};
 ghost use Rattle.keeper_book.specs.Asks.{AsksFor};
 ghost use Rattle.turn_rules.specs.Datagrams.{datagrams_of, delivery_of};
@@ -45,6 +46,7 @@ impl Parties {
     ) -> Result<Step, Memory>
         requires asks { asks_an_end event.now ≡ true }
         requires unrefused { run_refusal (state_of trace.now.past self.old) event.now ≡ None }
+        requires moment { now.0 < NUMBER_END }
         requires fits { Fits (plain event.now) }
         requires room { count service.old < MOST_REQUESTS }
         requires short { AllByRecursion IsShort (datagrams_of trace.now.past) }
@@ -82,6 +84,7 @@ fn member_performs<K: Keeper>(
     requires asks { asks_an_end event.now ≡ true }
     requires named { named_in event.now ≡ Some member.old.number }
     requires arrives { Arrives (datagrams_of trace.now.past) (delivery_of event.now) }
+    requires moment { now.0 < NUMBER_END }
     requires fits { Fits (plain event.now) }
     requires room { count service.old < MOST_REQUESTS }
     requires short { AllByRecursion IsShort (datagrams_of trace.now.past) }

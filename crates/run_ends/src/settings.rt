@@ -2,6 +2,7 @@
 
 ghost use Rattle.std.specs.Prelude.{◌≡◌, ◌≤◌, length};
 ghost use Rattle.cluster_member.specs.Members.{configuration_of};
+ghost use Rattle.ticket_issuing.specs.Issuing.{IsTicketCounter};
 ghost use Rattle.turn_rules.specs.Configurations.{default_configuration, first_ticket_counter};
 ghost use Rattle.turn_rules.specs.Configurations.{first_ticket_key, gateway_kind, gateway_of};
 
@@ -51,7 +52,8 @@ fn ticket_counter() -> CounterName
 
 // the first ticket key, where its octets are those of a key
 fn ticket_key(octets: &[u8]) -> Option<Key>
-    ensures { result ≡ first_ticket_key octets.now }
+    ensures key { result ≡ first_ticket_key octets.now }
+    ensures named { IsTicketCounter result }
 {
     Key::new(ticket_counter(), octets)
 }
@@ -107,7 +109,8 @@ impl Settings {
 
     /// How a member is configured.
     pub(crate) fn config(&self) -> Config
-        ensures { configuration_of result ≡ self.now }
+        ensures config { configuration_of result ≡ self.now }
+        ensures named { IsTicketCounter result.ticket_key }
     {
         Config {
             identity: self.identity,
