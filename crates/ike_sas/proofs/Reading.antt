@@ -13,6 +13,7 @@ use Rattle.ike_values.specs.Notifications.{first_notify}
 use Rattle.ike_values.specs.Values.{PayloadValue}
 use Rattle.ike_values.specs.declared.fault.Bad.{Bad}
 use Rattle.ike_values.specs.declared.notify_types.TheConstants.{REQUEST_DATA, TICKET_NACK}
+use Rattle.sk_payload.specs.declared.open.Opened.{Opened}
 
 -- nothing is said of tickets in front of these payloads
 record SaysNothing (front : List PayloadValue) : Type 0 where
@@ -41,14 +42,20 @@ counts lifetime ticket short = grind (arith, nat_tests)
 
 issued : (lifetime : ℕ) (ticket : List ℕ) → length ticket ≤ 512 → lifetime < 2 ^ 32 →
     ticket_in (ticket_payload lifetime ticket ∷ []) ≡ Some (record { lifetime = lifetime; octets = ticket })
-issued lifetime ticket short within = rw (counts lifetime ticket short) (ap (λ n. Some (record { lifetime = n; octets = ticket })) (from_be_bytes-to_be_bytes_4 lifetime within))
+issued lifetime ticket short within =
+    let same = from_be_bytes-to_be_bytes_4 lifetime within in
+    rw (counts lifetime ticket short) (ap (λ n. Some (record { lifetime = n; octets = ticket })) same)
+
+after_answer : (request : Opened) (told : List ℕ) → SaysNothing (answer_payloads request told)
+after_answer request told = nothing_in_answer (error_of request) request.inner told
 
 pub answers_are_read : TicketAnswersAreRead
 answers_are_read request told (Issued lifetime seal) short within =
-    let front : SaysNothing (answer_payloads request told) = nothing_in_answer (error_of request) request.inner told in (
-      rw (front.ticket (ticket_payload lifetime seal.sealed.octets ∷ [])) (issued lifetime seal.sealed.octets short within),
-      rw (front.nack (ticket_payload lifetime seal.sealed.octets ∷ [])) refl,
+    let front = after_answer request told in
+    let rest = ticket_payload lifetime seal.sealed.octets ∷ [] in (
+      rw (front.ticket rest) (issued lifetime seal.sealed.octets short within),
+      rw (front.nack rest) refl,
     )
 answers_are_read request told Declined short within =
-    let front : SaysNothing (answer_payloads request told) = nothing_in_answer (error_of request) request.inner told in
+    let front = after_answer request told in
     (rw (front.ticket (nack_payload ∷ [])) refl, rw (front.nack (nack_payload ∷ [])) refl)

@@ -18,15 +18,18 @@ error_size (UnsupportedCriticalPayload kind) = omega arith
 error_size InvalidSyntax = omega arith
 error_size NoProposalChosen = omega arith
 
-reply_size : (asked : Option (List ℕ)) (told : List ℕ) → length told ≤ 256 → length (chain_written (reply_to asked told)) ≤ 264
+reply_size : (asked : Option (List ℕ)) (told : List ℕ) → length told ≤ 256 →
+    length (chain_written (reply_to asked told)) ≤ 264
 reply_size (Some octets) told short = omega (arith, short, chain_longer [] (notify_of REPLY_DATA told))
 reply_size None told short = omega arith
 
-replies_size : (inner : Result (List PayloadValue) Bad) (told : List ℕ) → length told ≤ 256 → length (chain_written (reply_payloads inner told)) ≤ 264
+replies_size : (inner : Result (List PayloadValue) Bad) (told : List ℕ) → length told ≤ 256 →
+    length (chain_written (reply_payloads inner told)) ≤ 264
 replies_size (Ok payloads) told short = reply_size (first_notify REQUEST_DATA payloads) told short
 replies_size (Err bad) told short = omega arith
 
-answer_size : (error : Option RequestError) (inner : Result (List PayloadValue) Bad) (told : List ℕ) → length told ≤ 256 →
+pub answer_size : (error : Option RequestError) (inner : Result (List PayloadValue) Bad) (told : List ℕ) →
+    length told ≤ 256 →
     length (chain_written (answer_by error inner told)) ≤ 264
 answer_size (Some error) inner told short = error_size error
 answer_size None inner told short = replies_size inner told short

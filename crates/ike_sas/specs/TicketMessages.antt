@@ -49,8 +49,8 @@ abbrev pub ticket_answer_payload : TicketAnswer → PayloadValue
 ticket_answer_payload (Issued lifetime seal) = ticket_payload lifetime seal.sealed.octets
 ticket_answer_payload Declined = nack_payload
 
--- the inner payloads of the answer to a request for a ticket: what is said of the ticket comes behind
--- the reply of the service that executed the request
+-- the inner payloads of the answer to a request for a ticket: what is said of the ticket comes
+-- behind the reply of the service that executed the request
 abbrev pub payloads_with_ticket : Opened → List ℕ → TicketAnswer → List PayloadValue
 payloads_with_ticket request told answer =
     answer_payloads request told ++ ticket_answer_payload answer ∷ []

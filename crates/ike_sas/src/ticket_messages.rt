@@ -64,8 +64,8 @@ fn asks_ticket_inside(request: &Opened) -> bool
     }
 }
 
-/// A ticket is due in the answer to a request: it is one that is executed, and it asks for a ticket,
-/// by a notification with any data.
+/// A ticket is due in the answer to a request: it is one that is executed, and it asks for a
+/// ticket, by a notification with any data.
 pub fn is_ticket_due(request: &Opened) -> bool
     ensures { result ≡ is_ticket_due request.now }
 {

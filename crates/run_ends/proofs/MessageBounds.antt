@@ -76,25 +76,8 @@ pub synced-few : (ids : MessageIds) → length (chain_written (response_of ids))
 synced-few ids = omega (arith, notify-length IKEV2_MESSAGE_ID_SYNC (message_ids_spelling ids))
 
 -- and of a response
-error-few : (why : RequestError) → length (chain_written (error_payload why ∷ [])) ≤ 264
-error-few (error.UnsupportedCriticalPayload kind) = omega arith
-error-few error.InvalidSyntax = omega arith
-error-few error.NoProposalChosen = omega arith
-
 pub answer-few : (request : Opened) (reply : List ℕ) → length reply ≤ 256 → length (chain_written (answer_payloads request reply)) ≤ 264
-answer-few request reply size = by_error (error_of request)
-  where
-    by_data : (x : Option (List ℕ)) → length (chain_written (reply_to x reply)) ≤ 264
-    by_data None = omega arith
-    by_data (Some octets) = omega (arith, size, notify-length REPLY_DATA reply)
-
-    by_inner : (inner : Result (List PayloadValue) Bad) → length (chain_written (reply_payloads inner reply)) ≤ 264
-    by_inner (Ok payloads) = by_data (first_notify REQUEST_DATA payloads)
-    by_inner (Err bad) = omega arith
-
-    by_error : (x : Option RequestError) → length (chain_written (answer_by x request.inner reply)) ≤ 264
-    by_error None = by_inner request.inner
-    by_error (Some why) = error-few why
+answer-few request reply size = answer_size (error_of request) request.inner reply size
 
 -- and with what is said of a ticket
 pub answered-few : (request : Opened) (reply : List ℕ) (ticket : Option TicketAnswer) → length reply ≤ 256 → IfSome ticket IsShortTicket → length (chain_written (with_ticket (answer_payloads request reply) ticket)) ≤ 788
