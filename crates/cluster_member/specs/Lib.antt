@@ -1,4 +1,5 @@
 pub mod Advances
+pub mod Answering
 pub mod Arriving
 pub mod Genuine
 pub mod Holdings

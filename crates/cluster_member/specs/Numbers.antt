@@ -23,3 +23,13 @@ ReadiesBoth first at second calls result now then = Ready first at calls
     (λ why more. LeavesBoth more result (Err why) now (record first { high = high }) then second)
     (λ above more. LeavesBoth more result (Ok (next_number second)) now
     (record first { high = high }) then (record second { next = second.next + 1; high = above })))
+
+-- the same calls where that one is not given yet
+abbrev pub CoversBoth : Reach → ℕ → Reach → List Call → Result (Unit {0}) Stop → Reach → Reach
+    → Type 0
+CoversBoth first at second calls result now then = Ready first at calls
+    (λ why rest. LeavesBoth rest result (Err why) now first then second)
+    (λ high rest. Ready second second.next rest
+    (λ why more. LeavesBoth more result (Err why) now (record first { high = high }) then second)
+    (λ above more. LeavesBoth more result (Ok tt) now
+    (record first { high = high }) then (record second { high = above })))

@@ -1,5 +1,6 @@
 ghost use Rattle.std.specs.Prelude.{◌≡◌, ◌≤◌, [], IfOk, OnErr, length};
 ghost use Rattle.ha_base.specs.declared.services.TheConstants.{LONGEST_REQUEST};
+ghost use Rattle.ike_sas.specs.Answers.{request_payloads};
 ghost use Rattle.ike_window.specs.Asking.{FitsBeside};
 ghost use Rattle.keeper_book.specs.Asks.{AsksFor};
 ghost use Rattle.turn_rules.specs.Held.{held_at};
@@ -110,8 +111,8 @@ impl Member {
     ) -> Result<Step, Memory>
         requires { length request.now ≤ LONGEST_REQUEST }
         ensures asks { IfOk result (λ step. AsksFor K.Keeper keeper.old keeper.new (λ calls.
-            AsksOf (held_at self.old.held spir) request.now calls step
-            × IsAfter (task.Ask spir request.now) calls step self.old self.new)) }
+            AsksOf (held_at self.old.held spir) (request_payloads request.now) calls step
+            × IsAfter (task.Ask spir (request_payloads request.now)) calls step self.old self.new)) }
         ensures err { OnErr result ((self.new ≡ self.old) × (keeper.new ≡ keeper.old)) }
     {
         let room = RequestRoom::new(self.alloc, request)?;

@@ -10,6 +10,7 @@ mod member;
 mod messages;
 mod ready;
 mod refusals;
+mod rooms;
 mod synchronising;
 
 pub use config::Config;

@@ -7,6 +7,8 @@ ghost use Rattle.turn_rules.specs.Held.{held_at};
 ghost use Rattle.turn_rules.specs.MemberPackets.{MemberReceives};
 ghost use Rattle.turn_rules.specs.Packets.{LiesWithin};
 ghost use Rattle.turn_rules.specs.Tasks as task;
+ghost use Rattle.turn_rules.specs.TicketNumbers.{no_ticket_numbers};
+ghost use Rattle.ticket_issuing.specs.Issuing.{IsTicketCounter};
 ghost use Rattle.cluster_member.specs.Genuine.{GenuineAreAccepted};
 ghost use Rattle.cluster_member.specs.Members.{AsksInVain, IsAfter, IsAfterPacket, configuration_of};
 ghost use Rattle.ha_base.specs.declared.limits.TheConstants.{DATAGRAM_OCTETS, PAYLOAD_OCTETS};
@@ -18,53 +20,68 @@ use crate::refusals;
 use esp_packets::sealed_packets_open;
 use esp_sas::Room;
 use events::{EspVerdict, Step, Verdict};
-use ha_base::Memory;
+use ha_base::{Identity, Memory};
 use keeper_book::{Keeper, KeeperFault};
 use std::alloc::Global;
 use std::marker::Model;
+use ticket_issuing::Issuer;
 
 /// A member of the cluster, by what it holds.
 #[derive(Drop)]
 pub struct Member {
     pub(crate) alloc: Global,
     number: u32,
-    config: Config,
+    identity: Identity,
+    window: u32,
     pub(crate) fresh: [u8; 24],
+    pub(crate) issuer: Issuer,
     pub(crate) holdings: Holdings,
 }
 
 impl Model for Member {
     ghost use Rattle.replay_set.specs.Window.{IsWindowSize};
-    ghost use Rattle.cluster_member.specs.Members.{Holder, configuration_of};
+    ghost use Rattle.cluster_member.specs.Members.{Holder, configuration_with};
 
     ghost Value = { Holder };
 
     ghost view = { λ m. record {
       number = m.number;
-      config = configuration_of m.config;
+      config = configuration_with m.identity m.window m.issuer;
       fresh = m.fresh;
       held = m.holdings.held;
+      numbers = m.issuer.numbers;
     } };
 
-    ghost invariant = { λ m. IsWindowSize m.config.window };
+    ghost invariant = { λ m. IsWindowSize m.window };
 }
 
 impl Member {
-    /// A member that holds nothing. Its fresh octets are its own alone.
+    /// A member that holds nothing, and has leased no numbers of tickets. Its fresh octets are its
+    /// own alone.
     pub fn join(alloc: Global, number: u32, config: Config, fresh: [u8; 24]) -> Member
-        requires { IsWindowSize config.window }
+        requires window { IsWindowSize config.window }
+        requires ticket_key { IsTicketCounter config.ticket_key }
         ensures { result ≡ record {
           number = number;
           config = configuration_of config;
           fresh = fresh;
           held = [];
+          numbers = no_ticket_numbers;
         } }
     {
+        let Config {
+            identity,
+            lifetime,
+            window,
+            ticket_key,
+        } = config;
         Member {
             alloc,
             number,
-            config,
+            identity,
+            window,
             fresh,
+            issuer: Issuer::new(ticket_key, lifetime),
             holdings: Holdings::new(alloc),
         }
     }
@@ -85,7 +102,7 @@ impl Member {
                     epoch: taken.epoch,
                     bases: taken.bases,
                 };
-                self.holdings.put(Holding::begin(taken, self.config.window));
+                self.holdings.put(Holding::begin(taken, self.window));
                 Ok(Step::quiet(verdict))
             }
             Err(fault) => match refusals::of_takeover(fault) {
