@@ -2,3 +2,4 @@ pub mod Associations
 pub mod Genuine
 pub mod Messages
 pub mod Slots
+pub mod Tickets

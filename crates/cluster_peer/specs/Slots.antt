@@ -37,7 +37,13 @@ slot_noted (esp.Accepted counter packet) slot =
     record slot { window = with_noted slot.window packet.number }
 slot_noted answer slot = slot
 
--- what the peer is after a task, whatever the moment is
+-- what the peer is after a task at a moment
+pub record IsPeerAfterAt (now : Moment) (asked : Task) (step : Step)
+    (old new : PeerWithRoom) : Type 0 where
+  pub window : new.window ≡ old.window
+  pub holds : new.held ≡ peer_after old.window now asked step old.held
+
+-- the same, whatever the moment is
 pub record IsPeerAfter (asked : Task) (step : Step) (old new : PeerWithRoom) : Type 0 where
   pub window : new.window ≡ old.window
   pub holds : (now : Moment) → new.held ≡ peer_after old.window now asked step old.held

@@ -1,25 +1,27 @@
-ghost use Rattle.std.specs.Prelude.{◌≡◌, ◌+◌, ◌<◌, ◌≤◌, [], Some, IfOk, IsOk, OnErr, length};
+ghost use Rattle.std.specs.Prelude.{◌≡◌, ◌+◌, ◌<◌, ◌≤◌, [], Some, IfOk, IsOk, OnErr, false, length};
 ghost use Rattle.replay_set.specs.Window.{IsWindowSize};
 ghost use Rattle.keeper_book.specs.CounterEnds.{end_of};
 ghost use Rattle.keeper_book.specs.declared.counters.Counter.TheVariants as counter;
 ghost use Rattle.turn_rules.specs.Packets.{LiesWithin};
-ghost use Rattle.turn_rules.specs.Peers.{clashes};
+ghost use Rattle.turn_rules.specs.Held.{first_some};
 ghost use Rattle.turn_rules.specs.Messages.{Resends, TakesInner};
-ghost use Rattle.turn_rules.specs.PeerMessages.{SlotAnswers, SlotAsks, SlotSendsRequest, has_spis, slot_ike};
+ghost use Rattle.turn_rules.specs.PeerMessages.{KeepsTicket, SlotAnswers, SlotAsks, SlotSendsRequest, has_spis, slot_ike};
 ghost use Rattle.turn_rules.specs.Services.{Serves};
-ghost use Rattle.turn_rules.specs.Slots.{SlotReceives, SlotSends, entered_slot, peer_counter, higher_of, slot_after};
+ghost use Rattle.turn_rules.specs.Slots.{SlotReceives, SlotSends, clashes, entered_slot, has_spir, higher_of, peer_counter, receives_at, slot_after};
 ghost use Rattle.turn_rules.specs.Tasks as task;
 ghost use Rattle.ike_window.specs.Asking.{FitsBeside};
 ghost use Rattle.ike_window.specs.Requests.{IsNewRequest};
 ghost use Rattle.ike_window.specs.Windows.{IsAnswered};
 ghost use Rattle.cluster_peer.specs.Slots.{slot_noted};
 ghost use Rattle.ha_base.specs.declared.limits.TheConstants.{DATAGRAM_OCTETS, PAYLOAD_OCTETS};
+ghost use Rattle.ha_base.specs.declared.outside.Moment.{Moment};
 ghost use Rattle.ha_base.specs.declared.services.TheConstants.{MOST_REQUESTS};
 
 use crate::names::{ike_keys, name_at};
+use crate::tickets::{Ticket, given_ticket};
 use esp_sas::{InboundSa, OutboundSa, Room};
 use events::{EspVerdict, Refusal, Step, Verdict};
-use ha_base::{End, Memory, Service};
+use ha_base::{End, Memory, Moment, Service};
 use ike_sas::IkeSa;
 use keeper_book::{Counter, Record};
 use request_exchange::{AnswerRoom, RequestRoom};
@@ -28,9 +30,10 @@ use spend_once::Lot;
 use std::alloc::Global;
 use std::marker::Model;
 
-/// An association of the peer: the ESP numbers and the IVs that it may still send, what it sends and
-/// receives packets with, what it holds of IKE messages, and the greatest Message ID of the cluster's
-/// that it knows of.
+/// An association of the peer: whether it is live, which it is until the peer forgets it, the ESP
+/// numbers and the IVs that it may still send, what it sends and receives packets with, what it holds
+/// of IKE messages, the greatest Message ID of the cluster's that it knows of, and the last ticket
+/// that came.
 #[derive(Drop)]
 pub struct Association {
     pub(crate) sa: Record,
@@ -38,6 +41,8 @@ pub struct Association {
     pub(crate) ivs: Lot,
     pub(crate) ike: IkeSa,
     pub(crate) highest: Option<u32>,
+    live: bool,
+    ticket: Option<Ticket>,
     outbound: OutboundSa,
     inbound: InboundSa,
 }
@@ -50,6 +55,7 @@ impl Model for Association {
 
     ghost view = { λ a. record {
       sa = a.sa;
+      live = a.live;
       next = a.lot.next;
       window = a.inbound.window;
       iv = a.ivs.next;
@@ -57,6 +63,7 @@ impl Model for Association {
       asked = a.ike.asked;
       answered = a.ike.answered;
       highest = a.highest;
+      ticket = a.ticket;
     } };
 
     ghost invariant = { λ a. IsOfRecord a.sa a.lot a.outbound a.inbound
@@ -98,6 +105,8 @@ impl Association {
                 true,
             ),
             highest: (sa.starts.ask as u32).checked_sub(1),
+            live: true,
+            ticket: None,
             outbound: OutboundSa::new(
                 name_at(End::Peer, &sa, Counter::EspOut),
                 sa.child.to_cluster.as_slice(),
@@ -115,26 +124,33 @@ impl Association {
         }
     }
 
-    /// The responder's SPI.
-    pub fn spir(&self) -> u64
-        ensures { result ≡ self.now.sa.spir }
+    /// It is live and has this responder's SPI.
+    pub fn has_spir(&self, spir: u64) -> bool
+        ensures { result ≡ has_spir spir self.now }
     {
-        self.sa.spir
+        self.live && self.sa.spir == spir
     }
 
-    /// The ESP SPI at which the peer receives.
-    pub fn spi(&self) -> u32
-        ensures { result ≡ self.now.sa.spi_out }
+    /// It is live and receives ESP packets at this SPI.
+    pub fn receives_at(&self, spi: u32) -> bool
+        ensures { result ≡ receives_at spi self.now }
     {
-        self.sa.spi_out
+        self.live && self.sa.spi_out == spi
     }
 
-    /// The other association has the same responder's SPI, or the peer would receive at the same
-    /// SPI.
+    /// It has the responder's SPI of another association, live or not, or it receives where that one
+    /// would.
     pub fn is_clash(&self, sa: &Record) -> bool
-        ensures { result ≡ clashes sa.now self.now.sa }
+        ensures { result ≡ clashes sa.now self.now }
     {
-        self.sa.spir == sa.spir || self.sa.spi_out == sa.spi_out
+        self.sa.spir == sa.spir || self.receives_at(sa.spi_out)
+    }
+
+    /// Closes the peer's end. Nobody is told, and nothing is sent or received there from then on.
+    pub fn forget(&mut self)
+        ensures { self.new ≡ record self.old { live = false } }
+    {
+        self.live = false;
     }
 
     /// Sends a payload of at most 1,400 octets. It is refused `Exhausted` exactly where the counter
@@ -181,19 +197,19 @@ impl Association {
         &self.ike
     }
 
-    /// The association has these SPIs, the initiator's and the responder's.
+    /// It is live and has these SPIs, the initiator's and the responder's.
     pub fn has_spis(&self, spii: u64, spir: u64) -> bool
         ensures { result ≡ has_spis spii spir self.now }
     {
-        self.sa.spii == spii && self.sa.spir == spir
+        self.sa.spii == spii && self.has_spir(spir)
     }
 
-    /// Asks for the execution of a request (RFC 7296, sections 2.2 and 2.3). It is refused
-    /// `WindowFull` with the least Message ID that is outstanding where the window has no room, and
+    /// Sends a request (RFC 7296, sections 2.2 and 2.3). It is refused `WindowFull` with the least Message ID that is outstanding where the window has no room, and
     /// `Exhausted` where no Message ID or no IV is left. No memory is taken.
     pub fn ask(&mut self, room: RequestRoom) -> Step
         ensures asks { SlotAsks self.old room result }
-        ensures after { self.new ≡ slot_after (task.Ask self.old.sa.spir room) result self.old }
+        ensures after { (now : Moment) → self.new
+            ≡ slot_after now (task.Ask self.old.sa.spir room) result self.old }
         ensures sa { self.new.sa ≡ self.old.sa }
     {
         match self.ike.may_ask(self.ike.next()) {
@@ -206,7 +222,8 @@ impl Association {
     fn send_request(&mut self, room: RequestRoom) -> Step
         requires fits { FitsBeside self.old.ask self.old.asked }
         ensures sends { SlotSendsRequest self.old room result }
-        ensures after { self.new ≡ slot_after (task.Ask self.old.sa.spir room) result self.old }
+        ensures after { (now : Moment) → self.new
+            ≡ slot_after now (task.Ask self.old.sa.spir room) result self.old }
         ensures sa { self.new.sa ≡ self.old.sa }
     {
         let id = self.ike.next();
@@ -240,7 +257,7 @@ impl Association {
             request.now.header.id }
         requires room { count service.old < MOST_REQUESTS }
         ensures answers { SlotAnswers self.old request.now [] result }
-        ensures after { self.new ≡ slot_after task.Receive result self.old }
+        ensures after { (now : Moment) → self.new ≡ slot_after now task.Receive result self.old }
         ensures sa { self.new.sa ≡ self.old.sa }
         ensures serves { Serves count last gives service.old result.served service.new }
     {
@@ -248,23 +265,41 @@ impl Association {
             Some(iv) => {
                 let name = name_at(End::Peer, &self.sa, Counter::Answer);
                 self.highest = Some(higher(self.highest, request.header.id));
-                request_exchange::answer(&mut self.ike, room, name, request, service, iv)
+                request_exchange::answer(&mut self.ike, room, name, request, service, None, iv)
             }
             None => Step::quiet(Verdict::Refused(Refusal::Exhausted)),
         }
     }
 
-    /// The response to an outstanding request came, which ends by it (RFC 7296, section 2.1). An
-    /// error is want of memory, and the association is then as it was.
-    pub fn take_reply(&mut self, alloc: Global, response: &Opened) -> Result<Step, Memory>
+    /// The response to an outstanding request came at this moment. The request ends by it (RFC 7296,
+    /// section 2.1), and a ticket that it gives is kept in the place of the last one (RFC 5723,
+    /// section 4.1). An error is want of memory, and the association is then as it was.
+    pub fn take_reply(
+        &mut self,
+        alloc: Global,
+        now: Moment,
+        response: &Opened,
+    ) -> Result<Step, Memory>
         requires good { IsOk response.now.inner }
-        ensures takes { IfOk result (TakesInner (peer_counter self.old.sa counter.Ask)
+        ensures takes { IfOk result (TakesInner KeepsTicket (peer_counter self.old.sa counter.Ask)
             response.now.header.id response.now.inner) }
-        ensures after { IfOk result (λ step. self.new ≡ slot_after task.Receive step self.old) }
+        ensures after { IfOk result (λ step. self.new ≡ slot_after now task.Receive step self.old) }
         ensures sa { self.new.sa ≡ self.old.sa }
         ensures err { OnErr result (self.new ≡ self.old) }
     {
+        let ticket = given_ticket(alloc, now, response)?;
         let name = name_at(End::Peer, &self.sa, Counter::Ask);
-        request_exchange::take_reply(alloc, &mut self.ike, name, response)
+        let step = request_exchange::take_reply_with_ticket(alloc, &mut self.ike, name, response)?;
+        self.keep_ticket(ticket);
+        Ok(step)
+    }
+
+    // A ticket that came takes the place of the last one.
+    fn keep_ticket(&mut self, ticket: Option<Ticket>)
+        ensures { self.new ≡ record self.old { ticket = first_some ticket self.old.ticket } }
+    {
+        if ticket.is_some() {
+            self.ticket = ticket;
+        }
     }
 }

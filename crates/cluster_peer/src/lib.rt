@@ -7,5 +7,6 @@ mod names;
 mod peer;
 mod slots;
 mod synchronising;
+mod tickets;
 
 pub use peer::Peer;

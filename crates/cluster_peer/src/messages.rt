@@ -2,6 +2,7 @@
 
 ghost use Rattle.std.specs.Prelude.{◌≡◌, ◌<◌, None, [], map, IfOk, MatchOption, OnErr};
 ghost use Rattle.std.specs.Option.{option_map};
+ghost use Rattle.ha_base.specs.declared.outside.Moment.{Moment};
 ghost use Rattle.ha_base.specs.declared.services.TheConstants.{MOST_REQUESTS};
 ghost use Rattle.turn_rules.specs.Messages.{TakesArrival, TakesMessage};
 ghost use Rattle.turn_rules.specs.PeerMessages.{PeerAsks, PeerResends, has_spis, peer_listener, slot_ike};
@@ -15,7 +16,7 @@ ghost use Rattle.ike_sas.specs.declared.arrival.Arrival.TheVariants as arrival;
 use crate::association::Association;
 use crate::slots::{Slots, place_of};
 use events::{IkeDrop, Refusal, Step, Verdict};
-use ha_base::{End, Memory, Service};
+use ha_base::{End, Memory, Moment, Service};
 use ike_sas::{
     Arrival, Associations, Draft, IKE_SESSION_RESUME, IkeSa, SYNC_RESPONSE_OCTETS, receive,
 };
@@ -23,7 +24,7 @@ use request_exchange::{AnswerRoom, RequestRoom, drop_message, repeat};
 use sk_payload::Opened;
 use std::alloc::Global;
 
-/// Where the association of an initiator's and a responder's SPI stands.
+/// Where the live association of an initiator's and a responder's SPI stands.
 fn place_of_spis(items: &[Association], spii: u64, spir: u64) -> Option<usize>
     ensures { MatchOption result (first_slot (has_spis spii spir) items.now ≡ None)
         (λ place. IsFirstSlot (has_spis spii spir) place items.now) }
@@ -49,11 +50,11 @@ impl Associations for Slots {
 }
 
 impl Slots {
-    /// Asks in an association for the execution of a request.
+    /// Sends a request in an association.
     pub fn ask(&mut self, spir: u64, room: RequestRoom) -> Step
         ensures asks { PeerAsks spir self.old.slots room result }
-        ensures after { self.new.slots
-            ≡ map (slot_after (task.Ask spir room) result) self.old.slots }
+        ensures after { (now : Moment) → self.new.slots
+            ≡ map (slot_after now (task.Ask spir room) result) self.old.slots }
     {
         match place_of(&self.items, spir) {
             Some(place) => {
@@ -74,31 +75,33 @@ impl Slots {
         }
     }
 
-    /// Takes an IKE message that came. An error is want of memory; then nothing was executed or
-    /// changed.
+    /// Takes an IKE message that came at this moment. An error is want of memory; then nothing was
+    /// executed or changed.
     pub fn receive_ike(
         &mut self,
         alloc: Global,
+        now: Moment,
         service: &mut Box<dyn Service>,
         bytes: &[u8],
     ) -> Result<Step, Memory>
         requires { count service.old < MOST_REQUESTS }
         ensures takes { IfOk result (TakesMessage (peer_listener self.old.slots) bytes.now []) }
         ensures after { IfOk result (λ step.
-            self.new.slots ≡ map (slot_after task.Receive step) self.old.slots) }
+            self.new.slots ≡ map (slot_after now task.Receive step) self.old.slots) }
         ensures serves { IfOk result (λ step.
             Serves count last gives service.old step.served service.new) }
         ensures err { OnErr result (self.new ≡ self.old) }
         ensures unserved { OnErr result (service.new ≡ service.old) }
     {
         let arrival = receive(alloc, End::Peer, self, bytes)?;
-        self.take_arrival(alloc, service, arrival)
+        self.take_arrival(alloc, now, service, arrival)
     }
 
-    // Takes what octets are that came.
+    // Takes what octets are that came at this moment.
     fn take_arrival(
         &mut self,
         alloc: Global,
+        now: Moment,
         service: &mut Box<dyn Service>,
         arrival: Arrival,
     ) -> Result<Step, Memory>
@@ -106,7 +109,7 @@ impl Slots {
         requires room { count service.old < MOST_REQUESTS }
         ensures takes { IfOk result (TakesArrival (peer_listener self.old.slots) arrival []) }
         ensures after { IfOk result (λ step.
-            self.new.slots ≡ map (slot_after task.Receive step) self.old.slots) }
+            self.new.slots ≡ map (slot_after now task.Receive step) self.old.slots) }
         ensures serves { IfOk result (λ step.
             Serves count last gives service.old step.served service.new) }
         ensures err { OnErr result (self.new ≡ self.old) }
@@ -117,7 +120,7 @@ impl Slots {
             Arrival::Resumption(_) => { Ok(drop_message(IkeDrop::Exchange(IKE_SESSION_RESUME))) }
             Arrival::SyncResponse(_) => unreachable!(),
             Arrival::Synchronisation(request) => self.synchronise(alloc, &request),
-            Arrival::Response(response) => self.take_response(alloc, &response),
+            Arrival::Response(response) => self.take_response(alloc, now, &response),
             Arrival::Repeat { id, datagram } => Ok(repeat(id, datagram)),
             Arrival::New(request) => self.take_request(alloc, service, &request),
         }
@@ -129,8 +132,8 @@ impl Slots {
         requires { IsSyncThere self.old.slots request.now }
         ensures takes { IfOk result (TakesArrival (peer_listener self.old.slots)
             (arrival.Synchronisation request.now) []) }
-        ensures after { IfOk result (λ step.
-            self.new.slots ≡ map (slot_after task.Receive step) self.old.slots) }
+        ensures after { IfOk result (λ step. (now : Moment) →
+            self.new.slots ≡ map (slot_after now task.Receive step) self.old.slots) }
         ensures unserved { IfOk result (λ step. step.served ≡ None) }
         ensures err { OnErr result (self.new ≡ self.old) }
     {
@@ -157,8 +160,8 @@ impl Slots {
         requires room { count service.old < MOST_REQUESTS }
         ensures takes { IfOk result (TakesArrival (peer_listener self.old.slots)
             (arrival.New request.now) []) }
-        ensures after { IfOk result (λ step.
-            self.new.slots ≡ map (slot_after task.Receive step) self.old.slots) }
+        ensures after { IfOk result (λ step. (now : Moment) →
+            self.new.slots ≡ map (slot_after now task.Receive step) self.old.slots) }
         ensures serves { IfOk result (λ step.
             Serves count last gives service.old step.served service.new) }
         ensures err { OnErr result (self.new ≡ self.old) }
@@ -175,13 +178,19 @@ impl Slots {
         }
     }
 
-    // Ends the request of an association whose response came. An error is want of memory.
-    fn take_response(&mut self, alloc: Global, response: &Opened) -> Result<Step, Memory>
+    // Ends the request of an association whose response came at this moment, and keeps the ticket
+    // that it gives. An error is want of memory; then nothing has changed.
+    fn take_response(
+        &mut self,
+        alloc: Global,
+        now: Moment,
+        response: &Opened,
+    ) -> Result<Step, Memory>
         requires { IsAwaitedThere self.old.slots response.now }
         ensures takes { IfOk result (TakesArrival (peer_listener self.old.slots)
             (arrival.Response response.now) []) }
         ensures after { IfOk result (λ step.
-            self.new.slots ≡ map (slot_after task.Receive step) self.old.slots) }
+            self.new.slots ≡ map (slot_after now task.Receive step) self.old.slots) }
         ensures unserved { IfOk result (λ step. step.served ≡ None) }
         ensures err { OnErr result (self.new ≡ self.old) }
     {
@@ -189,7 +198,7 @@ impl Slots {
         match place_of_spis(&self.items, header.spii, header.spir) {
             Some(place) => {
                 let association = &mut self.items[place];
-                association.take_reply(alloc, response)
+                association.take_reply(alloc, now, response)
             }
             None => unreachable!(),
         }

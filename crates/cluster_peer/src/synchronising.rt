@@ -8,6 +8,7 @@ ghost use Rattle.turn_rules.specs.PeerMessages.{MayAcceptSync, SlotSynchronises,
 ghost use Rattle.turn_rules.specs.Slots.{slot_after};
 ghost use Rattle.turn_rules.specs.Tasks as task;
 ghost use Rattle.cluster_peer.specs.Messages.{IsAskedFor};
+ghost use Rattle.ha_base.specs.declared.outside.Moment.{Moment};
 
 use crate::association::{Association, higher};
 use crate::names::name_at;
@@ -53,7 +54,7 @@ impl Association {
         requires empty { draft.payloads ≡ [] }
         requires room { SYNC_RESPONSE_OCTETS ≤ draft.room }
         ensures answers { SlotSynchronises self.old request.now [] result }
-        ensures after { self.new ≡ slot_after task.Receive result self.old }
+        ensures after { (now : Moment) → self.new ≡ slot_after now task.Receive result self.old }
         ensures sa { self.new.sa ≡ self.old.sa }
     {
         let asked = asked_for(request);
@@ -77,7 +78,7 @@ impl Association {
         requires empty { draft.payloads ≡ [] }
         requires room { SYNC_RESPONSE_OCTETS ≤ draft.room }
         ensures accepts { MayAcceptSync self.old request.now asked.now accepted.now result }
-        ensures after { self.new ≡ slot_after task.Receive result self.old }
+        ensures after { (now : Moment) → self.new ≡ slot_after now task.Receive result self.old }
         ensures sa { self.new.sa ≡ self.old.sa }
     {
         let Some(iv) = self.ivs.draw() else {
