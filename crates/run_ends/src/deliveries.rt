@@ -36,7 +36,7 @@ pub(crate) fn peer_takes(
 {
     let Arrival { medium, mut octets } = arrival;
     match medium {
-        Medium::Ike => peer.receive_ike(service, now, &octets),
+        Medium::Ike => peer.receive_ike(now, service, &octets),
         Medium::Esp => {
             let answer = peer.receive_esp(&mut octets);
             Ok(Step::quiet(verdict_of(answer, octets)))
