@@ -31,6 +31,9 @@ mod Sending
 mod Receiving
 mod Arrivals
 mod Pairs
+mod Tickets
+mod TicketLots
+mod TicketTurns
 mod SyncMessages
 mod SyncTurns
 mod PeerSyncs
