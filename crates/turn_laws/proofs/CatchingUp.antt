@@ -35,7 +35,7 @@ use Rattle.turn_laws.proofs.Receivers.{IsInBook, recorded}
 use Rattle.turn_laws.proofs.Records.{deed-of, found-holds}
 use Rattle.turn_laws.proofs.Runs.{enters_all-append}
 use Rattle.turn_laws.proofs.Theirs.{not-both}
-use Rattle.turn_laws.proofs.Told.{is_end-true}
+use Rattle.turn_laws.proofs.Members.{is_end-true}
 use Rattle.turn_laws.specs.Acts.{entered_as}
 use Rattle.turn_laws.specs.CaughtUp.{AllCatchUp, CatchesUp, NoneInvented, uptos_in}
 use Rattle.turn_laws.specs.Synchronising.{MemberHolds, PeerHolds, PeerSynchronised, is_association}

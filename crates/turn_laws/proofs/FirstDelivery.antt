@@ -24,7 +24,7 @@ use Rattle.turn_laws.proofs.Opened.{IsNamed, its-told, slot-told}
 use Rattle.turn_laws.proofs.Outcomes.{Idle, Ours_used, Outcome, Over, Theirs_used, idle-received, outcome-of, over-received}
 use Rattle.turn_laws.proofs.Records.{deed-of}
 use Rattle.turn_laws.proofs.Theirs.{not-both, no-packet}
-use Rattle.turn_laws.proofs.Told.{is_end-true}
+use Rattle.turn_laws.proofs.Members.{is_end-true}
 use Rattle.turn_laws.specs.FirstDelivery.{IsUnaccepted, IsOtherPacket, MemberAcceptsFirst, PeerAcceptsFirst}
 use Rattle.turn_laws.specs.Holdings.{IsNotIn}
 use Rattle.turn_laws.specs.Places.{Ours, Place, Theirs, place_of}

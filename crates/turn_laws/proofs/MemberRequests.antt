@@ -149,8 +149,8 @@ module _ (past : List Turn) (step : Step) (member spir : ℕ) (octets : WithRoom
   abbrev asked : Event
   asked = event.Ask (parties.Member member) spir octets
 
-  abbrev request : List PayloadValue
-  request = request_payloads octets.octets
+  abbrev asked_payloads : List PayloadValue
+  asked_payloads = request_payloads octets.octets
 
   abbrev id : ℕ
   id = five_at held.nexts counter.Ask
@@ -159,31 +159,31 @@ module _ (past : List Turn) (step : Step) (member spir : ℕ) (octets : WithRoom
   its_iv = five_at held.nexts counter.Iv
 
   abbrev Sent : Type 0
-  Sent = SendsRequest (held_ike held) id its_iv request step
+  Sent = SendsRequest (held_ike held) id its_iv asked_payloads step
 
   asked-told : Sent → (other : ℕ) (d : Counter) → number_taken other d asked step ≡ first_some (number_at (Ours other d) (Ours held.sa.spir counter.Ask) id) (number_at (Ours other d) (Ours held.sa.spir counter.Iv) its_iv)
   asked-told s other counter.EspOut = pair-none (held.sa.spir == other) id its_iv
   asked-told s other counter.EspIn = pair-none (held.sa.spir == other) id its_iv
-  asked-told s other counter.Iv = sealed-here held.sa end.Cluster (counter_name held.sa counter.Iv) its_iv step refl refl refl (sends-seals (held_ike held) its_iv (request_header (held_ike held).keys id) request step s.sends) other
+  asked-told s other counter.Iv = sealed-here held.sa end.Cluster (counter_name held.sa counter.Iv) its_iv step refl refl refl (sends-seals (held_ike held) its_iv (request_header (held_ike held).keys id) asked_payloads step s.sends) other
       ∙ pair-second (held.sa.spir == other) id its_iv
-  asked-told s other counter.Ask = ap (said_in other counter.Ask (task.Ask spir request)) s.said
+  asked-told s other counter.Ask = ap (said_in other counter.Ask (task.Ask spir asked_payloads)) s.said
       ∙ (ap (λ k. if k == other then Some id else None) (sym own_spir) ∙ pair-first (held.sa.spir == other) id its_iv)
   asked-told s other counter.Answer = pair-none (held.sa.spir == other) id its_iv
 
-  pub asks-deed : (calls : List Call) → HeldAsks held request calls step → Deed past asked calls step
+  pub asks-deed : (calls : List Call) → HeldAsks held asked_payloads calls step → Deed past asked calls step
   asks-deed calls asks = by_synced held.synced asks
     where
-      sends : HeldSendsRequest held request calls step → Deed past asked calls step
+      sends : HeldSendsRequest held asked_payloads calls step → Deed past asked calls step
       sends ready = pair-used past asked step member held is_held refl counter.Ask id (omega arith) Sent (λ same. absurd (cc))
-          (λ s. asking-pair asked step (held_ike held) (Ours held.sa.spir counter.Ask) (Ours held.sa.spir counter.Iv) id its_iv request (place-ours held.sa counter.Ask) (place-ours held.sa counter.Iv) s)
+          (λ s. asking-pair asked step (held_ike held) (Ours held.sa.spir counter.Ask) (Ours held.sa.spir counter.Iv) id its_iv asked_payloads (place-ours held.sa counter.Ask) (place-ours held.sa counter.Iv) s)
           asked-told
           (λ s other. untaken-answered other asked step.verdict (ap taken_as s.said) ∙ sym (ap (λ v. request_at (Ours other counter.Answer) (taken_as v)) s.said))
           calls ready
 
-      windowed : Windowed (held_ike held) id (λ least. RefusesThen (refusal.WindowFull least) calls step) (HeldSendsRequest held request calls step) → Deed past asked calls step
+      windowed : Windowed (held_ike held) id (λ least. RefusesThen (refusal.WindowFull least) calls step) (HeldSendsRequest held asked_payloads calls step) → Deed past asked calls step
       windowed w = ⊎_elim (λ fits. sends fits.1) (λ full. refused-then past asked calls step (refusal.WindowFull full.0) refl full.3) w
 
-      by_synced : (b : Bool) → MatchBool b (Windowed (held_ike held) id (λ least. RefusesThen (refusal.WindowFull least) calls step) (HeldSendsRequest held request calls step)) (RefusesThen refusal.NotSynced calls step)
+      by_synced : (b : Bool) → MatchBool b (Windowed (held_ike held) id (λ least. RefusesThen (refusal.WindowFull least) calls step) (HeldSendsRequest held asked_payloads calls step)) (RefusesThen refusal.NotSynced calls step)
           → Deed past asked calls step
       by_synced true w = windowed w
       by_synced false r = refused-then past asked calls step refusal.NotSynced refl r

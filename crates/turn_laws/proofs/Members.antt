@@ -1,5 +1,5 @@
 -- Whose turns are a member's, and what a member holds.
-use Rattle.std.proofs.Common.{◌≡◌, ℕ, ◌≤◌, arith, ◌==◌, ◌||◌, Bool, true, false, unwrap_or, Option, Some, None, List, [], ◌∷◌, length, refl, ap, sym, ◌∙◌, if◌then◌else◌}
+use Rattle.std.proofs.Common.{◌≢◌, subst, ◌≡◌, ℕ, ◌≤◌, arith, ◌==◌, ◌||◌, Bool, true, false, unwrap_or, Option, Some, None, List, [], ◌∷◌, length, refl, ap, sym, ◌∙◌, if◌then◌else◌}
 use Rattle.std.proofs.lemmas.Option.{same_Some}
 use Rattle.std.specs.Option.{option_map}
 use Rattle.aes_gcm.specs.NamedKey.{NamedKey}
@@ -11,7 +11,10 @@ use Rattle.events.specs.declared.turn.Turn.{Turn}
 use Rattle.events.specs.declared.verdict.Verdict.{Verdict}
 use Rattle.events.specs.declared.verdict.Verdict.TheVariants as out
 use Rattle.turn_rules.specs.Configurations.{Configuration, configured_in, default_configuration, first_ticket_counter, first_ticket_key, membership}
-use Rattle.turn_rules.specs.Ends.{Member, is_refused_by_run, own, performer_at, performer_of}
+use Rattle.turn_laws.proofs.Holdings.{is_performer-same, is_performer-true}
+use Rattle.turn_laws.specs.Holdings.{End}
+use Rattle.turn_laws.specs.Turns.{actor_as}
+use Rattle.turn_rules.specs.Ends.{Member, Performer, is_end, is_performer, is_refused_by_run, own, performer_at, performer_of}
 use Rattle.turn_rules.specs.Held.{Held, config_by, configured_at, first_some, found, held_by, window_by}
 use Rattle.turn_rules.specs.MemberStates.{fresh_at, held_unless, numbers_unless}
 use Rattle.turn_rules.specs.MemberTickets.{config_of}
@@ -19,6 +22,15 @@ use Rattle.turn_rules.specs.States.{has_ended, told_state}
 use Rattle.turn_rules.specs.TicketNumbers.{numbers_by}
 use Rattle.turn_laws.proofs.Deeds.{AreTicketsTold}
 use Rattle.turn_laws.proofs.Tickets.{HasLot}
+
+-- whose turn it is
+pub is_end-true : (end : Performer) (x : Option Performer) → is_end end x ≡ true → x ≡ Some end
+is_end-true end None e = absurd (cc)
+is_end-true end (Some other) e = ap Some (sym (is_performer-true end other e))
+
+pub is_end-false : (end : Performer) (x : Option Performer) → is_end end x ≡ false → actor_as x ≢ End end
+is_end-false end None e same = absurd (cc)
+is_end-false end (Some other) e same = let here : is_performer end other ≡ true = subst (λ x. is_performer end x ≡ true) (let s : End other ≡ End end = same in let t : end ≡ other = cc in t) (is_performer-same end) in absurd (cc)
 
 -- an event that comes to a member is one of its turns, unless the run refuses it
 pub member-performs : (event : Event) (verdict : Verdict) (member : ℕ) → performer_of event verdict ≡ Some (Member member) → is_refused_by_run verdict ≡ false → performer_at event verdict ≡ Some (Member member)

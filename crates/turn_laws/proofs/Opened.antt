@@ -29,7 +29,7 @@ use Rattle.turn_laws.proofs.Records.{answering-run, deed-of}
 use Rattle.turn_laws.proofs.Begun.{begun-spir}
 use Rattle.turn_laws.proofs.Same.{is_name-true, is_origin-same}
 use Rattle.turn_laws.proofs.Theirs.{no-packet, not-both, told_theirs-held}
-use Rattle.turn_laws.proofs.Told.{is_end-true}
+use Rattle.turn_laws.proofs.Members.{is_end-true}
 use Rattle.turn_laws.proofs.Runs.{greatest-least}
 use Rattle.turn_laws.proofs.Tells.{floor-base}
 use Rattle.turn_laws.proofs.Unused.{fresh-unused, next-unused}

@@ -12,7 +12,6 @@ use Rattle.events.specs.declared.verdict.Refusal.TheVariants as refusal
 use Rattle.events.specs.declared.ike_outcomes.IkeDrop.TheVariants as drop
 use Rattle.events.specs.declared.verdict.Verdict.{Verdict}
 use Rattle.events.specs.declared.verdict.Verdict.TheVariants as out
-use Rattle.ha_base.specs.Octets.{WithRoom}
 use Rattle.ha_base.specs.declared.counter_names.CounterName.{CounterName}
 use Rattle.ha_base.specs.declared.counter_names.End.TheVariants as end
 use Rattle.ha_base.specs.declared.counter_names.Kind.{Kind}

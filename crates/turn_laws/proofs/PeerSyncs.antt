@@ -24,7 +24,7 @@ use Rattle.turn_laws.proofs.Receiving.{Brings}
 use Rattle.turn_laws.proofs.SyncMessages.{AcceptedBy}
 use Rattle.turn_laws.proofs.SyncTurns.{Accepted_here, Announced, Arrives, Other, SyncTurn, Taken_here, does-sync}
 use Rattle.turn_laws.proofs.Theirs.{not-both}
-use Rattle.turn_laws.proofs.Told.{is_end-true}
+use Rattle.turn_laws.proofs.Members.{is_end-true}
 use Rattle.turn_laws.specs.Synchronising.{PeerHolds, PeerSynchronised, TakesGreater, is_association}
 use Rattle.turn_rules.proofs.NoSynchronisation.{is_of_sync}
 use Rattle.turn_rules.proofs.SlotTies.{DoesTold, first-has, first-passes, records-slots_by, slots-other, slots-own}

@@ -31,7 +31,7 @@ use Rattle.turn_laws.proofs.Outcomes.{idle-untaken}
 use Rattle.turn_laws.proofs.PeerSyncs.{holds-other, holds-own, one-slot, peer-synchronised, taken-floor}
 use Rattle.turn_laws.proofs.Records.{deed-of}
 use Rattle.turn_laws.proofs.Theirs.{not-both}
-use Rattle.turn_laws.proofs.Told.{is_end-true}
+use Rattle.turn_laws.proofs.Members.{is_end-true}
 use Rattle.turn_laws.proofs.Uses.{AreUses, Counts, IsUse, Seals_it, Spent, all-among, spent_of}
 use Rattle.turn_laws.specs.Acts.{Move, Seals, Uses}
 use Rattle.turn_laws.specs.Places.{Ours, Place, Pooled, Theirs, place_of}

@@ -11,7 +11,6 @@ use Rattle.events.specs.declared.verdict.Verdict.TheVariants as out
 use Rattle.ha_base.specs.declared.outside.Moment.{Moment}
 use Rattle.ike_sas.specs.Answers.{error_of}
 use Rattle.ike_sas.specs.TicketMessages.{asks_ticket_inside, is_ticket_due}
-use Rattle.ike_sas.specs.declared.answers.RequestError.{RequestError}
 use Rattle.ike_sas.specs.declared.ticket_messages.TicketAnswer.{TicketAnswer}
 use Rattle.ike_sas.specs.declared.ticket_messages.TicketAnswer.TheVariants.{Declined, Issued}
 use Rattle.keeper_book.specs.Told.{seen}
@@ -25,7 +24,7 @@ use Rattle.keeper_book.specs.declared.records.Record.{Record}
 use Rattle.pool_lots.specs.Lots as lots
 use Rattle.sk_payload.specs.declared.open.Opened.{Opened}
 use Rattle.spend_once.specs.Lot.{Remaining}
-use Rattle.turn_laws.proofs.Deeds.{AreTicketsTold, InVain, IsLotReady, Last, Leased, Left, LotNeed, LotReady, Rests, UsesIt, lots_of, says-rests, with_lot}
+use Rattle.turn_laws.proofs.Deeds.{AreTicketsTold, InVain, IsLotReady, Leased, Left, LotNeed, LotReady, Rests, UsesIt, lots_of, says-rests, with_lot}
 use Rattle.turn_laws.proofs.Pairs.{IsForExecuted, IsOfFirstKey, number_in, ticketed}
 use Rattle.turn_laws.proofs.Uses.{Spent, spent_of}
 use Rattle.turn_laws.specs.Holdings.{Holding}
@@ -111,7 +110,7 @@ module _ (past : List Turn) (member : ℕ) (told : AreTicketsTold past member) (
     Stops why rest = TellsWithout why rest step done
 
     abbrev Goes : ℕ → Remaining → List Call → Type 0
-    Goes n lot rest = IssuesTicket key (config_of m.given) now sa n rest done
+    Goes n then_ rest = IssuesTicket key (config_of m.given) now sa n rest done
 
     by-leasing : (calls : List Call) → lots.Leases pools.Ticket m.numbers calls Stops Goes → LotReady lot need calls Without With
     by-leasing [] so = absurd so

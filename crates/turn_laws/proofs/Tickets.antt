@@ -1,5 +1,5 @@
 -- A turn in which a member says something of a ticket: its numbers get ready, and the calls are a lease or none.
-use Rattle.std.proofs.Common.{◌≡◌, ℕ, ◌<◌, ◌≤◌, Bool, true, false, Option, Some, None, MatchBool, MatchOption, List, [], ◌∷◌, ⊎_elim, refl, ap, sym, ◌∙◌, subst, arith}
+use Rattle.std.proofs.Common.{◌≡◌, ℕ, ◌≤◌, Bool, true, false, Option, Some, None, MatchBool, MatchOption, List, [], ◌∷◌, ⊎_elim, sym, subst, arith}
 use Rattle.std.proofs.lemmas.Bool.{cases_lt}
 use Rattle.aes_gcm.specs.NamedKey.{NamedKey}
 use Rattle.events.specs.declared.turn.Step.{Step}
@@ -17,13 +17,12 @@ use Rattle.keeper_book.specs.declared.faults.KeeperFault.{KeeperFault}
 use Rattle.keeper_book.specs.declared.faults.KeeperFault.TheVariants as fault
 use Rattle.keeper_book.specs.declared.pools.Pool.TheVariants as pools
 use Rattle.keeper_book.specs.declared.records.Record.{Record}
-use Rattle.pool_lots.specs.Lots.{Leased, Leases, LotReady}
+use Rattle.pool_lots.specs.Lots.{Leased, Leases}
 use Rattle.sk_payload.specs.declared.open.Opened.{Opened}
-use Rattle.spend_once.specs.Lot.{Remaining}
 use Rattle.turn_laws.proofs.Covers.{IsLease}
 use Rattle.turn_rules.specs.MemberStates.{MemberHeld}
 use Rattle.turn_rules.specs.MemberTickets.{IssuesTicket, Tells, TellsIssued, TellsTicket, TellsWithout, config_of}
-use Rattle.turn_rules.specs.Steps.{RefusesThen, Says}
+use Rattle.turn_rules.specs.Steps.{Says}
 
 -- the next number is not above the end of the lot
 abbrev pub HasLot : MemberHeld → Type 0
