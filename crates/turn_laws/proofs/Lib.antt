@@ -71,3 +71,4 @@ mod CatchingUp
 pub mod Serving
 pub mod ServeRuns
 pub mod ServeTurns
+mod LotsLeft

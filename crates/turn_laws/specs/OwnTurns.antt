@@ -1,5 +1,5 @@
 -- What an end holds, its own turns tell.
-use Rattle.std.specs.Prelude.{ℕ, ◌≡◌, Option, Some, None, List}
+use Rattle.std.specs.Prelude.{ℕ, ◌<◌, ◌≤◌, ◌≡◌, Option, Some, None, List}
 use Rattle.events.specs.declared.turn.Turn.{Turn}
 use Rattle.spend_once.specs.Lot.{Remaining}
 use Rattle.turn_laws.specs.Holdings.{Holding}
@@ -11,6 +11,11 @@ use Rattle.turn_rules.specs.TicketNumbers.{no_ticket_numbers}
 -- greatest numbers and sets of numbers, whatever the other ends did between them.
 abbrev pub OwnTurnsTell : ℕ → List Turn → Type 0
 OwnTurnsTell boxes past = state_by boxes past ≡ told_state boxes past
+
+-- the number is left in a lot
+pub record IsLeftIn (lot : Remaining) (n : ℕ) : Type 0 where
+  pub from_next : lot.next ≤ n
+  pub below_end : n < lot.end
 
 -- what is left of a lot of tickets: before the first one is leased, no number
 abbrev pub left_of_lot : Option Holding → Remaining
