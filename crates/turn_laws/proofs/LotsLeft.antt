@@ -26,11 +26,14 @@ abbrev tickets : Place
 tickets = Pooled pools.Ticket
 
 -- no ticket has the number of another one
-pub tickets-once : (boxes : ℕ) (past : List Turn) (book : Book) → Explained boxes past → Stands past book → IsEachOnce (filter_map turn_ticket past)
-tickets-once boxes past book local stands = subst (λ ns. IsEachOnce ns) (ticket-numbers boxes past local) (numbers-once boxes past book local stands tickets)
+pub tickets-once : (boxes : ℕ) (past : List Turn) (book : Book) → Explained boxes past → Stands past book
+    → IsEachOnce (filter_map turn_ticket past)
+tickets-once boxes past book local stands = subst (λ ns. IsEachOnce ns) (ticket-numbers boxes past local)
+    (numbers-once boxes past book local stands tickets)
 
 -- what own turns tell of a lot is what is held of the pool
-pub told-lots : (boxes : ℕ) (past : List Turn) → Explained boxes past → (member : ℕ) → numbers_by (own (Member member) past) ≡ left_of_lot (holding_at tickets (acts_of past) (End (Member member)))
+pub told-lots : (boxes : ℕ) (past : List Turn) → Explained boxes past → (member : ℕ)
+    → numbers_by (own (Member member) past) ≡ left_of_lot (holding_at tickets (acts_of past) (End (Member member)))
 told-lots boxes past local member = (tickets-by boxes past local member).left
 
 -- a number that is left is one of a lot that is held
@@ -58,12 +61,14 @@ module _ (boxes : ℕ) (past : List Turn) (book : Book) (local : Explained boxes
     where
       go : (x : Option Holding) → holding_at tickets acts (End (Member member)) ≡ x → IsHeld acts member n
       go None e =
-          let here : IsLeftIn (left_of_lot None) n = subst (λ lot. IsLeftIn lot n) (told-lots boxes past local member ∙ ap left_of_lot e) left in
+          let here : IsLeftIn (left_of_lot None) n = subst (λ lot. IsLeftIn lot n) (told-lots boxes past local member ∙ ap left_of_lot e)
+              left in
           let from : 1 ≤ n = here.from_next in
           let below : n < 1 = here.below_end in
           absurd (omega (arith, from, below))
       go (Some lot) e =
-          let here : IsLeftIn (left_of_lot (Some lot)) n = subst (λ lot. IsLeftIn lot n) (told-lots boxes past local member ∙ ap left_of_lot e) left in
+          let here : IsLeftIn (left_of_lot (Some lot)) n = subst (λ lot. IsLeftIn lot n)
+              (told-lots boxes past local member ∙ ap left_of_lot e) left in
           record { lot = lot; holds = e; from_next = here.from_next; below_high = here.below_end }
 
   -- it lies below the pool's next number
@@ -71,7 +76,8 @@ module _ (boxes : ℕ) (past : List Turn) (book : Book) (local : Explained boxes
   left-leased member n left =
       let held : IsHeld acts member n = is-held member n left in
       let below : n < held.lot.high = held.below_high in
-      let high : held.lot.high ≤ pool_next pools.Ticket book = lot-below acts book owned pools.Ticket (End (Member member)) held.lot held.holds in
+      let high : held.lot.high ≤ pool_next pools.Ticket book = lot-below acts book owned pools.Ticket (End (Member member)) held.lot
+          held.holds in
       omega (arith, below, high)
 
   -- what is held from its next number on
@@ -94,8 +100,10 @@ module _ (boxes : ℕ) (past : List Turn) (book : Book) (local : Explained boxes
       ⊎_elim
       (λ same. member-same (its.alone (End (Member m)) (End (Member k)) h.lot g.lot h.holds g.holds same))
       (λ differ. ⊎_elim
-      (λ earlier. let ends : h.lot.high ≤ g.lot.base = lots-apart acts book owned pools.Ticket (End (Member m)) (End (Member k)) h.lot g.lot h.holds g.holds earlier in absurd (omega (arith, below_h, from_g, ends)))
-      (λ later. let ends : g.lot.high ≤ h.lot.base = lots-apart acts book owned pools.Ticket (End (Member k)) (End (Member m)) g.lot h.lot g.holds h.holds later in absurd (omega (arith, below_g, from_h, ends)))
+      (λ earlier. let ends : h.lot.high ≤ g.lot.base = lots-apart acts book owned pools.Ticket (End (Member m)) (End (Member k)) h.lot g.lot
+          h.holds g.holds earlier in absurd (omega (arith, below_h, from_g, ends)))
+      (λ later. let ends : g.lot.high ≤ h.lot.base = lots-apart acts book owned pools.Ticket (End (Member k)) (End (Member m)) g.lot h.lot
+          g.holds h.holds later in absurd (omega (arith, below_g, from_h, ends)))
       differ)
       (cases_order h.lot.epoch g.lot.epoch)
     where
@@ -113,7 +121,8 @@ module _ (boxes : ℕ) (past : List Turn) (book : Book) (local : Explained boxes
       of = its.holdings (End (Member member)) held.lot held.holds
 
       above : IsNotIn n held.lot.numbers
-      above = all-weaker held.lot.numbers (λ k less same. absurd (let a : k < held.lot.next = less in let b : held.lot.next ≤ n = held.from_next in omega (arith, a, b, same))) of.above_used
+      above = all-weaker held.lot.numbers (λ k less same. absurd
+          (let a : k < held.lot.next = less in let b : held.lot.next ≤ n = held.from_next in omega (arith, a, b, same))) of.above_used
 
       elsewhere : (u : Use) → IsUseOf column u → (u.epoch ≡ held.lot.epoch → u.number ≢ n) → u.number ≢ n
       elsewhere u use_of unless same =
@@ -126,12 +135,15 @@ module _ (boxes : ℕ) (past : List Turn) (book : Book) (local : Explained boxes
           ⊎_elim
           (λ here. unless here same)
           (λ differ. ⊎_elim
-          (λ earlier. let rises : column_mark column u.epoch ≤ column_mark column (held.lot.epoch - 1) = its.rising u.epoch (held.lot.epoch - 1) (omega (arith, earlier)) in absurd (omega (arith, below, rises, base, above_base, same)))
-          (λ later. let rises : column_mark column held.lot.epoch ≤ column_mark column (u.epoch - 1) = its.rising held.lot.epoch (u.epoch - 1) (omega (arith, later)) in absurd (omega (arith, from, rises, high, below_high, same)))
+          (λ earlier. let rises : column_mark column u.epoch ≤ column_mark column (held.lot.epoch - 1) = its.rising u.epoch
+              (held.lot.epoch - 1) (omega (arith, earlier)) in absurd (omega (arith, below, rises, base, above_base, same)))
+          (λ later. let rises : column_mark column held.lot.epoch ≤ column_mark column (u.epoch - 1) = its.rising held.lot.epoch
+              (u.epoch - 1) (omega (arith, later)) in absurd (omega (arith, from, rises, high, below_high, same)))
           differ)
           (cases_order u.epoch held.lot.epoch)
 
-      numbers : (us : List Use) → AllByRecursion (λ u. u.epoch ≡ held.lot.epoch → u.number ≢ n) us → AllByRecursion (IsUseOf column) us → IsNotIn n (map (λ u. u.number) us)
+      numbers : (us : List Use) → AllByRecursion (λ u. u.epoch ≡ held.lot.epoch → u.number ≢ n) us → AllByRecursion (IsUseOf column) us
+          → IsNotIn n (map (λ u. u.number) us)
       numbers [] known within = tt
       numbers (u ∷ us) known within = (elsewhere u within.0 known.0, numbers us known.1 within.1)
 

@@ -43,11 +43,15 @@ due-executed request ticket due error is =
     let some : is_none (error_of request) ≡ false = ap is_none is in
     absurd (cc)
 
-module _ (past : List Turn) (member : ℕ) (told : AreTicketsTold past member) (m : MemberHeld) (numbers : m.numbers ≡ numbers_by (own (Member member) past))
+module _ (past : List Turn) (member : ℕ) (told : AreTicketsTold past member) (m : MemberHeld)
+    (numbers : m.numbers ≡ numbers_by (own (Member member) past))
     (first_key : (key : NamedKey) → (config_of m.given).ticket_key ≡ Some key → key.name ≡ first_ticket_counter)
-    (now : Moment) (sa : Record) (request : Opened) (event : Event) (step : Step) (needed : List Spent) (done : Option TicketAnswer → Type 0)
-    (uses : (ticket : Option TicketAnswer) → IsOfFirstKey ticket → IsForExecuted request ticket → done ticket → UsesIt (ticketed (number_in ticket) needed) event step)
-    (said : (ticket : Option TicketAnswer) → IsOfFirstKey ticket → IsForExecuted request ticket → done ticket → ticket_number step.verdict ≡ number_in ticket) where
+    (now : Moment) (sa : Record) (request : Opened) (event : Event) (step : Step) (needed : List Spent)
+        (done : Option TicketAnswer → Type 0)
+    (uses : (ticket : Option TicketAnswer) → IsOfFirstKey ticket → IsForExecuted request ticket → done ticket
+        → UsesIt (ticketed (number_in ticket) needed) event step)
+    (said : (ticket : Option TicketAnswer) → IsOfFirstKey ticket → IsForExecuted request ticket → done ticket
+        → ticket_number step.verdict ≡ number_in ticket) where
   abbrev number : ℕ
   number = unwrap_or (ticket_number step.verdict) 0
 
@@ -75,11 +79,13 @@ module _ (past : List Turn) (member : ℕ) (told : AreTicketsTold past member) (
     is : number ≡ n
     used : With
 
-  issued : is_ticket_due request ≡ true → (key : NamedKey) → (config_of m.given).ticket_key ≡ Some key → (n : ℕ) (rest : List Call) → IssuesTicket key (config_of m.given) now sa n rest done → IsIssued n rest
+  issued : is_ticket_due request ≡ true → (key : NamedKey) → (config_of m.given).ticket_key ≡ Some key → (n : ℕ) (rest : List Call)
+      → IssuesTicket key (config_of m.given) now sa n rest done → IsIssued n rest
   issued due key has n rest issues = record {
     ended = issues.no_more;
     is = of_seal ∙ issues.sealed.iv_is;
-    used = subst (λ k. UsesIt (spent_of (Pooled pools.Ticket) k ∷ needed) event step) (sym of_seal) (uses ticket first executed issues.does);
+    used = subst (λ k. UsesIt (spent_of (Pooled pools.Ticket) k ∷ needed) event step) (sym of_seal)
+        (uses ticket first executed issues.does);
   }
     where
       ticket : Option TicketAnswer
@@ -116,7 +122,8 @@ module _ (past : List Turn) (member : ℕ) (told : AreTicketsTold past member) (
     by-leasing [] so = absurd so
     by-leasing (call ∷ rest) so = by_answer (seen call) refl so.1
       where
-        by_answer : (answered : KeeperAnswer) → seen call ≡ answered → lots.Leased answered (λ why. Stops why rest) (λ n. IssuesTicket key (config_of m.given) now sa n rest done) → LotReady lot need (call ∷ rest) Without With
+        by_answer : (answered : KeeperAnswer) → seen call ≡ answered → lots.Leased answered (λ why. Stops why rest) (λ n. IssuesTicket key
+            (config_of m.given) now sa n rest done) → LotReady lot need (call ∷ rest) Without With
         by_answer (answer.First n) sees issues =
             let it = issued due key has n rest issues in
             Leased call (ap (λ calls. call ∷ calls) it.ended) so.0 (sees ∙ ap answer.First (sym it.is)) it.used
@@ -157,15 +164,20 @@ module _ (past : List Turn) (member : ℕ) (told : AreTicketsTold past member) (
   abbrev pub ticket_need : Option LotNeed
   ticket_need = lot_for (is_ticket_due request) (config_of m.given).ticket_key
 
-  pub tells-ready : (calls : List Call) → TellsTicket m now sa request calls step done → IsLotReady ticket_need (lots_of past member) calls Without (UsesIt (with_lot ticket_need needed) event step)
+  pub tells-ready : (calls : List Call) → TellsTicket m now sa request calls step done
+      → IsLotReady ticket_need (lots_of past member) calls Without (UsesIt (with_lot ticket_need needed) event step)
   tells-ready calls tells = by_due (is_ticket_due request) refl tells
     where
-      by_key : is_ticket_due request ≡ true → (key : Option NamedKey) → (config_of m.given).ticket_key ≡ key → MatchOption key (Tells (Some Declined) calls done) (λ key. TellsIssued m now sa key calls step done)
+      by_key : is_ticket_due request ≡ true → (key : Option NamedKey) → (config_of m.given).ticket_key ≡ key
+          → MatchOption key (Tells (Some Declined) calls done) (λ key. TellsIssued m now sa key calls step done)
           → IsLotReady (lot_for true key) (lots_of past member) calls Without (UsesIt (with_lot (lot_for true key) needed) event step)
-      by_key due None has tells = record { ended = tells.0; is = uses (Some Declined) tt (due-executed request (Some Declined) due) tells.1 }
+      by_key due None has tells = record { ended = tells.0; is = uses (Some Declined) tt (due-executed request (Some Declined) due) tells.1
+          }
       by_key due (Some key) has ready = is-ready due key has calls ready
 
-      by_due : (due : Bool) → is_ticket_due request ≡ due → MatchBool due (MatchOption (config_of m.given).ticket_key (Tells (Some Declined) calls done) (λ key. TellsIssued m now sa key calls step done)) (Tells None calls done)
-          → IsLotReady (lot_for due (config_of m.given).ticket_key) (lots_of past member) calls Without (UsesIt (with_lot (lot_for due (config_of m.given).ticket_key) needed) event step)
+      by_due : (due : Bool) → is_ticket_due request ≡ due → MatchBool due (MatchOption (config_of m.given).ticket_key
+          (Tells (Some Declined) calls done) (λ key. TellsIssued m now sa key calls step done)) (Tells None calls done)
+          → IsLotReady (lot_for due (config_of m.given).ticket_key) (lots_of past member) calls Without
+              (UsesIt (with_lot (lot_for due (config_of m.given).ticket_key) needed) event step)
       by_due true due tells = by_key due (config_of m.given).ticket_key refl tells
       by_due false due tells = record { ended = tells.0; is = uses None tt (λ error is. refl) tells.1 }

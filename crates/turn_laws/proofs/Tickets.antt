@@ -29,7 +29,8 @@ abbrev pub HasLot : MemberHeld → Type 0
 HasLot m = m.numbers.next ≤ m.numbers.end
 
 -- what holds of the calls of such a turn
-module _ (m : MemberHeld) (within : HasLot m) (now : Moment) (sa : Record) (request : Opened) (step : Step) (done : Option TicketAnswer → Type 0) (R : List Call → Type 0)
+module _ (m : MemberHeld) (within : HasLot m) (now : Moment) (sa : Record) (request : Opened) (step : Step)
+    (done : Option TicketAnswer → Type 0) (R : List Call → Type 0)
     (refused : Says (out.Refused refusal.KeeperFault) step → R [])
     (told : (ticket : Option TicketAnswer) → done ticket → R [])
     (leases : (call : Call) → IsLease call → R [] → R (call ∷ [])) where
@@ -46,10 +47,12 @@ module _ (m : MemberHeld) (within : HasLot m) (now : Moment) (sa : Record) (requ
   without-calls fault.Closed rest so = absurd so
   without-calls fault.Memory rest so = absurd so
 
-  issued-calls : (key : NamedKey) (number : ℕ) (rest : List Call) → IssuesTicket key (config_of m.given) now sa number rest done → (rest ≡ []) × R []
+  issued-calls : (key : NamedKey) (number : ℕ) (rest : List Call) → IssuesTicket key (config_of m.given) now sa number rest done
+      → (rest ≡ []) × R []
   issued-calls key number rest issues = (issues.no_more, told (Some (Issued (config_of m.given).lifetime issues.seal)) issues.does)
 
-  leased-calls : (key : NamedKey) (calls : List Call) → Leases pools.Ticket m.numbers calls (λ why rest. TellsWithout why rest step done) (λ number lot rest. IssuesTicket key (config_of m.given) now sa number rest done) → R calls
+  leased-calls : (key : NamedKey) (calls : List Call) → Leases pools.Ticket m.numbers calls (λ why rest. TellsWithout why rest step done)
+      (λ number lot rest. IssuesTicket key (config_of m.given) now sa number rest done) → R calls
   leased-calls key [] so = absurd so
   leased-calls key (call ∷ rest) so = by_answer (seen call) so.1
     where
@@ -59,7 +62,8 @@ module _ (m : MemberHeld) (within : HasLot m) (now : Moment) (sa : Record) (requ
       behind : (rest ≡ []) × R [] → R (call ∷ rest)
       behind more = subst (λ calls. R (call ∷ calls)) (sym more.0) (leases call lease more.1)
 
-      by_answer : (answered : KeeperAnswer) → Leased answered (λ why. TellsWithout why rest step done) (λ first. IssuesTicket key (config_of m.given) now sa first rest done) → R (call ∷ rest)
+      by_answer : (answered : KeeperAnswer) → Leased answered (λ why. TellsWithout why rest step done) (λ first. IssuesTicket key
+          (config_of m.given) now sa first rest done) → R (call ∷ rest)
       by_answer (answer.First first) issues = behind (issued-calls key first rest issues)
       by_answer (answer.Refused why) without = behind (without-calls why rest without)
       by_answer answer.Done none = absurd none
@@ -75,10 +79,12 @@ module _ (m : MemberHeld) (within : HasLot m) (now : Moment) (sa : Record) (requ
   pub tells-calls : (calls : List Call) → TellsTicket m now sa request calls step done → R calls
   tells-calls calls tells = by_due (is_ticket_due request) tells
     where
-      by_key : (key : Option NamedKey) → MatchOption key (Tells (Some Declined) calls done) (λ key. TellsIssued m now sa key calls step done) → R calls
+      by_key : (key : Option NamedKey) → MatchOption key (Tells (Some Declined) calls done) (λ key. TellsIssued m now sa key calls step
+          done) → R calls
       by_key None tells = ended calls (told (Some Declined)) tells
       by_key (Some key) ready = lot-calls key calls ready
 
-      by_due : (due : Bool) → MatchBool due (MatchOption (config_of m.given).ticket_key (Tells (Some Declined) calls done) (λ key. TellsIssued m now sa key calls step done)) (Tells None calls done) → R calls
+      by_due : (due : Bool) → MatchBool due (MatchOption (config_of m.given).ticket_key (Tells (Some Declined) calls done)
+          (λ key. TellsIssued m now sa key calls step done)) (Tells None calls done) → R calls
       by_due true tells = by_key (config_of m.given).ticket_key tells
       by_due false tells = ended calls (told None) tells
