@@ -62,13 +62,13 @@ module _ (boxes : ℕ) (past : List Turn) (book : Book) (local : Explained boxes
       go : (x : Option Holding) → holding_at tickets acts (End (Member member)) ≡ x → IsHeld acts member n
       go None e =
           let here : IsLeftIn (left_of_lot None) n = subst (λ lot. IsLeftIn lot n) (told-lots boxes past local member ∙ ap left_of_lot e)
-              left in
+          left in
           let from : 1 ≤ n = here.from_next in
           let below : n < 1 = here.below_end in
           absurd (omega (arith, from, below))
       go (Some lot) e =
           let here : IsLeftIn (left_of_lot (Some lot)) n = subst (λ lot. IsLeftIn lot n)
-              (told-lots boxes past local member ∙ ap left_of_lot e) left in
+          (told-lots boxes past local member ∙ ap left_of_lot e) left in
           record { lot = lot; holds = e; from_next = here.from_next; below_high = here.below_end }
 
   -- it lies below the pool's next number
@@ -77,7 +77,7 @@ module _ (boxes : ℕ) (past : List Turn) (book : Book) (local : Explained boxes
       let held : IsHeld acts member n = is-held member n left in
       let below : n < held.lot.high = held.below_high in
       let high : held.lot.high ≤ pool_next pools.Ticket book = lot-below acts book owned pools.Ticket (End (Member member)) held.lot
-          held.holds in
+      held.holds in
       omega (arith, below, high)
 
   -- what is held from its next number on
@@ -101,9 +101,9 @@ module _ (boxes : ℕ) (past : List Turn) (book : Book) (local : Explained boxes
       (λ same. member-same (its.alone (End (Member m)) (End (Member k)) h.lot g.lot h.holds g.holds same))
       (λ differ. ⊎_elim
       (λ earlier. let ends : h.lot.high ≤ g.lot.base = lots-apart acts book owned pools.Ticket (End (Member m)) (End (Member k)) h.lot g.lot
-          h.holds g.holds earlier in absurd (omega (arith, below_h, from_g, ends)))
+      h.holds g.holds earlier in absurd (omega (arith, below_h, from_g, ends)))
       (λ later. let ends : g.lot.high ≤ h.lot.base = lots-apart acts book owned pools.Ticket (End (Member k)) (End (Member m)) g.lot h.lot
-          g.holds h.holds later in absurd (omega (arith, below_g, from_h, ends)))
+      g.holds h.holds later in absurd (omega (arith, below_g, from_h, ends)))
       differ)
       (cases_order h.lot.epoch g.lot.epoch)
     where
@@ -136,9 +136,9 @@ module _ (boxes : ℕ) (past : List Turn) (book : Book) (local : Explained boxes
           (λ here. unless here same)
           (λ differ. ⊎_elim
           (λ earlier. let rises : column_mark column u.epoch ≤ column_mark column (held.lot.epoch - 1) = its.rising u.epoch
-              (held.lot.epoch - 1) (omega (arith, earlier)) in absurd (omega (arith, below, rises, base, above_base, same)))
+          (held.lot.epoch - 1) (omega (arith, earlier)) in absurd (omega (arith, below, rises, base, above_base, same)))
           (λ later. let rises : column_mark column held.lot.epoch ≤ column_mark column (u.epoch - 1) = its.rising held.lot.epoch
-              (u.epoch - 1) (omega (arith, later)) in absurd (omega (arith, from, rises, high, below_high, same)))
+          (u.epoch - 1) (omega (arith, later)) in absurd (omega (arith, from, rises, high, below_high, same)))
           differ)
           (cases_order u.epoch held.lot.epoch)
 

@@ -47,11 +47,11 @@ module _ (past : List Turn) (member : ℕ) (told : AreTicketsTold past member) (
     (numbers : m.numbers ≡ numbers_by (own (Member member) past))
     (first_key : (key : NamedKey) → (config_of m.given).ticket_key ≡ Some key → key.name ≡ first_ticket_counter)
     (now : Moment) (sa : Record) (request : Opened) (event : Event) (step : Step) (needed : List Spent)
-        (done : Option TicketAnswer → Type 0)
+    (done : Option TicketAnswer → Type 0)
     (uses : (ticket : Option TicketAnswer) → IsOfFirstKey ticket → IsForExecuted request ticket → done ticket
-        → UsesIt (ticketed (number_in ticket) needed) event step)
+    → UsesIt (ticketed (number_in ticket) needed) event step)
     (said : (ticket : Option TicketAnswer) → IsOfFirstKey ticket → IsForExecuted request ticket → done ticket
-        → ticket_number step.verdict ≡ number_in ticket) where
+    → ticket_number step.verdict ≡ number_in ticket) where
   abbrev number : ℕ
   number = unwrap_or (ticket_number step.verdict) 0
 
@@ -171,13 +171,15 @@ module _ (past : List Turn) (member : ℕ) (told : AreTicketsTold past member) (
       by_key : is_ticket_due request ≡ true → (key : Option NamedKey) → (config_of m.given).ticket_key ≡ key
           → MatchOption key (Tells (Some Declined) calls done) (λ key. TellsIssued m now sa key calls step done)
           → IsLotReady (lot_for true key) (lots_of past member) calls Without (UsesIt (with_lot (lot_for true key) needed) event step)
-      by_key due None has tells = record { ended = tells.0; is = uses (Some Declined) tt (due-executed request (Some Declined) due) tells.1
-          }
+      by_key due None has tells = record {
+        ended = tells.0;
+        is = uses (Some Declined) tt (due-executed request (Some Declined) due) tells.1;
+      }
       by_key due (Some key) has ready = is-ready due key has calls ready
 
       by_due : (due : Bool) → is_ticket_due request ≡ due → MatchBool due (MatchOption (config_of m.given).ticket_key
           (Tells (Some Declined) calls done) (λ key. TellsIssued m now sa key calls step done)) (Tells None calls done)
           → IsLotReady (lot_for due (config_of m.given).ticket_key) (lots_of past member) calls Without
-              (UsesIt (with_lot (lot_for due (config_of m.given).ticket_key) needed) event step)
+          (UsesIt (with_lot (lot_for due (config_of m.given).ticket_key) needed) event step)
       by_due true due tells = by_key due (config_of m.given).ticket_key refl tells
       by_due false due tells = record { ended = tells.0; is = uses None tt (λ error is. refl) tells.1 }

@@ -150,7 +150,7 @@ module _ (past : List Turn) (member : ℕ) (event : Event) (step : Step) where
         go None e = none-leaves acts within e (its-numbers ∙ ap option_to_list e)
         go (Some n) e =
             let same : n ≡ h.next = (subst (λ x. AllByRecursion (λ n. n ≡ h.next) (option_to_list x)) e (its-hold (λ n. n ≡ h.next) all)).0
-                in
+            in
             next-leaves acts h holds below (e ∙ ap Some same) (its-numbers ∙ (ap option_to_list e ∙ ap (λ k. k ∷ []) same))
 
   -- numbers of associations are none of the pool
@@ -181,7 +181,7 @@ module _ (past : List Turn) (member : ℕ) (event : Event) (step : Step) where
     -- a number of the pool of tickets, or of another one
     pool-leaves : (q : Pool) (number : ℕ) (acts : List Act) → IsAsBefore acts → IsWithin (left_at acts) → (calls : List Call)
         → IsLotReady (Some (record { pool = q; number = number })) (lots_of past member) calls (Rests step ⊎ UsesIt needed event step)
-            (UsesIt (spent_of (Pooled q) number ∷ needed) event step) → LeavesLot acts calls
+        (UsesIt (spent_of (Pooled q) number ∷ needed) event step) → LeavesLot acts calls
     pool-leaves pools.Ticket number acts same within calls (Left h holds below is ended it) = subst (LeavesLot acts) (sym ended)
         (lot-leaves (spent_of tickets number ∷ needed) it acts h (same ∙ holds) below ((λ at. is), needs-next h.next needs))
     pool-leaves pools.Ticket number acts same within calls (Leased call one asked sees it) = subst (LeavesLot acts) (sym one) (record {
@@ -202,8 +202,11 @@ module _ (past : List Turn) (member : ℕ) (event : Event) (step : Step) where
         later = lot-leaves (spent_of tickets number ∷ needed) it now begun holds (omega arith) ((λ at. refl), needs-next number needs)
 
         leased : left_at now ≡ leased_lot (left_at acts) number
-        leased = ap left_of_lot holds ∙ (λ i. record { name = sym (left-named (lot_at acts)) i; next = number; end = number + LEASED_NUMBERS
-            })
+        leased = ap left_of_lot holds ∙ (λ i. record {
+          name = sym (left-named (lot_at acts)) i;
+          next = number;
+          end = number + LEASED_NUMBERS;
+        })
 
         first : first_leased call.asked (seen call) ≡ Some number
         first = rw (asked, sees)
@@ -213,7 +216,7 @@ module _ (past : List Turn) (member : ℕ) (event : Event) (step : Step) where
             ∙ sym (ap (λ x. after_ticket (ticket_number step.verdict) (after_lease (first_some x None) (left_at acts))) first)
     pool-leaves pools.Ticket number acts same within calls (InVain call why one asked sees so) = subst (LeavesLot acts) (sym one)
         (unleased-first acts call [] kept (rw (asked, sees)) (without-leaves (act_by w (Calls call) ∷ acts)
-            (subst (λ x. IsWithin (left_of_lot x)) (sym kept) within) so))
+        (subst (λ x. IsWithin (left_of_lot x)) (sym kept) within) so))
       where
         kept : lot_at (act_by w (Calls call) ∷ acts) ≡ lot_at acts
         kept = rw (asked, sees) refl
@@ -221,21 +224,21 @@ module _ (past : List Turn) (member : ℕ) (event : Event) (step : Step) where
         (other-leaves (spent_of (Pooled pools.Nonce) number ∷ needed) it acts within ((λ at. absurd (cc)), needs-elsewhere needs))
     pool-leaves pools.Nonce number acts same within calls (Leased call one asked sees it) = subst (LeavesLot acts) (sym one)
         (unleased-first acts call [] kept (rw asked refl) (other-leaves (spent_of (Pooled pools.Nonce) number ∷ needed) it
-            (act_by w (Calls call) ∷ acts) (subst (λ x. IsWithin (left_of_lot x)) (sym kept) within)
-            ((λ at. absurd (cc)), needs-elsewhere needs)))
+        (act_by w (Calls call) ∷ acts) (subst (λ x. IsWithin (left_of_lot x)) (sym kept) within)
+        ((λ at. absurd (cc)), needs-elsewhere needs)))
       where
         kept : lot_at (act_by w (Calls call) ∷ acts) ≡ lot_at acts
         kept = rw (asked, sees) refl
     pool-leaves pools.Nonce number acts same within calls (InVain call why one asked sees so) = subst (LeavesLot acts) (sym one)
         (unleased-first acts call [] kept (rw asked refl) (without-leaves (act_by w (Calls call) ∷ acts)
-            (subst (λ x. IsWithin (left_of_lot x)) (sym kept) within) so))
+        (subst (λ x. IsWithin (left_of_lot x)) (sym kept) within) so))
       where
         kept : lot_at (act_by w (Calls call) ∷ acts) ≡ lot_at acts
         kept = rw (asked, sees) refl
 
     need-leaves : (lot : Option LotNeed) (acts : List Act) → IsAsBefore acts → IsWithin (left_at acts) → (calls : List Call)
         → IsLotReady lot (lots_of past member) calls (Rests step ⊎ UsesIt needed event step) (UsesIt (with_lot lot needed) event step)
-            → LeavesLot acts calls
+        → LeavesLot acts calls
     need-leaves None acts same within calls last = subst (LeavesLot acts) (sym last.ended)
         (other-leaves needed last.is acts within (needs-elsewhere needs))
     need-leaves (Some need) acts same within calls ready = pool-leaves need.pool need.number acts same within calls ready
@@ -243,13 +246,13 @@ module _ (past : List Turn) (member : ℕ) (event : Event) (step : Step) where
     -- numbers get ready, and are used
     uses-leaves : (lot : Option LotNeed) (acts : List Act) → IsAsBefore acts → IsWithin (left_at acts) → (calls : List Call)
         → AreReady needs calls (Rests step) (λ rest. IsLotReady lot (lots_of past member) rest (Rests step ⊎ UsesIt needed event step)
-            (UsesIt (with_lot lot needed) event step)) → LeavesLot acts calls
+        (UsesIt (with_lot lot needed) event step)) → LeavesLot acts calls
     uses-leaves lot acts same within calls ready = are_ready-calls Leaves (Rests step) _
         (λ call rest cover later acts same within.
         let kept : lot_at (act_by w (Calls call) ∷ acts) ≡ lot_at acts = (let asked : _ = cover.asked in rw asked refl) in
         let none : first_leased call.asked (seen call) ≡ None = (let asked : _ = cover.asked in rw asked refl) in
         unleased-first acts call rest kept none (later (act_by w (Calls call) ∷ acts) (kept ∙ same)
-            (subst (λ x. IsWithin (left_of_lot x)) (sym kept) within)))
+        (subst (λ x. IsWithin (left_of_lot x)) (sym kept) within)))
         (λ rest last acts same within. subst (LeavesLot acts) (sym last.ended) (rests-leaves acts within last.is))
         (λ rest so acts same within. need-leaves lot acts same within rest so)
         needs calls ready acts same within
@@ -259,28 +262,28 @@ module _ (past : List Turn) (member : ℕ) (event : Event) (step : Step) where
 
 module _ (past : List Turn) (event : Event) (calls : List Call) (step : Step)
     (within : (member : ℕ) → (left_of_lot (lots_of past member pools.Ticket)).next ≤ (left_of_lot (lots_of past member pools.Ticket)).end)
-    where
-  -- what a turn of a member leaves
-  deed-leaves : (member : ℕ) → Deed past event calls step → performer_at event step.verdict ≡ Some (Member member)
-      → LeavesLot past member event step (acts_of past) calls
-  deed-leaves member (Rested none rests no_entry) by = subst (LeavesLot past member event step (acts_of past)) (sym none)
-      (rests-leaves past member event step (acts_of past) (within member) rests)
-  deed-leaves member (Asked asks) by = subst (LeavesLot past member event step (acts_of past)) (sym asks.one)
-      (unleased-first past member event step (acts_of past) asks.call [] kept asks.unleased
-      (rests-leaves past member event step (act_by (End (Member member)) (Calls asks.call) ∷ acts_of past)
-          (subst (λ x. (left_of_lot x).next ≤ (left_of_lot x).end) (sym kept) (within member)) asks.rests))
-    where
-      kept : holding_at tickets (act_by (End (Member member)) (Calls asks.call) ∷ acts_of past) (End (Member member)) ≡ holding_at tickets
-          (acts_of past) (End (Member member))
-      kept = same-lot past member event step (acts_of past) asks.call (asks.no_lot (length (begun_at tickets (acts_of past)).bases))
-  deed-leaves member (Ended other by_it none said ends quiet) by = subst (LeavesLot past member event step (acts_of past)) (sym none)
-      (none-leaves past member event step (acts_of past) (within member) (ap ticket_number said)
-          (ap (moved tickets) (over-rest event step other said ends quiet)))
-  deed-leaves member (Used u) by =
-      let same : Some (Member u.member) ≡ Some (Member member) = sym u.by_it ∙ by in
-      subst (λ k. LeavesLot past k event step (acts_of past) calls) (let k : u.member ≡ member = cc in k)
-      (uses-leaves past u.member event step u.needs u.lot (acts_of past) refl (within u.member) calls u.ready)
-  deed-leaves member (Used_theirs u) by = let no : Some Peer ≡ Some (Member member) = sym u.by_it ∙ by in absurd (cc)
+  where
+    -- what a turn of a member leaves
+    deed-leaves : (member : ℕ) → Deed past event calls step → performer_at event step.verdict ≡ Some (Member member)
+        → LeavesLot past member event step (acts_of past) calls
+    deed-leaves member (Rested none rests no_entry) by = subst (LeavesLot past member event step (acts_of past)) (sym none)
+        (rests-leaves past member event step (acts_of past) (within member) rests)
+    deed-leaves member (Asked asks) by = subst (LeavesLot past member event step (acts_of past)) (sym asks.one)
+        (unleased-first past member event step (acts_of past) asks.call [] kept asks.unleased
+        (rests-leaves past member event step (act_by (End (Member member)) (Calls asks.call) ∷ acts_of past)
+        (subst (λ x. (left_of_lot x).next ≤ (left_of_lot x).end) (sym kept) (within member)) asks.rests))
+      where
+        kept : holding_at tickets (act_by (End (Member member)) (Calls asks.call) ∷ acts_of past) (End (Member member)) ≡ holding_at tickets
+            (acts_of past) (End (Member member))
+        kept = same-lot past member event step (acts_of past) asks.call (asks.no_lot (length (begun_at tickets (acts_of past)).bases))
+    deed-leaves member (Ended other by_it none said ends quiet) by = subst (LeavesLot past member event step (acts_of past)) (sym none)
+        (none-leaves past member event step (acts_of past) (within member) (ap ticket_number said)
+        (ap (moved tickets) (over-rest event step other said ends quiet)))
+    deed-leaves member (Used u) by =
+        let same : Some (Member u.member) ≡ Some (Member member) = sym u.by_it ∙ by in
+        subst (λ k. LeavesLot past k event step (acts_of past) calls) (let k : u.member ≡ member = cc in k)
+        (uses-leaves past u.member event step u.needs u.lot (acts_of past) refl (within u.member) calls u.ready)
+    deed-leaves member (Used_theirs u) by = let no : Some Peer ≡ Some (Member member) = sym u.by_it ∙ by in absurd (cc)
 
 -- so it is after one more turn
 pub tickets-told : (past : List Turn) (turn : Turn) → Deed past turn.event turn.calls turn.step
@@ -297,9 +300,9 @@ tickets-told past turn deed before member = by_test (is_by (Member member) turn)
     by_test true t =
         let by : performer turn ≡ Some (Member member) = is_end-true (Member member) (performer turn) t in
         let leaves : LeavesLot past member turn.event turn.step (acts_of past) turn.calls = deed-leaves past turn.event turn.calls turn.step
-            within member deed by in
+        within member deed by in
         let is : numbers_by (own (Member member) (turn ∷ past)) ≡ numbers_after turn.calls turn.step
-            (left_of_lot (lots_of past member pools.Ticket)) =
+        (left_of_lot (lots_of past member pools.Ticket)) =
         ap (λ b. numbers_by (own_turns b)) t ∙ ap (numbers_after turn.calls turn.step) (before member).left in
         record {
           left = is ∙ subst (λ v. numbers_after turn.calls turn.step (left_of_lot (lots_of past member pools.Ticket)) ≡ left_of_lot
@@ -309,7 +312,7 @@ tickets-told past turn deed before member = by_test (is_by (Member member) turn)
         }
     by_test false t =
         let is : numbers_by (own (Member member) (turn ∷ past)) ≡ numbers_by (own (Member member) past) = ap (λ b. numbers_by (own_turns b))
-            t in
+        t in
         record {
           left = is ∙ ((before member).left ∙ ap left_of_lot (sym
               (others-hold tickets (actor_of turn) (Member member) (is_end-false (Member member) (performer turn) t) (moves_of turn)

@@ -267,8 +267,9 @@ pub fn executed_for_the_named()
 {}
 
 /// A covered genuine packet that comes to an end that is up is accepted at first delivery, by a
-/// member where its number is acknowledged to it. Genuine are octets that open, whoever sealed
-/// them, and new is what no earlier turn accepted.
+/// member where its number is acknowledged to it, and by the peer where it did not close the
+/// association. Genuine are octets that open, whoever sealed them, and new is what no earlier turn
+/// accepted.
 pub fn genuine_are_accepted()
     ensures runs { (boxes : ℕ) (past : List Turn) → Explained boxes past → AreAccepted past }
     ensures members { (boxes : ℕ) (past : List Turn) (turn : Turn) → Explained boxes (turn ∷ past)
