@@ -3,7 +3,7 @@ use Rattle.std.proofs.Common.{◌≡◌, ℕ, Option, Some, None, MatchOption, R
 use Rattle.std.proofs.lemmas.Option.{same_Some}
 use Rattle.std.specs.Option.{option_map}
 use Rattle.events.specs.declared.ike_outcomes.IkeDrop.TheVariants as drop
-use Rattle.events.specs.declared.ike_outcomes.Kept.TheVariants as kept
+use Rattle.events.specs.declared.ike_outcomes.Kept.{Kept}
 use Rattle.events.specs.declared.turn.Step.{Step}
 use Rattle.events.specs.declared.verdict.Verdict.{Verdict}
 use Rattle.events.specs.declared.verdict.Verdict.TheVariants as out
@@ -149,17 +149,17 @@ module _ {X : Type 0} (listener : Listener X) (calls : List Call) (step : Step) 
   IfNewHere (arrival.New request) = IsNewHere request
   IfNewHere comes = Unit {0}
 
-  inner-rests : (name : CounterName) (id : ℕ) (inner : Result (List PayloadValue) Bad) → TakesInner name id inner step → Rests step
-  inner-rests name id (Ok payloads) takes = says-rests step (out.Reply name id takes.reply kept.Plain _) tt takes.says
-  inner-rests name id (Err bad) takes = absurd takes
+  inner-rests : (Keeps : List PayloadValue → Kept → Type 0) (name : CounterName) (id : ℕ) (inner : Result (List PayloadValue) Bad) → TakesInner Keeps name id inner step → Rests step
+  inner-rests Keeps name id (Ok payloads) takes = says-rests step (out.Reply name id takes.2.reply takes.0 _) tt takes.2.says
+  inner-rests Keeps name id (Err bad) takes = absurd takes
 
   found-request : (request : Opened) (x : Option X) → held_for listener request ≡ x → IsNewHere request → MatchOption x ⊥ (λ held. listener.Answers held request calls step) → Taken listener calls step
   found-request request None e new takes = absurd takes
   found-request request (Some held) e new takes = Answered_by held request e (new held e) takes
 
-  found-response : (response : Opened) (x : Option X) → MatchOption x ⊥ (λ held. TakesInner (listener.asks held) response.header.id response.inner step) → Rests step
+  found-response : (response : Opened) (x : Option X) → MatchOption x ⊥ (λ held. TakesInner listener.Keeps (listener.asks held) response.header.id response.inner step) → Rests step
   found-response response None takes = absurd takes
-  found-response response (Some held) takes = inner-rests (listener.asks held) response.header.id response.inner takes
+  found-response response (Some held) takes = inner-rests listener.Keeps (listener.asks held) response.header.id response.inner takes
 
   found-sync : (request : Opened) (x : Option X) → held_for listener request ≡ x → MatchOption x ⊥ (λ held. listener.Synchronises held request calls step) → Taken listener calls step
   found-sync request None e takes = absurd takes

@@ -17,15 +17,17 @@ use Rattle.keeper_book.specs.declared.calls.Call.{Call}
 use Rattle.keeper_book.specs.declared.calls.KeeperAnswer.{KeeperAnswer}
 use Rattle.keeper_book.specs.declared.calls.KeeperAnswer.TheVariants as answer
 use Rattle.keeper_book.specs.declared.calls.KeeperAsk.TheVariants as ask
+use Rattle.keeper_book.specs.declared.pools.Pool.TheVariants as pools
 use Rattle.keeper_book.specs.declared.records.Record.{Record}
 use Rattle.keeper_book.specs.declared.records.Taken.{Taken}
 use Rattle.turn_laws.proofs.Deeds.{quiet-rests, says-rests, Asked, Deed, IsIdle, Rested}
-use Rattle.turn_laws.specs.Acts.{IsImport, entered_as, settled_as}
+use Rattle.turn_laws.specs.Acts.{IsImport, entered_as, lot_of, settled_as}
 use Rattle.turn_rules.specs.Draws.{Admits, EntersRecord, Grants, TakesOver, refusal_of_import, refusal_of_takeover}
 use Rattle.turn_rules.specs.Fits.{Quietly, Refuses, Yields, is_importable}
 use Rattle.turn_rules.specs.Held.{granted}
 use Rattle.turn_rules.specs.Peers.{record_entered}
 use Rattle.turn_rules.specs.Slots.{peer_counter}
+use Rattle.turn_rules.specs.TicketNumbers.{first_leased}
 
 admits-idle : (answered : KeeperAnswer) (verdict : Verdict) → Admits answered verdict → IsIdle verdict
 admits-idle answer.Done verdict a = subst (λ v. IsIdle v) (sym a) tt
@@ -114,6 +116,8 @@ module _ (past : List Turn) (step : Step) where
         may = λ acts w none. rw e.0 (importable-is sa importable, λ c. none (peer_counter sa c));
         own_record = λ spir taken is. absurd (not_granted spir taken (rw e.0 at is));
         unsettled = λ spir. ap (λ asked. settled_as spir asked (seen call)) e.0;
+        no_lot = λ before. ap (λ asked. lot_of pools.Ticket before asked (seen call)) e.0;
+        unleased = ap (λ asked. first_leased asked (seen call)) e.0;
         entry = ap (λ asked. entered_as asked (seen call)) e.0 ∙ admits-entry sa (seen call) step.verdict e.1;
         rests = quiet-rests step (admits-idle (seen call) step.verdict e.1) quietly.quiet;
       })
@@ -133,6 +137,8 @@ module _ (past : List Turn) (step : Step) where
         may = λ acts w none. rw t.0 tt;
         entry = ap (λ asked. entered_as asked (seen call)) t.0;
         unsettled = λ other. ap (λ asked. settled_as other asked (seen call)) t.0;
+        no_lot = λ before. ap (λ asked. lot_of pools.Ticket before asked (seen call)) t.0;
+        unleased = ap (λ asked. first_leased asked (seen call)) t.0;
         own_record = λ other taken is. grants-record spir member (seen call) step.verdict t.1 other taken (rw t.0 at is);
         rests = quiet-rests step (grants-idle spir (seen call) step.verdict t.1) quietly.quiet;
       })

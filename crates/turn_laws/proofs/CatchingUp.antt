@@ -35,17 +35,17 @@ use Rattle.turn_laws.proofs.Receivers.{IsInBook, recorded}
 use Rattle.turn_laws.proofs.Records.{deed-of, found-holds}
 use Rattle.turn_laws.proofs.Runs.{enters_all-append}
 use Rattle.turn_laws.proofs.Theirs.{not-both}
-use Rattle.turn_laws.proofs.Told.{is_end-true}
+use Rattle.turn_laws.proofs.Members.{is_end-true}
 use Rattle.turn_laws.specs.Acts.{entered_as}
 use Rattle.turn_laws.specs.CaughtUp.{AllCatchUp, CatchesUp, NoneInvented, uptos_in}
-use Rattle.turn_laws.specs.Synchronising.{MemberHolds, PeerHolds, PeerSynchronised}
+use Rattle.turn_laws.specs.Synchronising.{MemberHolds, PeerHolds, PeerSynchronised, is_association}
 use Rattle.turn_rules.proofs.SlotTies.{all-weaker, first-has, records-slots_by}
 use Rattle.turn_rules.specs.Ends.{Member, Peer, is_by, own, performer}
 use Rattle.turn_rules.specs.Held.{Held, first_some, found, grant_of, granted, holding, window_by}
 use Rattle.turn_rules.specs.Local.{Explained, Stands, calls_of}
 use Rattle.turn_rules.specs.Peers.{associations_by, entered_in}
 use Rattle.turn_rules.specs.IkeState.{turn_agreed}
-use Rattle.turn_rules.specs.Slots.{Slot, has_spir, next_sent, sent_of, since_entered, slots_by}
+use Rattle.turn_rules.specs.Slots.{Slot, next_sent, sent_of, since_entered, slots_by}
 use Rattle.turn_rules.specs.Tasks.{peer_task}
 
 -- ---- the peer's associations are those of the book
@@ -197,13 +197,13 @@ module _ (boxes : ℕ) (past : List Turn) (turn : Turn) (book : Book) (explained
   start-within : before.sa.starts.esp_in ≤ bound
   start-within =
       let told : before.next ≡ next_sent before.sa.spir before.sa.starts.esp_in (since_entered before.sa.spir (own Peer past)) =
-      ap (λ (s : Slot). s.next) (slot-told (window_by past) (own Peer past) (has_spir before.sa.spir) before done.had) in
+      ap (λ (s : Slot). s.next) (slot-told (window_by past) (own Peer past) (is_association before.sa.spir) before done.had) in
       let from : before.sa.starts.esp_in ≤ next_sent before.sa.spir before.sa.starts.esp_in (since_entered before.sa.spir (own Peer past)) =
       sent-from before.sa.spir before.sa.starts.esp_in (since_entered before.sa.spir (own Peer past)) in
       omega (arith, told, from)
 
   peer-recorded : record_of book before.sa.spir ≡ Some before.sa
-  peer-recorded = first-has (IsRecorded book) (has_spir before.sa.spir) (slots_by (window_by past) (own Peer past)) before
+  peer-recorded = first-has (IsRecorded book) (is_association before.sa.spir) (slots_by (window_by past) (own Peer past)) before
       (subst (λ list. AllByRecursion (IsRecorded book) list) (sym (records-slots_by (window_by past) (own Peer past)))
       (peers-recorded boxes past book explained.1 stands))
       done.had

@@ -20,7 +20,7 @@ use Rattle.turn_laws.proofs.Lists.{all-append}
 use Rattle.turn_laws.proofs.Names.{is_place-same}
 use Rattle.turn_laws.proofs.Outcomes.{Idle, Ours_used, Outcome, Over, Theirs_used, outcome-of}
 use Rattle.turn_laws.proofs.PeerSyncs.{first-spir, holds-other, holds-own}
-use Rattle.turn_laws.proofs.Records.{deed-of}
+use Rattle.turn_laws.proofs.Records.{lots-told, deed-of}
 use Rattle.turn_laws.proofs.Uses.{AreUses, Counts, IsUse, Seals_it, Spent, spent_at, spent_of}
 use Rattle.turn_laws.specs.Acts.{Move, Seals}
 use Rattle.turn_laws.specs.CaughtUp.{CoversAreCaughtUp, IsCaughtUp, NoneInvented, OpensPacketOf, SealsThem, WereSealed, upto_asked, uptos_in, uptos_of}
@@ -37,7 +37,8 @@ use Rattle.turn_rules.specs.MemberPackets.{IsReceived, IsReceiver, TakesPacket, 
 use Rattle.turn_rules.specs.Packets.{OpensEsp}
 use Rattle.turn_rules.specs.Safe.{KeyIv}
 use Rattle.turn_rules.specs.Slots.{Slot, peer_counter, slot_after}
-use Rattle.turn_rules.specs.States.{has_ended, held_unless, told_state}
+use Rattle.turn_rules.specs.MemberStates.{held_unless}
+use Rattle.turn_rules.specs.States.{has_ended, told_state}
 use Rattle.turn_rules.specs.Synchronised.{Agreed, after_rise, agreed_in}
 use Rattle.turn_rules.specs.Tasks.{peer_task}
 use Rattle.ha_base.specs.declared.counter_names.End.TheVariants as end
@@ -66,12 +67,12 @@ still-sends boxes past turn does spir n old = by_test (is_by Peer turn) refl
   where
     by_test : (b : Bool) → is_by Peer turn ≡ b → SendsFrom (turn ∷ past) spir n
     by_test true mine =
-        let more : old.slot.next ≤ (slot_after (peer_task turn.event) turn.step old.slot).next =
+        let more : old.slot.next ≤ (slot_after turn.moment (peer_task turn.event) turn.step old.slot).next =
         after-more (agreed_in old.slot.sa.spir (peer_task turn.event) turn.step.verdict)
         (used_in end.Peer old.slot.sa.spir counter.EspOut (peer_task turn.event) turn.step) old.slot.next in
         let from : n ≤ old.slot.next = old.from in
         record {
-          slot = slot_after (peer_task turn.event) turn.step old.slot;
+          slot = slot_after turn.moment (peer_task turn.event) turn.step old.slot;
           holds = holds-own boxes past turn does mine spir old.slot old.holds;
           from = omega (arith, more, from);
         }
@@ -169,17 +170,17 @@ module _ (boxes : ℕ) (past : List Turn) (turn : Turn) (explained : Explained b
       sym need.slot.sa.origin_is_own ∙ (ap (λ (n : CounterName). spir_of_origin n.origin) names ∙ sa.origin_is_own) in
       let spir : need.slot.sa.spir ≡ sa.spir = same_Some need.slot.sa.spir sa.spir spirs in
       let had : PeerHolds past need.slot.sa.spir need.slot = first-spir boxes past explained.1 need.test need.slot need.is_first in
-      let has : PeerHolds (turn ∷ past) need.slot.sa.spir (slot_after (peer_task turn.event) turn.step need.slot) =
+      let has : PeerHolds (turn ∷ past) need.slot.sa.spir (slot_after turn.moment (peer_task turn.event) turn.step need.slot) =
       holds-own boxes past turn does mine need.slot.sa.spir need.slot had in
       let used : used_in end.Peer need.slot.sa.spir counter.EspOut (peer_task turn.event) turn.step ≡ Some need.number =
       told need.slot.sa.spir (ap (Ours need.slot.sa.spir) sends) in
       let agreed : Option Agreed = agreed_in need.slot.sa.spir (peer_task turn.event) turn.step.verdict in
-      let next : (slot_after (peer_task turn.event) turn.step need.slot).next ≡ after_rise agreed (after_number (Some need.number) need.slot.next) =
+      let next : (slot_after turn.moment (peer_task turn.event) turn.step need.slot).next ≡ after_rise agreed (after_number (Some need.number) need.slot.next) =
       ap (λ x. after_rise agreed (after_number x need.slot.next)) used in
       let more : need.number + 1 ≤ after_rise agreed (after_number (Some need.number) need.slot.next) = after-used agreed need.number need.slot.next in
       record {
-        slot = slot_after (peer_task turn.event) turn.step need.slot;
-        holds = subst (λ k. PeerHolds (turn ∷ past) k (slot_after (peer_task turn.event) turn.step need.slot)) spir has;
+        slot = slot_after turn.moment (peer_task turn.event) turn.step need.slot;
+        holds = subst (λ k. PeerHolds (turn ∷ past) k (slot_after turn.moment (peer_task turn.event) turn.step need.slot)) spir has;
         from = omega (arith, next, more);
       }
 
@@ -248,7 +249,7 @@ module _ (boxes : ℕ) (past : List Turn) (turn : Turn) (explained : Explained b
       (takes-within held packet turn.calls answer takes)
 
   turn-caught : CallsCaughtUp (turn ∷ past) turn.calls
-  turn-caught = go (does-cover (told_state boxes past) turn.moment turn.calls turn.step turn.event (does-told boxes past turn explained.0 explained.1))
+  turn-caught = go (does-cover (told_state boxes past) (lots-told boxes past explained.1) turn.moment turn.calls turn.step turn.event (does-told boxes past turn explained.0 explained.1))
     where
       go : CoverTurn (told_state boxes past) turn.event turn.calls → CallsCaughtUp (turn ∷ past) turn.calls
       go (None_asked none) = all-weaker turn.calls (λ call asks spir upto is. let both : None ≡ Some upto = sym (asks spir) ∙ is in absurd (cc)) none

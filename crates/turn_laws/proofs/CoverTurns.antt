@@ -19,6 +19,7 @@ use Rattle.ha_base.specs.declared.outside.Moment.{Moment}
 use Rattle.horizons.specs.Reaches.{cover_of, lead_of}
 use Rattle.horizons.specs.Ready.{Ready}
 use Rattle.horizons.specs.declared.stop.Stop.{Stop}
+use Rattle.sk_payload.specs.declared.open.Opened.{Opened}
 use Rattle.keeper_book.specs.Counters.{five_at}
 use Rattle.keeper_book.specs.declared.calls.Call.{Call}
 use Rattle.keeper_book.specs.declared.calls.KeeperAsk.TheVariants as ask
@@ -32,19 +33,25 @@ use Rattle.turn_rules.proofs.Readies.{counter-named}
 use Rattle.turn_rules.specs.Configurations.{fresh_octets}
 use Rattle.turn_rules.specs.Datagrams.{PlainDatagram, arrives, delivery_of}
 use Rattle.turn_rules.specs.Deliveries.{MemberGets, PeerGets}
-use Rattle.turn_rules.specs.Draws.{Concludes, EntersRecord, TakesOver, child_of, counter_kind, reach_of, refusal_of_stop}
+use Rattle.turn_rules.specs.Draws.{Concludes, counter_name, EntersRecord, TakesOver, child_of, counter_kind, reach_of, refusal_of_stop}
 use Rattle.turn_rules.specs.Ends.{Member, end_of_party, receiver_of}
 use Rattle.turn_rules.specs.Fits.{Does, DrawsOf, Performs, Quietly, Receives, Refuses, Refusing, SendsOf, run_refusal}
 use Rattle.turn_rules.specs.Held.{Held, is_counter, is_named}
-use Rattle.turn_rules.specs.MemberMessages.{AsksOf, HeldSendsRequest, ReadiesWithIv, RefusesThen, ResendsOf, SendsSync, SyncsOf, held_ike, member_listener, sync_id}
+use Rattle.turn_rules.specs.MemberMessages.{AsksOf, HeldAnswers, HeldSendsRequest, ReadiesThen, ReadiesWithIv, ResendsOf, SendsSync, SyncsOf, held_ike, member_listener, sync_id}
 use Rattle.turn_rules.specs.MemberPackets.{IsReceived, TakesPacket, outbound_of}
-use Rattle.turn_rules.specs.Messages.{SendsRequest, TakesMessage, Windowed}
+use Rattle.ike_sas.specs.declared.ticket_messages.TicketAnswer.{TicketAnswer}
+use Rattle.turn_rules.specs.Messages.{AnswersRequest, SendsRequest, TakesMessage, Windowed}
 use Rattle.turn_rules.specs.Packets.{SendsEsp}
 use Rattle.turn_rules.specs.PeerMessages.{peer_listener}
-use Rattle.turn_rules.specs.Peers.{admits}
-use Rattle.turn_rules.specs.Slots.{Slot, records}
+use Rattle.ike_sas.specs.Answers.{request_payloads}
+use Rattle.ike_values.specs.Values.{PayloadValue}
+use Rattle.turn_rules.specs.Slots.{Slot, admits}
 use Rattle.turn_rules.specs.States.{RunState}
-use Rattle.turn_rules.specs.Steps.{Says}
+use Rattle.turn_rules.specs.MemberStates.{MemberHeld}
+use Rattle.turn_rules.specs.MemberTickets.{TellsTicket}
+use Rattle.turn_laws.proofs.Covers.{IsLease}
+use Rattle.turn_laws.proofs.Tickets.{HasLot, tells-calls}
+use Rattle.turn_rules.specs.Steps.{RefusesThen, Says}
 
 -- none of the calls asks for such a cover
 abbrev pub AsksNone : Call → Type 0
@@ -76,17 +83,21 @@ ready-none held c other at stops goes stopped gone calls ready = ready-calls Non
     (λ call rest asked more. (other-cover c other call held.sa.spir held.epoch (cover_of (reach_of held c) at) asked, more))
     stopped gone calls ready
 
-readies-none : (held : Held) (c : Counter) → is_counter counter.EspIn c ≡ false → (at : ℕ) (step : Step) (done : Type 0) (calls : List Call)
-    → ReadiesWithIv held c at calls step done → NoneAsked calls
-readies-none held c other at step done calls ready = ready-none held c other at
+readies_then-none : (held : Held) (c : Counter) → is_counter counter.EspIn c ≡ false → (at : ℕ) (step : Step) (goes : List Call → Type 0) → ((rest : List Call) → goes rest → NoneAsked rest) → (calls : List Call)
+    → ReadiesThen held c at calls step goes → NoneAsked calls
+readies_then-none held c other at step goes none calls ready = ready-none held c other at
     (λ why rest. RefusesThen (refusal_of_stop why) rest step)
     (λ high rest. Ready (reach_of held counter.Iv) (five_at held.nexts counter.Iv) rest (λ why rest. RefusesThen (refusal_of_stop why) rest step)
-    (λ high rest. (rest ≡ []) × done))
+    (λ high rest. goes rest))
     (λ why rest s. no-calls rest s.0)
     (λ high rest more. ready-none held counter.Iv refl (five_at held.nexts counter.Iv) (λ why rest. RefusesThen (refusal_of_stop why) rest step)
-    (λ high rest. (rest ≡ []) × done)
-    (λ why rest s. no-calls rest s.0) (λ high rest d. no-calls rest d.0) rest more)
+    (λ high rest. goes rest)
+    (λ why rest s. no-calls rest s.0) (λ high rest so. none rest so) rest more)
     calls ready
+
+readies-none : (held : Held) (c : Counter) → is_counter counter.EspIn c ≡ false → (at : ℕ) (step : Step) (done : Type 0) (calls : List Call)
+    → ReadiesWithIv held c at calls step done → NoneAsked calls
+readies-none held c other at step done calls ready = readies_then-none held c other at step (λ rest. (rest ≡ []) × done) (λ rest d. no-calls rest d.0) calls ready
 
 taken-none : (spir member : ℕ) (step : Step) (calls : List Call) → TakesOver spir member calls step.verdict → NoneAsked calls
 taken-none spir member step [] is = absurd is
@@ -121,7 +132,7 @@ resent-none : (id : ℕ) (x : Option Held) (calls : List Call) (step : Step) →
 resent-none id None calls step r = no-calls calls r.0
 resent-none id (Some held) calls step r = no-calls calls r.0
 
-asked-none : (request : List ℕ) (x : Option Held) (calls : List Call) (step : Step) → AsksOf x request calls step → NoneAsked calls
+asked-none : (request : List PayloadValue) (x : Option Held) (calls : List Call) (step : Step) → AsksOf x request calls step → NoneAsked calls
 asked-none request None calls step r = no-calls calls r.0
 asked-none request (Some held) calls step asks = by_synced held.synced asks
   where
@@ -157,13 +168,25 @@ peer_message-none slots octets calls step takes = go (message-taken (peer_listen
     go (Synchronised_by slot request found does) = no-calls calls does.no_calls
     go (Sync_taken_by slot response found takes) = absurd takes
 
-member_message-none : (fresh : List ℕ) (held_of : ℕ → Option Held) (octets : List ℕ) (calls : List Call) (step : Step)
-    → TakesMessage (member_listener fresh held_of) octets calls step → NoneAsked calls
-member_message-none fresh held_of octets calls step takes = go (message-taken (member_listener fresh held_of) calls step octets takes)
+-- a lease asks for no cover
+leased-none : (call : Call) → IsLease call → NoneAsked (call ∷ [])
+leased-none call lease = ((λ at. ap (upto_asked at counter.EspIn) lease.asked), tt)
+
+member_message-none : (m : MemberHeld) → HasLot m → (now : Moment) (octets : List ℕ) (calls : List Call) (step : Step)
+    → TakesMessage (member_listener m now) octets calls step → NoneAsked calls
+member_message-none m within now octets calls step takes = go (message-taken (member_listener m now) calls step octets takes)
   where
-    go : Taken (member_listener fresh held_of) calls step → NoneAsked calls
+    answered : (held : Held) (request : Opened) → HeldAnswers m now held request calls step → NoneAsked calls
+    answered held request answers = readies_then-none held counter.Answer refl request.header.id step (λ rest. TellsTicket m now held.sa request rest step Answers)
+        (λ rest tells. tells-calls m within now held.sa request step Answers NoneAsked (λ says. tt) (λ ticket so. tt) (λ call lease none. leased-none call lease) rest tells)
+        calls answers
+      where
+        Answers : Option TicketAnswer → Type 0
+        Answers ticket = AnswersRequest (counter_name held.sa counter.Answer) (held_ike held) (five_at held.nexts counter.Iv) request ticket step
+
+    go : Taken (member_listener m now) calls step → NoneAsked calls
     go (Rested_by none rests) = no-calls calls none
-    go (Answered_by held request found new answers) = readies-none held counter.Answer refl request.header.id step _ calls answers
+    go (Answered_by held request found new answers) = answered held request answers
     go (Synchronised_by held request found does) = absurd does
     go (Sync_taken_by held response found takes) = no-calls calls takes.0
 
@@ -180,7 +203,7 @@ pub data CoverTurn (state : RunState) (at : Event) (calls : List Call) : Type 0 
       → arrives state.datagrams at ≡ Ok (record { medium = medium.Esp; octets = octets })
       → PacketOpened (state.members member).held octets calls → CoverTurn state at calls
 
-module _ (state : RunState) (now : Moment) (calls : List Call) (step : Step) where
+module _ (state : RunState) (within : (member : ℕ) → HasLot (state.members member)) (now : Moment) (calls : List Call) (step : Step) where
   abbrev Turns : Event → Type 0
   Turns at = CoverTurn state at calls
 
@@ -195,9 +218,8 @@ module _ (state : RunState) (now : Moment) (calls : List Call) (step : Step) whe
   received at (parties.Member member) addressed (Ok datagram) e gets = member_gets datagram.medium refl gets
     where
       member_gets : (m : Medium) → datagram.medium ≡ m
-          → MemberGets m (fresh_octets (state.members member).given) (state.members member).held datagram.octets calls step → Turns at
-      member_gets medium.Ike is takes = None_asked (member_message-none (fresh_octets (state.members member).given)
-          (state.members member).held datagram.octets calls step takes)
+          → MemberGets m (state.members member) now datagram.octets calls step → Turns at
+      member_gets medium.Ike is takes = None_asked (member_message-none (state.members member) (within member) now datagram.octets calls step takes)
       member_gets medium.Esp is takes = ⊎_elim
           (λ short. None_asked (no-calls calls (takes.receives.short short).0))
           (λ long. ⊎_elim
@@ -209,7 +231,7 @@ module _ (state : RunState) (now : Moment) (calls : List Call) (step : Step) whe
 
   performed : (at : Event) → Performs state now at calls step → Turns at
   performed (event.Cluster identity lifetime window ticket_key) y = None_asked (no-calls calls y.no_calls)
-  performed (event.Import sa) p = None_asked (imported-none sa calls step (not (admits (records state.peer.slots) sa)) p)
+  performed (event.Import sa) p = None_asked (imported-none sa calls step (not (admits state.peer.slots sa)) p)
   performed (event.Join fresh) y = None_asked (no-calls calls y.no_calls)
   performed (event.Own member spir) quietly = None_asked (taken-none spir member step calls quietly.follows)
   performed (event.Draw member spir) draws = None_asked (drawn-none ((state.members member).held spir) calls step draws)
@@ -217,11 +239,13 @@ module _ (state : RunState) (now : Moment) (calls : List Call) (step : Step) whe
   performed (event.Send parties.Peer spir payload) sends = None_asked (no-calls calls sends.0)
   performed (event.Send (parties.Member member) spir payload) sends = None_asked (sent-none payload.octets ((state.members member).held spir) calls step sends)
   performed (event.Ask parties.Peer spir request) asks = None_asked (no-calls calls asks.0)
-  performed (event.Ask (parties.Member member) spir request) asks = None_asked (asked-none request.octets ((state.members member).held spir) calls step asks)
+  performed (event.Ask (parties.Member member) spir request) asks = None_asked (asked-none (request_payloads request.octets) ((state.members member).held spir) calls step asks)
   performed (event.Again parties.Peer spir id) r = None_asked (no-calls calls r.0)
   performed (event.Again (parties.Member member) spir id) r = None_asked (resent-none id ((state.members member).held spir) calls step r)
   performed (event.Sync member spir) does = None_asked (synced-none (fresh_octets (state.members member).given)
       ((state.members member).held spir) calls step does)
+  performed (event.Ticket spir) asks = None_asked (no-calls calls asks.0)
+  performed (event.Forget spir) forgets = None_asked (no-calls calls forgets.0)
   performed (event.Deliver which to) r = received (event.Deliver which to) to refl (arrives state.datagrams (event.Deliver which to)) refl r
   performed (event.Alter which to place octet) r = received (event.Alter which to place octet) to refl
       (arrives state.datagrams (event.Alter which to place octet)) refl r

@@ -3,6 +3,7 @@ use Rattle.turn_laws.specs.Holdings.{Holding}
 use Rattle.events.specs.declared.turn.Step.{Step}
 use Rattle.events.specs.declared.event.Event.{Event}
 use Rattle.keeper_book.specs.declared.pools.Pool.{Pool}
+use Rattle.pool_lots.specs.declared.lots.TheConstants.{LEASED_NUMBERS}
 use Rattle.std.proofs.Common.{◌≡◌, ℕ, Option, Some, None, MatchOption, List, [], ◌∷◌, ⊎_elim, subst, sym, ◌⊎◌, map}
 use Rattle.std.proofs.lemmas.Bool.{cases_lt}
 use Rattle.horizons.specs.Reaches.{Reach, cover_of}
@@ -97,8 +98,7 @@ module _ {past : List Turn} {member : ℕ} (R : List Call → Type 0) (stops : T
 -- a call that asks for a range of a pool
 pub record IsLease (call : Call) : Type 0 where
   pub pool : Pool
-  pub count : ℕ
-  pub asked : call.asked ≡ ask.Lease pool count
+  pub asked : call.asked ≡ ask.Lease pool LEASED_NUMBERS
 
 -- what holds of the calls of a turn in which a member uses numbers
 module _ (R : List Call → Type 0)
@@ -108,8 +108,8 @@ module _ (R : List Call → Type 0)
   lot-calls : (lot : Option LotNeed) (held : Pool → Option Holding) (without goes : Type 0) (calls : List Call) → IsLotReady lot held calls without goes → R calls
   lot-calls None held without goes calls last = subst R (sym last.ended) none
   lot-calls (Some need) held without goes calls (Left h holds below is ended so) = subst R (sym ended) none
-  lot-calls (Some need) held without goes calls (Leased call one asked sees so) = subst R (sym one) (leases call (record { pool = need.pool; count = need.count; asked = asked }))
-  lot-calls (Some need) held without goes calls (InVain call why one asked sees so) = subst R (sym one) (leases call (record { pool = need.pool; count = need.count; asked = asked }))
+  lot-calls (Some need) held without goes calls (Leased call one asked sees so) = subst R (sym one) (leases call (record { pool = need.pool; asked = asked }))
+  lot-calls (Some need) held without goes calls (InVain call why one asked sees so) = subst R (sym one) (leases call (record { pool = need.pool; asked = asked }))
 
   pub used-calls : {past : List Turn} {event : Event} {step : Step} (calls : List Call) → MemberUses past event calls step → R calls
   used-calls {past} {event} {step} calls u = are_ready-calls R (Rests step) _ covers

@@ -3,6 +3,10 @@ use Rattle.keeper_book.specs.declared.faults.KeeperFault.{KeeperFault}
 use Rattle.keeper_book.specs.declared.calls.KeeperAnswer.TheVariants as answer
 use Rattle.keeper_book.specs.declared.calls.KeeperAsk.TheVariants as ask
 use Rattle.keeper_book.specs.declared.pools.Pool.{Pool}
+use Rattle.keeper_book.specs.declared.pools.Pool.TheVariants as pools
+use Rattle.pool_lots.specs.declared.lots.TheConstants.{LEASED_NUMBERS}
+use Rattle.turn_laws.specs.OwnTurns.{left_of_lot}
+use Rattle.turn_rules.specs.TicketNumbers.{first_leased, numbers_by, ticket_number}
 use Rattle.std.specs.List.{AllByRecursion}
 use Rattle.std.specs.Prelude.{IsSome, is_some}
 use Rattle.ike_window.specs.Requests.{IsNewRequest}
@@ -10,7 +14,7 @@ use Rattle.ike_window.specs.Windows.{IsAnswered}
 use Rattle.ha_base.specs.declared.counter_names.End.TheVariants as end
 use Rattle.turn_rules.specs.Tasks.{peer_task}
 use Rattle.events.specs.declared.turn.Served.{Served}
-use Rattle.std.proofs.Common.{[], ◌++◌, ◌<◌, ◌∷◌, ◌≡◌, Bool, true, List, None, Option, Some, map, option_to_list, subst, sym, ℕ, ◌⊎◌, ◌≤◌}
+use Rattle.std.proofs.Common.{refl, [], ◌++◌, ◌<◌, ◌∷◌, ◌≡◌, Bool, true, List, None, Option, Some, map, option_to_list, subst, sym, ℕ, ◌⊎◌, ◌≤◌}
 use Rattle.events.specs.declared.event.Event.{Event}
 use Rattle.events.specs.declared.turn.Step.{Step}
 use Rattle.events.specs.declared.turn.Turn.{Turn}
@@ -28,7 +32,7 @@ use Rattle.keeper_book.specs.declared.records.Taken.{Taken}
 use Rattle.replay_set.specs.Window.{judged}
 use Rattle.replay_set.specs.declared.judgement.Judgement.TheVariants.{Fresh}
 use Rattle.turn_laws.proofs.Uses.{AreElsewhere, AreUses, Spent, number_at, spent_at, spent_of, IsAmong}
-use Rattle.turn_laws.specs.Acts.{Act, IsUnstarted, MayAsk, Move, Seals, entered_as, settled_as, holding_at}
+use Rattle.turn_laws.specs.Acts.{Act, IsUnstarted, MayAsk, Move, Seals, entered_as, settled_as, holding_at, lot_of}
 use Rattle.turn_laws.specs.Holdings.{Actor, Holding, End}
 use Rattle.turn_laws.specs.Listed.{request_at}
 use Rattle.turn_laws.specs.Places.{Ours, Place, Theirs, place_of, Pooled}
@@ -98,6 +102,11 @@ none-answering step served taken = record {
   gives = λ some. let no : is_some {T = Request} None ≡ true = subst (λ o. is_some o ≡ true) taken some in absurd (cc);
 }
 
+-- where no request is taken, there is no ticket
+pub untaken-ticket : (verdict : Verdict) → taken_as verdict ≡ None → ticket_number verdict ≡ None
+untaken-ticket (out.Executed name id mark) none = absurd (cc)
+untaken-ticket verdict none = refl
+
 -- the numbers that a member may use of what it holds: those from the next one that it sends on, those that it did not receive, and those of new requests
 abbrev pub IsOpen : Held → Counter → ℕ → Type 0
 IsOpen held counter.EspIn n = judged held.window n ≡ Fresh
@@ -134,6 +143,7 @@ pub record UsesIt (needed : List Spent) (event : Event) (step : Step) : Type 0 w
   pub told : (other : ℕ) (d : Counter) → spent_at (Ours other d) ss ≡ option_to_list (number_taken other d event step)
   pub answers : (spir : ℕ) → answered spir event step.verdict ≡ request_at (Ours spir counter.Answer) (taken_as step.verdict)
   pub not_theirs : (name : CounterName) → spent_at (Theirs name) ss ≡ []
+  pub tickets : spent_at (Pooled pools.Ticket) ss ≡ option_to_list (ticket_number step.verdict)
   pub named : (packet : Packet) → accepted_as step.verdict ≡ Some packet → (other n : ℕ) → received other event step.verdict ≡ Some n → place_of packet.name ≡ Ours other counter.EspIn
 
 -- a number that a member needs of what it holds
@@ -159,18 +169,16 @@ AreReady (need ∷ needs) calls stops goes = Ready (reach_of need.held need.c) n
     (λ why rest. Last rest stops)
     (λ high rest. AreReady needs rest stops goes)
 
--- a number of a pool that a member needs, and how many it leases where it has none left
+-- a number of a pool that a member needs
 pub record LotNeed : Type 0 where
   pub pool : Pool
   pub number : ℕ
-  pub count : ℕ
-  pub some : 1 ≤ count
 
 -- It is the next one of the lot that is held, or the first of a range that is leased, and then the turn ends. A lease that was refused may leave the turn without it.
 pub data LotReady (held : Option Holding) (need : LotNeed) (calls : List Call) (without goes : Type 0) : Type 0 where
   Left : (h : Holding) → held ≡ Some h → h.next < h.high → need.number ≡ h.next → calls ≡ [] → goes → LotReady held need calls without goes
-  Leased : (call : Call) → calls ≡ call ∷ [] → call.asked ≡ ask.Lease need.pool need.count → seen call ≡ answer.First need.number → goes → LotReady held need calls without goes
-  InVain : (call : Call) (why : KeeperFault) → calls ≡ call ∷ [] → call.asked ≡ ask.Lease need.pool need.count → seen call ≡ answer.Refused why → without → LotReady held need calls without goes
+  Leased : (call : Call) → calls ≡ call ∷ [] → call.asked ≡ ask.Lease need.pool LEASED_NUMBERS → seen call ≡ answer.First need.number → goes → LotReady held need calls without goes
+  InVain : (call : Call) (why : KeeperFault) → calls ≡ call ∷ [] → call.asked ≡ ask.Lease need.pool LEASED_NUMBERS → seen call ≡ answer.Refused why → without → LotReady held need calls without goes
 
 -- where a number of a pool is needed, it gets ready behind the others
 abbrev pub IsLotReady : Option LotNeed → (Pool → Option Holding) → List Call → Type 0 → Type 0 → Type 0
@@ -184,6 +192,11 @@ with_lot (Some need) ss = spent_of (Pooled need.pool) need.number ∷ ss
 -- the lots that a member holds before the turn
 abbrev pub lots_of : List Turn → ℕ → Pool → Option Holding
 lots_of past member pool = holding_at (Pooled pool) (acts_of past) (End (Member member))
+
+-- what a member's own turns say that is left of its lot of tickets is what is left of it, and the next number is not above its end
+pub record AreTicketsTold (past : List Turn) (member : ℕ) : Type 0 where
+  pub left : numbers_by (own (Member member) past) ≡ left_of_lot (lots_of past member pools.Ticket)
+  pub within : (numbers_by (own (Member member) past)).next ≤ (numbers_by (own (Member member) past)).end
 
 -- A member that holds associations uses numbers of them, and of a pool, once all are ready.
 pub record MemberUses (past : List Turn) (event : Event) (calls : List Call) (step : Step) : Type 0 where
@@ -231,6 +244,7 @@ pub record PeerUses (past : List Turn) (event : Event) (calls : List Call) (step
   pub told : (other : ℕ) (d : Counter) → spent_at (Ours other d) (map spent_by_spir needs) ≡ option_to_list (number_theirs other d event step)
   pub named : (packet : Packet) → accepted_as step.verdict ≡ Some packet → (other n : ℕ) → received other event step.verdict ≡ Some n → IsOfOne packet other needs
   pub no_entry : record_entered event step.verdict ≡ None
+  pub no_ticket : ticket_number step.verdict ≡ None
 
 -- one call is made that asks for no number
 pub record Asks (event : Event) (calls : List Call) (step : Step) : Type 0 where
@@ -239,6 +253,8 @@ pub record Asks (event : Event) (calls : List Call) (step : Step) : Type 0 where
   pub may : (acts : List Act) (w : Actor) → NoneStarted acts → MayAsk acts w call.asked
   pub own_record : HasItsRecord call
   pub unsettled : (spir : ℕ) → settled_as spir call.asked (seen call) ≡ None
+  pub no_lot : (before : ℕ) → lot_of pools.Ticket before call.asked (seen call) ≡ None
+  pub unleased : first_leased call.asked (seen call) ≡ None
   pub entry : entered_as call.asked (seen call) ≡ record_entered event step.verdict
   pub rests : Rests step
 

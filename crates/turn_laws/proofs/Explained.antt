@@ -14,9 +14,11 @@ use Rattle.ha_base.specs.declared.outside.Moment.{Moment}
 use Rattle.keeper_book.specs.declared.calls.Call.{Call}
 use Rattle.keeper_book.specs.declared.records.Record.{Record}
 use Rattle.turn_laws.proofs.Asking.{enters-deed, refused-deed, takes_over-deed, yields-deed}
-use Rattle.turn_laws.proofs.Deeds.{Deed, Ended, Rested, says-rests}
+use Rattle.ike_sas.specs.Answers.{request_payloads}
+use Rattle.ike_sas.specs.TicketMessages.{ticket_request_payloads}
+use Rattle.turn_laws.proofs.Deeds.{AreTicketsTold, Deed, Ended, Rested, says-rests}
 use Rattle.turn_laws.proofs.MemberRequests.{asks-deed, member_message-deed, resends-deed, syncs-deed}
-use Rattle.turn_laws.proofs.PeerRequests.{peer_asks-deed, peer_message-deed, peer_resends-deed}
+use Rattle.turn_laws.proofs.PeerRequests.{peer_asks-deed, peer_forgets-deed, peer_message-deed, peer_resends-deed}
 use Rattle.turn_rules.specs.Deliveries.{MemberGets, PeerGets}
 use Rattle.turn_rules.specs.MemberMessages.{AsksOf, SyncsOf}
 use Rattle.events.specs.declared.turn.Medium.{Medium}
@@ -31,12 +33,11 @@ use Rattle.turn_rules.specs.Draws.{EntersRecord}
 use Rattle.turn_rules.specs.Ends.{Member, own}
 use Rattle.turn_rules.specs.Fits.{Does, DrawsOf, Performs, Quietly, Receives, Refuses, Refusing, SendsOf, is_importable, refused_where, run_refusal}
 use Rattle.turn_rules.specs.Held.{Held, held_by, window_by}
-use Rattle.turn_rules.specs.Peers.{admits}
-use Rattle.turn_rules.specs.Slots.{records}
+use Rattle.turn_rules.specs.Slots.{admits}
 use Rattle.turn_rules.specs.States.{RunState, told_state}
 
 module _ (boxes : ℕ) (past : List Turn) (own_spir : (member spir : ℕ) (held : Held) → held_by (window_by past) (own (Member member) past) spir ≡ Some held → held.sa.spir ≡ spir)
-    (now : Moment) (calls : List Call) (step : Step) where
+    (tickets : (member : ℕ) → AreTicketsTold past member) (now : Moment) (calls : List Call) (step : Step) where
   abbrev state : RunState
   state = told_state boxes past
 
@@ -68,15 +69,12 @@ module _ (boxes : ℕ) (past : List Turn) (own_spir : (member spir : ℕ) (held 
       peer_gets medium.Esp takes = peer_takes-deed past event brings datagram.octets calls step takes
   received event (parties.Member member) brings (Ok datagram) gets = member_gets datagram.medium gets
     where
-      fresh : List ℕ
-      fresh = fresh_octets (state.members member).given
-
-      member_gets : (m : Medium) → MemberGets m fresh (state.members member).held datagram.octets calls step → Deed past event calls step
-      member_gets medium.Ike takes = member_message-deed boxes past own_spir event calls step member brings fresh datagram.octets takes
+      member_gets : (m : Medium) → MemberGets m (state.members member) now datagram.octets calls step → Deed past event calls step
+      member_gets medium.Ike takes = member_message-deed boxes past own_spir tickets event calls step member brings now datagram.octets takes
       member_gets medium.Esp takes =
           member_takes-deed boxes past own_spir event calls step takes.quiet takes.answer takes.after takes.worded member brings datagram.octets takes.receives
 
-  asked : (member spir : ℕ) (request : WithRoom) (x : Option Held) → (state.members member).held spir ≡ x → AsksOf x request.octets calls step → Deed past (event.Ask (parties.Member member) spir request) calls step
+  asked : (member spir : ℕ) (request : WithRoom) (x : Option Held) → (state.members member).held spir ≡ x → AsksOf x (request_payloads request.octets) calls step → Deed past (event.Ask (parties.Member member) spir request) calls step
   asked member spir request None e r = Rested r.0 (says-rests step (out.Refused refusal.NotOwner) tt r.1) refl
   asked member spir request (Some held) e asks =
       let is_held : held_by (window_by past) (own (Member member) past) spir ≡ Some held = own-held boxes past member spir held e in
@@ -100,14 +98,18 @@ module _ (boxes : ℕ) (past : List Turn) (own_spir : (member spir : ℕ) (held 
 
   performed : (event : Event) → run_refusal state event ≡ None → Performs state now event calls step → Deed past event calls step
   performed (event.Cluster identity lifetime window ticket_key) none y = yields-deed past step (event.Cluster identity lifetime window ticket_key) calls out.Configured tt refl y
-  performed (event.Import sa) none p = imported sa (importable sa none) (not (admits (records state.peer.slots) sa)) p
+  performed (event.Import sa) none p = imported sa (importable sa none) (not (admits state.peer.slots sa)) p
   performed (event.Join fresh) none y = yields-deed past step (event.Join fresh) calls (out.Member _) tt refl y
   performed (event.Own member spir) none quietly = takes_over-deed past step member spir calls quietly
   performed (event.Draw member spir) none draws = drawn member spir ((state.members member).held spir) refl draws
   performed (event.Crash member) none y = Ended member (let said : _ = y.says.said in rw said refl) y.no_calls y.says.said refl y.says.quiet
   performed (event.Send parties.Peer spir payload) none sends = peer_sends-deed past step spir payload calls sends.0 sends.1
   performed (event.Send (parties.Member member) spir payload) none sends = sent member spir payload ((state.members member).held spir) refl sends
-  performed (event.Ask parties.Peer spir request) none asks = peer_asks-deed past step spir request calls asks.0 asks.1
+  performed (event.Ask parties.Peer spir request) none asks = peer_asks-deed past step (event.Ask parties.Peer spir request) spir (request_payloads request.octets)
+      (record { performs = λ verdict. refl; no_entry = λ verdict. refl; by_peer = refl; by_none = refl; receives = λ other verdict. refl; answers = λ other verdict. refl }) calls asks.0 asks.1
+  performed (event.Ticket spir) none asks = peer_asks-deed past step (event.Ticket spir) spir ticket_request_payloads
+      (record { performs = λ verdict. refl; no_entry = λ verdict. refl; by_peer = refl; by_none = refl; receives = λ other verdict. refl; answers = λ other verdict. refl }) calls asks.0 asks.1
+  performed (event.Forget spir) none forgets = peer_forgets-deed past step spir calls forgets.0 forgets.1
   performed (event.Ask (parties.Member member) spir request) none asks = asked member spir request ((state.members member).held spir) refl asks
   performed (event.Again parties.Peer spir id) none r = peer_resends-deed past step spir id calls r.0 r.1
   performed (event.Again (parties.Member member) spir id) none r = resends-deed past step member spir id ((state.members member).held spir) calls r

@@ -1,6 +1,6 @@
 -- What the window of an end notes are packets that were accepted: so a packet that was not accepted is new to it.
-use Rattle.std.proofs.Common.{◌≡◌, ◌≢◌, ℕ, Bool, true, false, Option, Some, None, List, [], ◌∷◌, refl, ap, sym, ◌∙◌, subst, if◌then◌else◌}
-use Rattle.std.proofs.lemmas.Bool.{eqb-true}
+use Rattle.std.proofs.Common.{◌==◌, ◌≡◌, ◌≢◌, ℕ, Bool, true, false, Option, Some, None, List, [], ◌∷◌, refl, ap, sym, ◌∙◌, subst, if◌then◌else◌}
+use Rattle.std.proofs.lemmas.Bool.{and_parts, eqb-true}
 use Rattle.std.proofs.lemmas.List.Elements.{All-contains, All-from_recursion}
 use Rattle.std.proofs.lemmas.Option.{same_Some}
 use Rattle.std.specs.List.{AllByRecursion, Contains, cons_option, filter, filter_map}
@@ -24,7 +24,7 @@ use Rattle.turn_laws.proofs.Opened.{IsNamed, its-told, slot-told}
 use Rattle.turn_laws.proofs.Outcomes.{Idle, Ours_used, Outcome, Over, Theirs_used, idle-received, outcome-of, over-received}
 use Rattle.turn_laws.proofs.Records.{deed-of}
 use Rattle.turn_laws.proofs.Theirs.{not-both, no-packet}
-use Rattle.turn_laws.proofs.Told.{is_end-true}
+use Rattle.turn_laws.proofs.Members.{is_end-true}
 use Rattle.turn_laws.specs.FirstDelivery.{IsUnaccepted, IsOtherPacket, MemberAcceptsFirst, PeerAcceptsFirst}
 use Rattle.turn_laws.specs.Holdings.{IsNotIn}
 use Rattle.turn_laws.specs.Places.{Ours, Place, Theirs, place_of}
@@ -184,4 +184,4 @@ module _ (law : SealedPacketsOpen) (boxes : ℕ) (past : List Turn) (turn : Turn
   pub peer-accepts-first : PeerAcceptsFirst past turn
   peer-accepts-first number slot payload octets came is sealed covers first =
       peer-accepts-it law boxes past turn does number slot payload octets came is
-      (record { named = sym (eqb-true slot.sa.spi_out (spi_of octets) (first-passes (receives_at (spi_of octets)) (slots_by (window_by past) (own Peer past)) slot is)); sealed = sealed; covered = covers; first = slot-fresh boxes past explained.1 (receives_at (spi_of octets)) slot number is covers first })
+      (record { named = sym (eqb-true slot.sa.spi_out (spi_of octets) (and_parts slot.live (slot.sa.spi_out == spi_of octets) (first-passes (receives_at (spi_of octets)) (slots_by (window_by past) (own Peer past)) slot is)).1); sealed = sealed; covered = covers; first = slot-fresh boxes past explained.1 (receives_at (spi_of octets)) slot number is covers first })

@@ -40,7 +40,8 @@ use Rattle.turn_rules.specs.Held.{Held, config_by, held_by, window_by}
 use Rattle.turn_rules.specs.Local.{Explained}
 use Rattle.turn_rules.specs.MemberPackets.{IsReceiver, ReceivesPacket, TakesPacket, inbound_of}
 use Rattle.turn_rules.specs.Packets.{Drops, IsVerdictOf}
-use Rattle.turn_rules.specs.States.{RunState, joins, member_by, member_unless, told_state}
+use Rattle.turn_rules.specs.MemberStates.{member_by, member_unless}
+use Rattle.turn_rules.specs.States.{RunState, joins, told_state}
 use Rattle.turn_rules.specs.Slots.{Slot, SlotReceives, SlotTakes, first_slot, peer_counter, receives_at, slot_inbound, slots_by}
 
 -- what a packet that was opened is accepted as

@@ -31,6 +31,9 @@ mod Sending
 mod Receiving
 mod Arrivals
 mod Pairs
+mod Tickets
+mod TicketLots
+mod TicketTurns
 mod SyncMessages
 mod SyncTurns
 mod PeerSyncs
@@ -68,3 +71,4 @@ mod CatchingUp
 pub mod Serving
 pub mod ServeRuns
 pub mod ServeTurns
+mod LotsLeft

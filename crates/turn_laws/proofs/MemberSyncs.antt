@@ -15,7 +15,7 @@ use Rattle.sync_exchange.specs.declared.message_ids.MessageIds.{MessageIds}
 use Rattle.turn_laws.proofs.Members.{own-held}
 use Rattle.turn_laws.proofs.PeerSyncs.{its-counter, taken-floor}
 use Rattle.turn_laws.proofs.Receiving.{Brings}
-use Rattle.turn_laws.proofs.Records.{local-records, own-spir}
+use Rattle.turn_laws.proofs.Records.{lots-told, local-records, own-spir}
 use Rattle.turn_laws.proofs.SyncMessages.{TakenBy}
 use Rattle.turn_laws.proofs.SyncTurns.{Accepted_here, Announced, Arrives, Other, SyncTurn, Taken_here, does-sync}
 use Rattle.turn_laws.specs.Synchronising.{MemberHolds, MemberSynchronised}
@@ -30,7 +30,8 @@ use Rattle.turn_rules.specs.Held.{Held, advanced, config_by, first_some, found, 
 use Rattle.turn_rules.specs.IkeState.{response_in}
 use Rattle.turn_rules.specs.Local.{Explained}
 use Rattle.turn_rules.specs.MemberMessages.{awaits_sync, of_spii, sync_nonce}
-use Rattle.turn_rules.specs.States.{fresh_at, has_ended, held_unless, told_state}
+use Rattle.turn_rules.specs.MemberStates.{fresh_at, held_unless}
+use Rattle.turn_rules.specs.States.{has_ended, told_state}
 use Rattle.turn_rules.specs.Synchronised.{Agreed, after_floor, after_jump, agreed_in, next_in}
 use Rattle.turn_rules.specs.Tasks as task
 use Rattle.turn_rules.specs.Tasks.{Task, member_task}
@@ -183,7 +184,7 @@ module _ (boxes : ℕ) (past : List Turn) (turn : Turn) (explained : Explained b
         }
 
   pub member-synchronised : MemberSynchronised past turn name next floor
-  member-synchronised = go (does-sync (told_state boxes past) turn.moment turn.calls turn.step turn.event does)
+  member-synchronised = go (does-sync (told_state boxes past) (lots-told boxes past explained.1) turn.moment turn.calls turn.step turn.event does)
     where
       go : SyncTurn (told_state boxes past) turn.event turn.calls turn.step → MemberSynchronised past turn name next floor
       go (Other other) = let both : true ≡ false = ap is_of_sync (sym said) ∙ other in absurd (cc)

@@ -8,7 +8,9 @@ use Rattle.events.specs.declared.turn.Turn.{Turn}
 use Rattle.keeper_book.specs.declared.calls.Call.{Call}
 use Rattle.keeper_book.specs.declared.counters.Counter.{Counter}
 use Rattle.keeper_book.specs.declared.counters.Counter.TheVariants as counter
-use Rattle.turn_laws.proofs.Deeds.{rest_of, PeerNeed, spent_theirs}
+use Rattle.turn_laws.proofs.Deeds.{rest_of, PeerNeed, spent_theirs, untaken-ticket}
+use Rattle.keeper_book.specs.declared.pools.Pool.TheVariants as pools
+use Rattle.turn_rules.specs.TicketNumbers.{ticket_number}
 use Rattle.turn_laws.proofs.Listed.{moved, turn-numbers}
 use Rattle.turn_laws.proofs.Moved.{rest-listed}
 use Rattle.turn_laws.proofs.Outcomes.{idle-untaken, Idle, Ours_used, Outcome, Over, Theirs_used, idle-used, outcome-of, over-rest, over-used, rests-rest}
@@ -17,7 +19,7 @@ use Rattle.turn_laws.proofs.Uses.{uses-moved, spent_at}
 use Rattle.turn_laws.specs.Acts.{numbers_at}
 use Rattle.turn_laws.specs.Listed.{request_at}
 use Rattle.turn_rules.specs.Safe.{taken_as, taken_in}
-use Rattle.turn_laws.specs.Places.{Ours, Place}
+use Rattle.turn_laws.specs.Places.{Ours, Place, Pooled}
 use Rattle.turn_laws.specs.Turns.{acts_of, number_taken}
 use Rattle.turn_rules.specs.Held.{number_of, used}
 use Rattle.turn_rules.specs.Local.{Explained}
@@ -53,6 +55,36 @@ module _ (spir : ℕ) where
       ∙ ap reverse (moved-answered past turn.event turn.calls turn.step (outcome-of past turn.event turn.calls turn.step (deed-of boxes past turn local.0 local.1))))
       ∙ (ap (λ ns. reverse (option_to_list (request_at p (taken_in turn))) ++ ns) (answered-numbers boxes past local.1)
       ∙ one-answered (request_at p (taken_in turn)) (filter_map (λ turn. request_at p (taken_in turn)) past)))
+
+-- the numbers of tickets are those that the verdicts tell
+abbrev tickets : Place
+tickets = Pooled pools.Ticket
+
+abbrev pub turn_ticket : Turn → Option ℕ
+turn_ticket turn = ticket_number turn.step.verdict
+
+moved-ticket : (past : List Turn) (event : Event) (calls : List Call) (step : Step) → Outcome past event calls step → moved tickets (rest_of event step) ≡ option_to_list (ticket_number step.verdict)
+moved-ticket past event calls step (Idle rests) = ap (moved tickets) (rests-rest event step rests) ∙ ap option_to_list (sym (untaken-ticket step.verdict (idle-untaken step.verdict rests.idle)))
+moved-ticket past event calls step (Over member said ends quiet) = ap (moved tickets) (over-rest event step member said ends quiet) ∙ ap (λ v. option_to_list (ticket_number v)) (sym said)
+moved-ticket past event calls step (Ours_used u needed it) = uses-moved tickets it.ss (rest_of event step) it.uses_them ∙ it.tickets
+moved-ticket past event calls step (Theirs_used u) = uses-moved tickets (map spent_theirs u.needs) (rest_of event step) u.uses_them ∙ (none u.needs ∙ ap option_to_list (sym u.no_ticket))
+  where
+    none : (needs : List (PeerNeed past)) → spent_at tickets (map spent_theirs needs) ≡ []
+    none [] = refl
+    none (need ∷ needs) = none needs
+
+pub ticket-numbers : (boxes : ℕ) (past : List Turn) → Explained boxes past → numbers_at tickets (acts_of past) ≡ filter_map turn_ticket past
+ticket-numbers boxes [] local = refl
+ticket-numbers boxes (turn ∷ past) local =
+    turn-numbers tickets turn past
+    ∙ (ap (λ ns. ns ++ numbers_at tickets (acts_of past)) (sym (rest-listed tickets turn)
+    ∙ ap reverse (moved-ticket past turn.event turn.calls turn.step (outcome-of past turn.event turn.calls turn.step (deed-of boxes past turn local.0 local.1))))
+    ∙ (ap (λ ns. reverse (option_to_list (turn_ticket turn)) ++ ns) (ticket-numbers boxes past local.1)
+    ∙ one-more (turn_ticket turn) (filter_map turn_ticket past)))
+  where
+    one-more : (x : Option ℕ) (ns : List ℕ) → reverse (option_to_list x) ++ ns ≡ cons_option x ns
+    one-more None ns = refl
+    one-more (Some n) ns = refl
 
 module _ (spir : ℕ) (c : Counter) (told_used : IsToldUsed spir c) where
   moved-used : (past : List Turn) (event : Event) (calls : List Call) (step : Step) → Outcome past event calls step → moved (Ours spir c) (rest_of event step) ≡ option_to_list (used spir c event step)

@@ -29,7 +29,7 @@ use Rattle.turn_laws.proofs.Records.{answering-run, deed-of}
 use Rattle.turn_laws.proofs.Begun.{begun-spir}
 use Rattle.turn_laws.proofs.Same.{is_name-true, is_origin-same}
 use Rattle.turn_laws.proofs.Theirs.{no-packet, not-both, told_theirs-held}
-use Rattle.turn_laws.proofs.Told.{is_end-true}
+use Rattle.turn_laws.proofs.Members.{is_end-true}
 use Rattle.turn_laws.proofs.Runs.{greatest-least}
 use Rattle.turn_laws.proofs.Tells.{floor-base}
 use Rattle.turn_laws.proofs.Unused.{fresh-unused, next-unused}
@@ -75,8 +75,8 @@ SameBySpir a b = a.spir ≡ b.spir → a ≡ b
 pub distinct-same : (xs : List Record) → AreDistinct xs → AllByRecursion (λ a. AllByRecursion (SameBySpir a) xs) xs
 distinct-same [] apart = tt
 distinct-same (x ∷ xs) apart = (
-  ((λ same. refl), all-weaker xs (λ y differ same. absurd (differ.spir same)) apart.0),
-  all-both xs (λ a differ rest. ((λ same. absurd (differ.spir (sym same))), rest)) apart.0 (distinct-same xs apart.1),
+  ((λ same. refl), all-weaker xs (λ y differ same. absurd (differ same)) apart.0),
+  all-both xs (λ a differ rest. ((λ same. absurd (differ (sym same))), rest)) apart.0 (distinct-same xs apart.1),
 )
 
 -- two counters of the peer are the same where their names are
@@ -212,7 +212,7 @@ module _ (mine : List Turn) (turn : Turn) (c : Counter) where
 
       other-spir : (y : Option Record) → x ≡ y → is_entered sa.spir y ≡ false
       other-spir None e = refl
-      other-spir (Some new) e = ne_eqb new.spir sa.spir (λ same. (differs new e).spir (sym same))
+      other-spir (Some new) e = ne_eqb new.spir sa.spir (λ same. (differs new e) (sym same))
 
       other : is_entered sa.spir (entered_in turn) ≡ false
       other = ap (is_entered sa.spir) entered ∙ other-spir x refl
@@ -220,7 +220,7 @@ module _ (mine : List Turn) (turn : Turn) (c : Counter) where
       not-begun : (y : Option Record) → x ≡ y → (h : Option Holding) → begun_by (peer_counter sa c) y ≡ h → h ≡ None
       not-begun y e None is = refl
       not-begun None e (Some h) is = absurd (cc)
-      not-begun (Some new) e (Some h) is = absurd ((differs new e).spir (same_Some sa.spir new.spir (sym sa.origin_is_own ∙ begun-spir (peer_counter sa c) new h is)))
+      not-begun (Some new) e (Some h) is = absurd ((differs new e) (same_Some sa.spir new.spir (sym sa.origin_is_own ∙ begun-spir (peer_counter sa c) new h is)))
 
       none : begun_in (peer_counter sa c) turn ≡ None
       none = ap (begun_by (peer_counter sa c)) entered ∙ not-begun x refl (begun_by (peer_counter sa c) x) refl

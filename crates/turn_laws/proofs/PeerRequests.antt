@@ -1,6 +1,6 @@
 -- Each request that the peer asks or answers is a deed.
 use Rattle.std.proofs.Common.{◌≡◌, ◌≢◌, ℕ, ◌<◌, ◌==◌, Bool, Option, Some, None, MatchOption, List, [], ◌∷◌, ⊎_elim, refl, ap, sym, ◌∙◌, option_to_list, if◌then◌else◌, inl, inr, Result, Ok, Err, false}
-use Rattle.std.proofs.lemmas.Bool.{cases_lt, eqb-true}
+use Rattle.std.proofs.lemmas.Bool.{and_parts, cases_lt, eqb-true}
 use Rattle.events.specs.declared.event.Event.{Event}
 use Rattle.events.specs.declared.event.Event.TheVariants as event
 use Rattle.events.specs.declared.event.Party.TheVariants as parties
@@ -12,11 +12,9 @@ use Rattle.events.specs.declared.verdict.Refusal.TheVariants as refusal
 use Rattle.events.specs.declared.ike_outcomes.IkeDrop.TheVariants as drop
 use Rattle.events.specs.declared.verdict.Verdict.{Verdict}
 use Rattle.events.specs.declared.verdict.Verdict.TheVariants as out
-use Rattle.ha_base.specs.Octets.{WithRoom}
 use Rattle.ha_base.specs.declared.counter_names.CounterName.{CounterName}
 use Rattle.ha_base.specs.declared.counter_names.End.TheVariants as end
 use Rattle.ha_base.specs.declared.counter_names.Kind.{Kind}
-use Rattle.ike_sas.specs.Answers.{request_payloads}
 use Rattle.ike_sas.specs.Held.{request_header, response_header}
 use Rattle.ike_window.specs.Kept.{kept_octets, message_ids_of}
 use Rattle.ike_window.specs.Requests.{IsNewRequest}
@@ -35,7 +33,7 @@ use Rattle.sync_exchange.specs.declared.sync_drop.SyncDrop.{SyncDrop}
 use Rattle.sync_exchange.specs.declared.sync_drop.SyncDrop.TheVariants as why
 use Rattle.turn_laws.proofs.Arrivals.{Answered_by, Rested_by, Sync_taken_by, Synchronised_by, Taken, again-rests, message-taken}
 use Rattle.turn_laws.proofs.Deeds.{Deed, IsIdle, IsOpenTo, Rested, Rests, Used_theirs, number_theirs, says-rests}
-use Rattle.turn_laws.proofs.Pairs.{Answering, SealsIke, UsesPair, answering-pair, asking-pair, no-packet-is, pair-at, pair-first, pair-none, pair-second, request-answering, sealed-elsewhere, sealed-here, sealed-spends, sends-seals}
+use Rattle.turn_laws.proofs.Pairs.{Answering, behind-elsewhere, behind-here, SealsIke, UsesPair, answering-pair, asking-pair, no-packet-is, pair-at, pair-first, pair-none, pair-second, request-answering, sealed-elsewhere, sealed-here, sealed-spends, sends-seals}
 use Rattle.turn_laws.proofs.Receiving.{Brings}
 use Rattle.turn_laws.proofs.Names.{number-failed, number-passed}
 use Rattle.turn_laws.proofs.Single.{one-peer-used, ours-counter}
@@ -43,17 +41,18 @@ use Rattle.turn_laws.proofs.Uses.{number_at}
 use Rattle.turn_laws.specs.Listed.{request_at}
 use Rattle.turn_rules.specs.Safe.{accepted_as, taken_as}
 use Rattle.turn_laws.specs.Places.{Ours, Place, Theirs}
-use Rattle.turn_laws.specs.Turns.{uses_of}
+use Rattle.turn_laws.specs.Turns.{answered, uses_of}
 use Rattle.turn_rules.proofs.SlotTies.{first-passes}
 use Rattle.turn_rules.proofs.Ties.{said-receiving}
 use Rattle.turn_rules.specs.Ends.{Peer, is_refused_by_run, own, performer_of}
-use Rattle.turn_rules.specs.Held.{accepted, first_some, said_in, used, window_by}
+use Rattle.turn_rules.specs.Held.{accepted, first_some, received, said_in, used, window_by}
 use Rattle.turn_rules.specs.CountersOf.{is_of_spir}
 use Rattle.turn_rules.specs.IkeState.{taken_id}
 use Rattle.turn_rules.specs.Messages.{GivesAgain, Resends, SendsRequest, TakesMessage}
 use Rattle.turn_rules.specs.PeerMessages.{AcceptsSync, AnswersSync, PeerAsks, PeerResends, SlotAnswers, SlotAsks, SlotSendsRequest, has_spis, peer_keys, peer_listener, slot_ike}
 use Rattle.turn_rules.specs.Peers.{record_entered}
-use Rattle.turn_rules.specs.Slots.{Slot, first_slot, has_spir, peer_counter, slots_by}
+use Rattle.ike_values.specs.Values.{PayloadValue}
+use Rattle.turn_rules.specs.Slots.{PeerForgets, Slot, first_slot, has_spir, peer_counter, slots_by}
 use Rattle.turn_rules.specs.Steps.{Says}
 use Rattle.turn_rules.specs.Tasks as task
 use Rattle.turn_rules.specs.Tasks.{member_task, peer_task}
@@ -69,7 +68,7 @@ theirs-apart a b differs same = differs (ap kind_in same)
 -- The peer uses a number of an association and its next IV.
 module _ (past : List Turn) (event : Event) (step : Step) (test : Slot → Bool) (slot : Slot) (is_first : first_slot test (slots_by (window_by past) (own Peer past)) ≡ Some slot) (c : Counter) (n : ℕ) where
   abbrev IsPair : Type 0
-  IsPair = UsesPair (Theirs (peer_counter slot.sa c)) (Theirs (peer_counter slot.sa counter.Iv)) n slot.iv event step
+  IsPair = UsesPair (Theirs (peer_counter slot.sa c)) (Theirs (peer_counter slot.sa counter.Iv)) n slot.iv None event step
 
   pub peer_pair-used : c ≢ counter.Iv → Theirs (peer_counter slot.sa c) ≢ Theirs (peer_counter slot.sa counter.Iv) → IsOpenTo slot c n → slot.iv < end_of slot.sa counter.Iv → IsPair
       → performer_of event step.verdict ≡ Some Peer → record_entered event step.verdict ≡ None
@@ -90,45 +89,66 @@ module _ (past : List Turn) (event : Event) (step : Step) (test : Slot → Bool)
     told = λ other d. pair-at (Ours other d) (Ours slot.sa.spir c) (Ours slot.sa.spir counter.Iv) n slot.iv (λ same. differs (ours-counter slot.sa.spir slot.sa.spir c counter.Iv same)) ∙ ap option_to_list (sym (told other d));
     named = λ packet accepted other k is. no-packet-is step.verdict packet pair.no_packet accepted;
     no_entry = no_entry;
+    no_ticket = pair.ticket_is;
   })
 
--- the peer asks, by its associations
-module _ (past : List Turn) (step : Step) (spir : ℕ) (request : WithRoom) (calls : List Call) (no_calls : calls ≡ []) where
-  abbrev asked : Event
-  asked = event.Ask parties.Peer spir request
+-- an event that lets the peer ask with these inner payloads
+pub record IsAsk (asked : Event) (spir : ℕ) (payloads : List PayloadValue) : Type 0 where
+  pub performs : (verdict : Verdict) → performer_of asked verdict ≡ Some Peer
+  pub no_entry : (verdict : Verdict) → record_entered asked verdict ≡ None
+  pub by_peer : peer_task asked ≡ task.Ask spir payloads
+  pub by_none : member_task asked ≡ task.Nothing
+  pub receives : (other : ℕ) (verdict : Verdict) → received other asked verdict ≡ None
+  pub answers : (other : ℕ) (verdict : Verdict) → answered other asked verdict ≡ None
 
+-- the peer asks, by its associations
+module _ (past : List Turn) (step : Step) (asked : Event) (spir : ℕ) (payloads : List PayloadValue) (is : IsAsk asked spir payloads) (calls : List Call) (no_calls : calls ≡ []) where
   rested : (why : Refusal) → Says (out.Refused why) step → Deed past asked calls step
-  rested why says = Rested no_calls (says-rests step (out.Refused why) tt says) refl
+  rested why says = Rested no_calls (says-rests step (out.Refused why) tt says) (is.no_entry step.verdict)
 
   module _ (slot : Slot) (is_first : first_slot (has_spir spir) (slots_by (window_by past) (own Peer past)) ≡ Some slot) where
     abbrev Sent : Type 0
-    Sent = SendsRequest (slot_ike slot) slot.ask slot.iv request.octets step
+    Sent = SendsRequest (slot_ike slot) slot.ask slot.iv payloads step
 
     same_spir : slot.sa.spir ≡ spir
-    same_spir = eqb-true slot.sa.spir spir (first-passes (has_spir spir) (slots_by (window_by past) (own Peer past)) slot is_first)
+    same_spir = eqb-true slot.sa.spir spir (and_parts slot.live (slot.sa.spir == spir) (first-passes (has_spir spir) (slots_by (window_by past) (own Peer past)) slot is_first)).1
+
+    asked-seals : Sent → SealsIke (peer_counter slot.sa counter.Iv) slot.iv step
+    asked-seals s = sends-seals (slot_ike slot) slot.iv (request_header (slot_ike slot).keys slot.ask) payloads step s.sends
+
+    untold_ours : (other : ℕ) (d : Counter) → said_in other d (member_task asked) step.verdict ≡ None
+    untold_ours other d = ap (λ t. said_in other d t step.verdict) is.by_none ∙ unsaid other d
+      where
+        unsaid : (other : ℕ) (d : Counter) → said_in other d task.Nothing step.verdict ≡ None
+        unsaid other counter.EspOut = refl
+        unsaid other counter.EspIn = refl
+        unsaid other counter.Iv = refl
+        unsaid other counter.Ask = refl
+        unsaid other counter.Answer = refl
 
     asked-not_ours : Sent → (other : ℕ) (d : Counter) → used other d asked step ≡ None
-    asked-not_ours s other counter.EspOut = refl
-    asked-not_ours s other counter.EspIn = refl
-    asked-not_ours s other counter.Iv = sealed-elsewhere end.Cluster (peer_counter slot.sa counter.Iv) slot.iv step refl refl (sends-seals (slot_ike slot) slot.iv (request_header (slot_ike slot).keys slot.ask) (request_payloads request.octets) step s.sends) other
-    asked-not_ours s other counter.Ask = refl
-    asked-not_ours s other counter.Answer = refl
+    asked-not_ours s other counter.EspOut = untold_ours other counter.EspOut
+    asked-not_ours s other counter.EspIn = untold_ours other counter.EspIn
+    asked-not_ours s other counter.Iv = sealed-elsewhere end.Cluster (peer_counter slot.sa counter.Iv) slot.iv step refl refl (asked-seals s) other
+    asked-not_ours s other counter.Ask = untold_ours other counter.Ask
+    asked-not_ours s other counter.Answer = untold_ours other counter.Answer
 
     asked-told : Sent → (other : ℕ) (d : Counter) → number_theirs other d asked step ≡ first_some (number_at (Ours other d) (Ours slot.sa.spir counter.Ask) slot.ask) (number_at (Ours other d) (Ours slot.sa.spir counter.Iv) slot.iv)
-    asked-told s other counter.EspOut = pair-none (slot.sa.spir == other) slot.ask slot.iv
-    asked-told s other counter.EspIn = pair-none (slot.sa.spir == other) slot.ask slot.iv
-    asked-told s other counter.Iv = sealed-here slot.sa end.Peer (peer_counter slot.sa counter.Iv) slot.iv step refl refl refl (sends-seals (slot_ike slot) slot.iv (request_header (slot_ike slot).keys slot.ask) (request_payloads request.octets) step s.sends) other
+    asked-told s other counter.EspOut = ap (λ t. said_in other counter.EspOut t step.verdict) is.by_peer ∙ pair-none (slot.sa.spir == other) slot.ask slot.iv
+    asked-told s other counter.EspIn = is.receives other step.verdict ∙ pair-none (slot.sa.spir == other) slot.ask slot.iv
+    asked-told s other counter.Iv = sealed-here slot.sa end.Peer (peer_counter slot.sa counter.Iv) slot.iv step refl refl refl (asked-seals s) other
         ∙ pair-second (slot.sa.spir == other) slot.ask slot.iv
-    asked-told s other counter.Ask = ap (said_in other counter.Ask (task.Ask spir request.octets)) s.said
-        ∙ (ap (λ k. if k == other then Some slot.ask else None) (sym same_spir) ∙ pair-first (slot.sa.spir == other) slot.ask slot.iv)
-    asked-told s other counter.Answer = pair-none (slot.sa.spir == other) slot.ask slot.iv
+    asked-told s other counter.Ask = ap (λ t. said_in other counter.Ask t step.verdict) is.by_peer
+        ∙ (ap (said_in other counter.Ask (task.Ask spir payloads)) s.said
+        ∙ (ap (λ k. if k == other then Some slot.ask else None) (sym same_spir) ∙ pair-first (slot.sa.spir == other) slot.ask slot.iv))
+    asked-told s other counter.Answer = is.answers other step.verdict ∙ pair-none (slot.sa.spir == other) slot.ask slot.iv
 
     sent : slot.ask < end_of slot.sa counter.Ask → slot.iv < end_of slot.sa counter.Iv → Sent → Deed past asked calls step
     sent asks seals s = peer_pair-used past asked step (has_spir spir) slot is_first counter.Ask slot.ask (λ same. absurd (cc)) (theirs-apart (peer_counter slot.sa counter.Ask) (peer_counter slot.sa counter.Iv) (λ same. absurd (cc))) (refl, asks) seals
-        (asking-pair asked step (slot_ike slot) (Theirs (peer_counter slot.sa counter.Ask)) (Theirs (peer_counter slot.sa counter.Iv)) slot.ask slot.iv request.octets refl refl s)
-        refl refl (asked-not_ours s) (λ other. ap (λ v. request_at (Ours other counter.Answer) (taken_as v)) s.said) (asked-told s) calls no_calls
+        (asking-pair asked step (slot_ike slot) (Theirs (peer_counter slot.sa counter.Ask)) (Theirs (peer_counter slot.sa counter.Iv)) slot.ask slot.iv payloads refl refl s)
+        (is.performs step.verdict) (is.no_entry step.verdict) (asked-not_ours s) (λ other. ap (λ v. request_at (Ours other counter.Answer) (taken_as v)) s.said) (asked-told s) calls no_calls
 
-    sends : SlotSendsRequest slot request.octets step → Deed past asked calls step
+    sends : SlotSendsRequest slot payloads step → Deed past asked calls step
     sends s = ⊎_elim
         (λ asks. ⊎_elim
         (λ seals. sent asks seals (s.within asks seals))
@@ -137,16 +157,24 @@ module _ (past : List Turn) (step : Step) (spir : ℕ) (request : WithRoom) (cal
         (λ ended. rested refusal.Exhausted (s.ended (inl ended)))
         (cases_lt slot.ask (end_of slot.sa counter.Ask))
 
-    slot_asks-deed : SlotAsks slot request.octets step → Deed past asked calls step
+    slot_asks-deed : SlotAsks slot payloads step → Deed past asked calls step
     slot_asks-deed w = ⊎_elim (λ fits. sends fits.1) (λ full. rested (refusal.WindowFull full.0) full.3) w
 
-  pub peer_asks-deed : PeerAsks spir (slots_by (window_by past) (own Peer past)) request.octets step → Deed past asked calls step
+  pub peer_asks-deed : PeerAsks spir (slots_by (window_by past) (own Peer past)) payloads step → Deed past asked calls step
   peer_asks-deed asks = by_slot (first_slot (has_spir spir) (slots_by (window_by past) (own Peer past))) refl asks
     where
       by_slot : (x : Option Slot) → first_slot (has_spir spir) (slots_by (window_by past) (own Peer past)) ≡ x
-          → MatchOption x (Says (out.Refused refusal.Unknown) step) (λ slot. SlotAsks slot request.octets step) → Deed past asked calls step
+          → MatchOption x (Says (out.Refused refusal.Unknown) step) (λ slot. SlotAsks slot payloads step) → Deed past asked calls step
       by_slot None e says = rested refusal.Unknown says
       by_slot (Some slot) e asks = slot_asks-deed slot e asks
+
+-- and it closes its end of an association
+pub peer_forgets-deed : (past : List Turn) (step : Step) (spir : ℕ) (calls : List Call) → calls ≡ [] → PeerForgets spir (slots_by (window_by past) (own Peer past)) step → Deed past (event.Forget spir) calls step
+peer_forgets-deed past step spir calls none forgets = Rested none (by_slot (first_slot (has_spir spir) (slots_by (window_by past) (own Peer past))) forgets) refl
+  where
+    by_slot : (x : Option Slot) → MatchOption x (Says (out.Refused refusal.Unknown) step) (λ slot. Says out.Forgotten step) → Rests step
+    by_slot None says = says-rests step (out.Refused refusal.Unknown) tt says
+    by_slot (Some slot) says = says-rests step out.Forgotten tt says
 
 -- and asks again
 pub peer_resends-deed : (past : List Turn) (step : Step) (spir id : ℕ) (calls : List Call) → calls ≡ [] → PeerResends spir (slots_by (window_by past) (own Peer past)) id step → Deed past (event.Again parties.Peer spir id) calls step
@@ -173,7 +201,7 @@ module _ (past : List Turn) (event : Event) (calls : List Call) (step : Step) (b
     taken = request.header.id
 
     abbrev Answered : Type 0
-    Answered = Answering (peer_counter slot.sa counter.Answer) taken (peer_counter slot.sa counter.Iv) slot.iv step
+    Answered = Answering (peer_counter slot.sa counter.Answer) taken (peer_counter slot.sa counter.Iv) slot.iv None step
 
     unsaid : (other : ℕ) (d : Counter) → said_in other d (peer_task event) step.verdict ≡ None
     unsaid other d = ap (λ t. said_in other d t step.verdict) brings.peer_receives ∙ said-receiving other d step.verdict
@@ -184,21 +212,21 @@ module _ (past : List Turn) (event : Event) (calls : List Call) (step : Step) (b
     answered-not_ours : Answered → (other : ℕ) (d : Counter) → used other d event step ≡ None
     answered-not_ours a other counter.EspOut = unsaid_ours other counter.EspOut
     answered-not_ours a other counter.EspIn = unsaid_ours other counter.EspIn
-    answered-not_ours a other counter.Iv = sealed-elsewhere end.Cluster (peer_counter slot.sa counter.Iv) slot.iv step refl refl a.seals other
+    answered-not_ours a other counter.Iv = behind-elsewhere end.Cluster (peer_counter slot.sa counter.Iv) slot.iv None step refl refl a.seals other
     answered-not_ours a other counter.Ask = unsaid_ours other counter.Ask
     answered-not_ours a other counter.Answer = unsaid_ours other counter.Answer
 
     answered-told : Answered → (other : ℕ) (d : Counter) → number_theirs other d event step ≡ first_some (number_at (Ours other d) (Ours slot.sa.spir counter.Answer) taken) (number_at (Ours other d) (Ours slot.sa.spir counter.Iv) slot.iv)
     answered-told a other counter.EspOut = unsaid other counter.EspOut ∙ pair-none (slot.sa.spir == other) taken slot.iv
     answered-told a other counter.EspIn = brings.receives other step.verdict ∙ (a.none_received other ∙ pair-none (slot.sa.spir == other) taken slot.iv)
-    answered-told a other counter.Iv = sealed-here slot.sa end.Peer (peer_counter slot.sa counter.Iv) slot.iv step refl refl refl a.seals other ∙ pair-second (slot.sa.spir == other) taken slot.iv
+    answered-told a other counter.Iv = behind-here slot.sa end.Peer (peer_counter slot.sa counter.Iv) slot.iv None step refl refl refl a.seals other ∙ pair-second (slot.sa.spir == other) taken slot.iv
     answered-told a other counter.Ask = unsaid other counter.Ask ∙ pair-none (slot.sa.spir == other) taken slot.iv
     answered-told a other counter.Answer = brings.answers other step.verdict ∙ (a.taken other
         ∙ (ap (λ o. if is_of_spir other o then Some taken else None) slot.sa.origin_is_own ∙ pair-first (slot.sa.spir == other) taken slot.iv))
 
     slot_answers-deed : SlotAnswers slot request calls step → Deed past event calls step
     slot_answers-deed s = ⊎_elim
-        (λ below. answered below (request-answering (peer_counter slot.sa counter.Answer) (slot_ike slot) slot.iv request step (s.within below)))
+        (λ below. answered below (request-answering (peer_counter slot.sa counter.Answer) (slot_ike slot) slot.iv request None step tt (λ error is. refl) (s.within below)))
         (λ ended. Rested s.no_calls (says-rests step (out.Refused refusal.Exhausted) tt (s.ended ended)) (brings.no_entry step.verdict))
         (cases_lt slot.iv (end_of slot.sa counter.Iv))
       where
@@ -208,7 +236,7 @@ module _ (past : List Turn) (event : Event) (calls : List Call) (step : Step) (b
 
         answered : slot.iv < end_of slot.sa counter.Iv → Answered → Deed past event calls step
         answered below a = peer_pair-used past event step test slot is_first counter.Answer taken (λ same. absurd (cc)) (theirs-apart (peer_counter slot.sa counter.Answer) (peer_counter slot.sa counter.Iv) (λ same. absurd (cc))) (within, new) below
-            (answering-pair event step (peer_counter slot.sa counter.Answer) (peer_counter slot.sa counter.Iv) (Theirs (peer_counter slot.sa counter.Answer)) (Theirs (peer_counter slot.sa counter.Iv)) taken slot.iv refl refl a)
+            (answering-pair event step (peer_counter slot.sa counter.Answer) (peer_counter slot.sa counter.Iv) (Theirs (peer_counter slot.sa counter.Answer)) (Theirs (peer_counter slot.sa counter.Iv)) taken slot.iv None refl refl a)
             (brings.performs step.verdict) (brings.no_entry step.verdict) (answered-not_ours a) (λ other. ap (request_at (Ours other counter.Answer)) a.is_taken) (answered-told a) calls s.no_calls
 
   -- the peer answers a request to synchronise, under its next IV

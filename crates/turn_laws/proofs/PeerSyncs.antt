@@ -24,8 +24,8 @@ use Rattle.turn_laws.proofs.Receiving.{Brings}
 use Rattle.turn_laws.proofs.SyncMessages.{AcceptedBy}
 use Rattle.turn_laws.proofs.SyncTurns.{Accepted_here, Announced, Arrives, Other, SyncTurn, Taken_here, does-sync}
 use Rattle.turn_laws.proofs.Theirs.{not-both}
-use Rattle.turn_laws.proofs.Told.{is_end-true}
-use Rattle.turn_laws.specs.Synchronising.{PeerHolds, PeerSynchronised, TakesGreater}
+use Rattle.turn_laws.proofs.Members.{is_end-true}
+use Rattle.turn_laws.specs.Synchronising.{PeerHolds, PeerSynchronised, TakesGreater, is_association}
 use Rattle.turn_rules.proofs.NoSynchronisation.{is_of_sync}
 use Rattle.turn_rules.proofs.SlotTies.{DoesTold, first-has, first-passes, records-slots_by, slots-other, slots-own}
 use Rattle.turn_rules.proofs.StateLaws.{associations-apart, does-told}
@@ -36,10 +36,12 @@ use Rattle.turn_rules.specs.IkeState.{answered_after, heard_in, outstanding_afte
 use Rattle.turn_rules.specs.Local.{Explained}
 use Rattle.turn_rules.specs.PeerMessages.{has_spis}
 use Rattle.turn_rules.specs.Peers.{associations_by, entered_at_task}
-use Rattle.turn_rules.specs.Slots.{Slot, after_heard, entered_slot, first_slot, has_spir, higher_of, one_below, peer_counter, records, slot_after, slot_by, slots_by}
+use Rattle.turn_rules.specs.Slots.{Slot, after_heard, entered_slot, first_slot, higher_of, one_below, peer_counter, records, slot_after, slot_by, slots_by}
 use Rattle.turn_rules.specs.States.{told_state}
 use Rattle.turn_rules.specs.Synchronised.{Agreed, after_floor, after_jump, after_rise, agreed_in, ends_in, next_in}
 use Rattle.turn_rules.specs.Tasks as task
+use Rattle.ha_base.specs.declared.outside.Moment.{Moment}
+use Rattle.turn_laws.proofs.Records.{lots-told}
 use Rattle.turn_rules.specs.Tasks.{Task, peer_task}
 
 -- ---- the slot of a responder's SPI
@@ -83,42 +85,42 @@ one-slot boxes past local test other slot s is found same =
 pub first-spir : (boxes : ℕ) (past : List Turn) → Explained boxes past → (test : Slot → Bool) (slot : Slot)
     → first_slot test (slots_by (window_by past) (own Peer past)) ≡ Some slot → PeerHolds past slot.sa.spir slot
 first-spir boxes past local test slot is =
-    let some : (s : Slot) × (first_slot (has_spir slot.sa.spir) (slots_by (window_by past) (own Peer past)) ≡ Some s) =
-    first-some test (has_spir slot.sa.spir) (slots_by (window_by past) (own Peer past)) slot is (eq-eqb slot.sa.spir slot.sa.spir refl) in
+    let some : (s : Slot) × (first_slot (is_association slot.sa.spir) (slots_by (window_by past) (own Peer past)) ≡ Some s) =
+    first-some test (is_association slot.sa.spir) (slots_by (window_by past) (own Peer past)) slot is (eq-eqb slot.sa.spir slot.sa.spir refl) in
     let spirs : some.0.sa.spir ≡ slot.sa.spir =
-    eqb-true some.0.sa.spir slot.sa.spir (first-passes (has_spir slot.sa.spir) (slots_by (window_by past) (own Peer past)) some.0 some.1) in
-    some.1 ∙ ap Some (sym (one-slot boxes past local test (has_spir slot.sa.spir) slot some.0 is some.1 (sym spirs)))
+    eqb-true some.0.sa.spir slot.sa.spir (first-passes (is_association slot.sa.spir) (slots_by (window_by past) (own Peer past)) some.0 some.1) in
+    some.1 ∙ ap Some (sym (one-slot boxes past local test (is_association slot.sa.spir) slot some.0 is some.1 (sym spirs)))
 
 -- what the peer holds of an association after one more turn of its own
-first-after : (spir : ℕ) (asked : Task) (step : Step) (more slots : List Slot) (slot : Slot) → first_slot (has_spir spir) slots ≡ Some slot
-    → first_slot (has_spir spir) (map (slot_after asked step) slots ++ more) ≡ Some (slot_after asked step slot)
-first-after spir asked step more [] slot is = absurd (cc)
-first-after spir asked step more (s ∷ ss) slot is = by_test (first-after spir asked step more ss slot) (has_spir spir s) refl
+first-after : (spir : ℕ) (now : Moment) (asked : Task) (step : Step) (more slots : List Slot) (slot : Slot) → first_slot (is_association spir) slots ≡ Some slot
+    → first_slot (is_association spir) (map (slot_after now asked step) slots ++ more) ≡ Some (slot_after now asked step slot)
+first-after spir now asked step more [] slot is = absurd (cc)
+first-after spir now asked step more (s ∷ ss) slot is = by_test (first-after spir now asked step more ss slot) (is_association spir s) refl
   where
     rest : Option Slot
-    rest = first_slot (has_spir spir) (map (slot_after asked step) ss ++ more)
+    rest = first_slot (is_association spir) (map (slot_after now asked step) ss ++ more)
 
-    by_test : (first_slot (has_spir spir) ss ≡ Some slot → rest ≡ Some (slot_after asked step slot)) → (b : Bool) → has_spir spir s ≡ b
-        → (if has_spir spir s then Some (slot_after asked step s) else rest) ≡ Some (slot_after asked step slot)
+    by_test : (first_slot (is_association spir) ss ≡ Some slot → rest ≡ Some (slot_after now asked step slot)) → (b : Bool) → is_association spir s ≡ b
+        → (if is_association spir s then Some (slot_after now asked step s) else rest) ≡ Some (slot_after now asked step slot)
     by_test later true t =
-        ap (λ b. if b then Some (slot_after asked step s) else rest) t
-        ∙ ap (λ x. Some (slot_after asked step x)) (same_Some s slot (ap (λ b. if b then Some s else first_slot (has_spir spir) ss) (sym t) ∙ is))
+        ap (λ b. if b then Some (slot_after now asked step s) else rest) t
+        ∙ ap (λ x. Some (slot_after now asked step x)) (same_Some s slot (ap (λ b. if b then Some s else first_slot (is_association spir) ss) (sym t) ∙ is))
     by_test later false t =
-        ap (λ b. if b then Some (slot_after asked step s) else rest) t
-        ∙ later (ap (λ b. if b then Some s else first_slot (has_spir spir) ss) (sym t) ∙ is)
+        ap (λ b. if b then Some (slot_after now asked step s) else rest) t
+        ∙ later (ap (λ b. if b then Some s else first_slot (is_association spir) ss) (sym t) ∙ is)
 
 pub holds-own : (boxes : ℕ) (past : List Turn) (turn : Turn) → DoesTold boxes past turn → is_by Peer turn ≡ true → (spir : ℕ) (slot : Slot)
     → PeerHolds past spir slot
-    → PeerHolds (turn ∷ past) spir (slot_after (peer_task turn.event) turn.step slot)
+    → PeerHolds (turn ∷ past) spir (slot_after turn.moment (peer_task turn.event) turn.step slot)
 holds-own boxes past turn does mine spir slot is =
-    ap (first_slot (has_spir spir)) (slots-own boxes past turn does mine)
-    ∙ first-after spir (peer_task turn.event) turn.step (option_to_list
+    ap (first_slot (is_association spir)) (slots-own boxes past turn does mine)
+    ∙ first-after spir turn.moment (peer_task turn.event) turn.step (option_to_list
     (option_map (entered_slot (window_by past)) (entered_at_task (peer_task turn.event) turn.step.verdict)))
     (slots_by (window_by past) (own Peer past)) slot is
 
 pub holds-other : (boxes : ℕ) (past : List Turn) (turn : Turn) → DoesTold boxes past turn → is_by Peer turn ≡ false → (spir : ℕ) (slot : Slot)
     → PeerHolds past spir slot → PeerHolds (turn ∷ past) spir slot
-holds-other boxes past turn does other spir slot is = ap (first_slot (has_spir spir)) (slots-other boxes past turn does other) ∙ is
+holds-other boxes past turn does other spir slot is = ap (first_slot (is_association spir)) (slots-other boxes past turn does other) ∙ is
 
 -- ---- the peer knows of no less than its floor
 
@@ -171,8 +173,8 @@ heard-known : (id : ℕ) (highest : Option ℕ) (floor : ℕ) → floor ≤ next
 heard-known id None floor known = omega (arith, known)
 heard-known id (Some before) floor known = omega (arith, known)
 
-after-knows : (asked : Task) (step : Step) → is_synced step.verdict ≡ false → (slot : Slot) → KnowsFloor slot → KnowsFloor (slot_after asked step slot)
-after-knows asked step peers slot known = go (agreed_in slot.sa.spir asked step.verdict) refl
+after-knows : (now : Moment) (asked : Task) (step : Step) → is_synced step.verdict ≡ false → (slot : Slot) → KnowsFloor slot → KnowsFloor (slot_after now asked step slot)
+after-knows now asked step peers slot known = go (agreed_in slot.sa.spir asked step.verdict) refl
   where
     heard : Option ℕ
     heard = heard_in slot.sa.spir asked step.verdict
@@ -203,10 +205,10 @@ entered-knows size sa = go sa.starts.ask
     go zero = omega arith
     go (suc n) = omega arith
 
-all-after : (asked : Task) (step : Step) → is_synced step.verdict ≡ false → (slots : List Slot) → AllByRecursion KnowsFloor slots
-    → AllByRecursion KnowsFloor (map (slot_after asked step) slots)
-all-after asked step peers [] all = tt
-all-after asked step peers (slot ∷ slots) all = (after-knows asked step peers slot all.0, all-after asked step peers slots all.1)
+all-after : (now : Moment) (asked : Task) (step : Step) → is_synced step.verdict ≡ false → (slots : List Slot) → AllByRecursion KnowsFloor slots
+    → AllByRecursion KnowsFloor (map (slot_after now asked step) slots)
+all-after now asked step peers [] all = tt
+all-after now asked step peers (slot ∷ slots) all = (after-knows now asked step peers slot all.0, all-after now asked step peers slots all.1)
 
 floors-known : (boxes : ℕ) (past : List Turn) → Explained boxes past → AllByRecursion KnowsFloor (slots_by (window_by past) (own Peer past))
 floors-known boxes [] local = tt
@@ -224,11 +226,11 @@ floors-known boxes (turn ∷ past) local = by_test (floors-known boxes past loca
     by_test before true mine =
         let peers : is_synced turn.step.verdict ≡ false =
         turn-unsynced boxes past turn (is_end-true Peer (performer turn) mine)
-        (does-sync (told_state boxes past) turn.moment turn.calls turn.step turn.event does) in
+        (does-sync (told_state boxes past) (lots-told boxes past local.1) turn.moment turn.calls turn.step turn.event does) in
         subst (λ slots. AllByRecursion KnowsFloor slots) (sym (slots-own boxes past turn does mine))
-        (all-append KnowsFloor (map (slot_after (peer_task turn.event) turn.step) (slots_by (window_by past) (own Peer past)))
+        (all-append KnowsFloor (map (slot_after turn.moment (peer_task turn.event) turn.step) (slots_by (window_by past) (own Peer past)))
         (option_to_list (option_map (entered_slot (window_by past)) (entered_at_task (peer_task turn.event) turn.step.verdict)))
-        (all-after (peer_task turn.event) turn.step peers (slots_by (window_by past) (own Peer past)) before)
+        (all-after turn.moment (peer_task turn.event) turn.step peers (slots_by (window_by past) (own Peer past)) before)
         (entered (entered_at_task (peer_task turn.event) turn.step.verdict)))
     by_test before false other = subst (λ slots. AllByRecursion KnowsFloor slots) (sym (slots-other boxes past turn does other)) before
 
@@ -246,7 +248,7 @@ first-all P test (s ∷ ss) slot all is = by_test (first-all P test ss slot all.
 pub its-counter : (sa : Record) (name : CounterName) → name.origin ≡ sa.origin → is_counter_of sa.spir name ≡ true
 its-counter sa name same = ap (λ o. is_of_spir sa.spir (spir_of_origin o)) same ∙ (ap (is_of_spir sa.spir) sa.origin_is_own ∙ eq-eqb sa.spir sa.spir refl)
 
-module _ (slots : List Slot) (octets : List ℕ) (step : Step) (a : AcceptedBy slots octets step) where
+module _ (now : Moment) (slots : List Slot) (octets : List ℕ) (step : Step) (a : AcceptedBy slots octets step) where
   abbrev slot : Slot
   slot = a.slot
 
@@ -264,7 +266,7 @@ module _ (slots : List Slot) (octets : List ℕ) (step : Step) (a : AcceptedBy s
       (its-counter slot.sa (peer_counter slot.sa counter.Answer) refl)
 
   abbrev after : Slot
-  after = slot_after task.Receive step slot
+  after = slot_after now task.Receive step slot
 
   p2-is : a.accepted.p2 ≡ max a.asked.p1 slot.ask
   p2-is = ap (λ (x : Accepted). x.p2) a.is.2
@@ -308,33 +310,33 @@ module _ (boxes : ℕ) (past : List Turn) (turn : Turn) (explained : Explained b
       (let run : is_refused_by_run turn.step.verdict ≡ false = ap is_refused_by_run said in rw run (brings.performs turn.step.verdict)) in
       let had : PeerHolds past a.slot.sa.spir a.slot =
       first-spir boxes past explained.1 (has_spis a.request.header.spii a.request.header.spir) a.slot a.found in
-      let has : PeerHolds (turn ∷ past) a.slot.sa.spir (slot_after (peer_task turn.event) turn.step a.slot) =
+      let has : PeerHolds (turn ∷ past) a.slot.sa.spir (slot_after turn.moment (peer_task turn.event) turn.step a.slot) =
       holds-own boxes past turn does (ap (is_end Peer) by) a.slot.sa.spir a.slot had in
       let known : KnowsFloor a.slot =
-      first-all KnowsFloor (has_spir a.slot.sa.spir) (slots_by (window_by past) (own Peer past)) a.slot (floors-known boxes past explained.1) had in
+      first-all KnowsFloor (is_association a.slot.sa.spir) (slots_by (window_by past) (own Peer past)) a.slot (floors-known boxes past explained.1) had in
       let same : out.SyncAccepted name p2 m2 delta unknown ≡ out.SyncAccepted (peer_counter a.slot.sa counter.Answer) a.accepted.p2 a.accepted.m2
       (rise_of DELTA_OCTETS a.asked) (message_ids_of a.slot.asked) =
       sym said ∙ a.accepts.said in
       record {
         before = a.slot;
-        after = slot_after task.Receive turn.step a.slot;
+        after = slot_after turn.moment task.Receive turn.step a.slot;
         request = a.asked;
         payloads = a.payloads;
         by_peer = by;
         named = cc;
         had = had;
-        has = subst (λ asked. PeerHolds (turn ∷ past) a.slot.sa.spir (slot_after asked turn.step a.slot)) brings.peer_receives has;
+        has = subst (λ asked. PeerHolds (turn ∷ past) a.slot.sa.spir (slot_after turn.moment asked turn.step a.slot)) brings.peer_receives has;
         came = record { octets = octets; arrived = arrived; message = a.request; opens = a.opens; inner = a.inner };
         asks = a.reads;
-        greater = greater-left (slots_by (window_by past) (own Peer past)) octets turn.step a known;
-        floor_said = let p : m2 ≡ a.accepted.m2 = cc in p ∙ sym (floor-rises (slots_by (window_by past) (own Peer past)) octets turn.step a known);
-        next_said = let p : p2 ≡ a.accepted.p2 = cc in p ∙ sym (next-jumps (slots_by (window_by past) (own Peer past)) octets turn.step a);
+        greater = greater-left turn.moment (slots_by (window_by past) (own Peer past)) octets turn.step a known;
+        floor_said = let p : m2 ≡ a.accepted.m2 = cc in p ∙ sym (floor-rises turn.moment (slots_by (window_by past) (own Peer past)) octets turn.step a known);
+        next_said = let p : p2 ≡ a.accepted.p2 = cc in p ∙ sym (next-jumps turn.moment (slots_by (window_by past) (own Peer past)) octets turn.step a);
         delta_said = cc;
         unknown_said = cc;
       }
 
   pub peer-synchronised : PeerSynchronised past turn name p2 m2 delta unknown
-  peer-synchronised = go (does-sync (told_state boxes past) turn.moment turn.calls turn.step turn.event does)
+  peer-synchronised = go (does-sync (told_state boxes past) (lots-told boxes past explained.1) turn.moment turn.calls turn.step turn.event does)
     where
       go : SyncTurn (told_state boxes past) turn.event turn.calls turn.step → PeerSynchronised past turn name p2 m2 delta unknown
       go (Other other) = let both : true ≡ false = ap is_of_sync (sym said) ∙ other in absurd (cc)

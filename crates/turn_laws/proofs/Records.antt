@@ -1,5 +1,5 @@
 -- What members hold are records of the associations that they asked for, and each turn is a deed.
-use Rattle.std.proofs.Common.{◌≡◌, ℕ, Bool, Option, Some, None, List, [], ◌∷◌, refl, sym, ◌∙◌, subst}
+use Rattle.std.proofs.Common.{arith, ◌≡◌, ℕ, Bool, Option, Some, None, List, [], ◌∷◌, refl, sym, ◌∙◌, subst}
 use Rattle.std.proofs.lemmas.Option.{same_Some}
 use Rattle.std.specs.List.{AllByRecursion, filter}
 use Rattle.std.specs.Option.{option_map}
@@ -12,8 +12,12 @@ use Rattle.keeper_book.specs.declared.records.Taken.{Taken}
 use Rattle.turn_laws.proofs.Answered.{AreAnswering}
 use Rattle.turn_laws.proofs.Outcomes.{outcome-answering, outcome-of}
 use Rattle.turn_laws.proofs.Covers.{used-calls}
-use Rattle.turn_laws.proofs.Deeds.{Asked, Deed, Ended, HasItsRecord, MemberUses, Rested, Used, Used_theirs}
+use Rattle.turn_laws.proofs.Deeds.{AreTicketsTold, Asked, Deed, Ended, HasItsRecord, MemberUses, Rested, Used, Used_theirs}
 use Rattle.turn_laws.proofs.Explained.{fits-deed}
+use Rattle.turn_laws.proofs.Members.{told-lot}
+use Rattle.turn_laws.proofs.Tickets.{HasLot}
+use Rattle.turn_laws.proofs.TicketTurns.{tickets-told}
+use Rattle.turn_rules.specs.States.{told_state}
 use Rattle.turn_laws.proofs.Lists.{all-filter}
 use Rattle.turn_rules.proofs.SlotTies.{all-weaker}
 use Rattle.turn_rules.proofs.StateLaws.{does-told}
@@ -61,18 +65,38 @@ module _ (past : List Turn) (event : Event) (step : Step) where
   deed-records calls (Used u) = covers-records calls u
   deed-records calls (Used_theirs u) = subst (λ calls. AllByRecursion HasItsRecord calls) (sym u.no_calls) tt
 
-deed-with : (boxes : ℕ) (past : List Turn) (turn : Turn) → HaveTheirRecords past → IsByRule boxes past turn → Explained boxes past → Deed past turn.event turn.calls turn.step
-deed-with boxes past turn records explained local = fits-deed boxes past (own-spir (window_by past) past records) turn.moment turn.calls turn.step turn.event (does-told boxes past turn explained local)
+-- what the deeds of turns before show
+record Shown (past : List Turn) : Type 0 where
+  records : HaveTheirRecords past
+  tickets : (member : ℕ) → AreTicketsTold past member
+
+deed-with : (boxes : ℕ) (past : List Turn) (turn : Turn) → Shown past → IsByRule boxes past turn → Explained boxes past → Deed past turn.event turn.calls turn.step
+deed-with boxes past turn shown explained local = fits-deed boxes past (own-spir (window_by past) past shown.records) shown.tickets turn.moment turn.calls turn.step turn.event (does-told boxes past turn explained local)
+
+shown-by : (boxes : ℕ) (past : List Turn) → Explained boxes past → Shown past
+shown-by boxes [] local = record { records = tt; tickets = λ member. record { left = refl; within = omega arith } }
+shown-by boxes (turn ∷ past) local =
+    let shown : Shown past = shown-by boxes past local.1 in
+    let deed : Deed past turn.event turn.calls turn.step = deed-with boxes past turn shown local.0 local.1 in
+    record {
+      records = (deed-records past turn.event turn.step turn.calls deed, shown.records);
+      tickets = tickets-told past turn deed shown.tickets;
+    }
 
 pub local-records : (boxes : ℕ) (past : List Turn) → Explained boxes past → HaveTheirRecords past
-local-records boxes [] local = tt
-local-records boxes (turn ∷ past) local =
-    let records : HaveTheirRecords past = local-records boxes past local.1 in
-    (deed-records past turn.event turn.step turn.calls (deed-with boxes past turn records local.0 local.1), records)
+local-records boxes past local = (shown-by boxes past local).records
+
+-- what own turns tell of lots of tickets is what the acts of all turns make of them
+pub tickets-by : (boxes : ℕ) (past : List Turn) → Explained boxes past → (member : ℕ) → AreTicketsTold past member
+tickets-by boxes past local = (shown-by boxes past local).tickets
+
+-- no member's next number is above the end of its lot
+pub lots-told : (boxes : ℕ) (past : List Turn) → Explained boxes past → (member : ℕ) → HasLot ((told_state boxes past).members member)
+lots-told boxes past local = told-lot boxes past (tickets-by boxes past local)
 
 -- a turn that is explained is a deed
 pub deed-of : (boxes : ℕ) (past : List Turn) (turn : Turn) → IsByRule boxes past turn → Explained boxes past → Deed past turn.event turn.calls turn.step
-deed-of boxes past turn explained local = deed-with boxes past turn (local-records boxes past local) explained local
+deed-of boxes past turn explained local = deed-with boxes past turn (shown-by boxes past local) explained local
 
 -- in each turn what is executed is a request that is taken, which is answered
 pub answering-run : (boxes : ℕ) (past : List Turn) → Explained boxes past → AreAnswering past

@@ -1,6 +1,6 @@
 -- Each send that is explained is a deed.
 use Rattle.std.proofs.Common.{MatchOption, ◌≡◌, ℕ, ◌<◌, ◌^◌, ◌==◌, false, Option, Some, None, List, [], ◌∷◌, ⊎_elim, refl, ap, sym, ◌∙◌, subst, arith}
-use Rattle.std.proofs.lemmas.Bool.{cases_lt, eqb-true}
+use Rattle.std.proofs.lemmas.Bool.{and_parts, cases_lt, eqb-true}
 use Rattle.events.specs.declared.event.Event.{Event}
 use Rattle.events.specs.declared.event.Event.TheVariants as event
 use Rattle.events.specs.declared.event.Party.TheVariants as parties
@@ -160,7 +160,7 @@ module _ (past : List Turn) (step : Step) (spir : ℕ) (payload : WithRoom) (cal
         not_ours = λ other d. sent-not_ours spir other d payload step (seals-esp (slot_outbound slot) slot.next payload.octets step refl s);
         told = λ other d.
             sent_theirs-told spir slot.next other d payload step s.said (seals-esp (slot_outbound slot) slot.next payload.octets step refl s)
-            ∙ (ap (λ n. number_at (Ours other d) (Ours n counter.EspOut) slot.next) (sym (eqb-true slot.sa.spir spir (first-passes (has_spir spir) (slots_by (window_by past) (own Peer past)) slot is_first))));
+            ∙ (ap (λ n. number_at (Ours other d) (Ours n counter.EspOut) slot.next) (sym (eqb-true slot.sa.spir spir (and_parts slot.live (slot.sa.spir == spir) (first-passes (has_spir spir) (slots_by (window_by past) (own Peer past)) slot is_first)).1)));
         no_entry = refl;
       })
 

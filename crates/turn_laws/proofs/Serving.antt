@@ -77,6 +77,8 @@ module _ (boxes : ℕ) (past : List Turn) (now : Moment) (calls : List Call) (st
   named-of (event.Ask from spir request) does = ap Some (party-named from)
   named-of (event.Again from spir id) does = ap Some (party-named from)
   named-of (event.Sync member spir) does = refl
+  named-of (event.Ticket spir) does = refl
+  named-of (event.Forget spir) does = refl
   named-of (event.Deliver which to) does = ap Some (party-named to)
   named-of (event.Alter which to place octet) does = ap Some (party-named to)
   named-of (event.Cut which to keep) does = ap Some (party-named to)

@@ -11,7 +11,7 @@ use Rattle.keeper_book.specs.declared.calls.Call.{Call}
 use Rattle.keeper_book.specs.declared.counters.Counter.{Counter}
 use Rattle.keeper_book.specs.declared.counters.Counter.TheVariants as counter
 use Rattle.turn_laws.proofs.Covers.{ready-as}
-use Rattle.turn_laws.proofs.Deeds.{none-answering, Deed, IsOpen, Last, Rests, Used, UsesIt, UsesOne, Used_theirs, IsOpenTo, Spends, number_theirs}
+use Rattle.turn_laws.proofs.Deeds.{none-answering, untaken-ticket, Deed, IsOpen, Last, Rests, Used, UsesIt, UsesOne, Used_theirs, IsOpenTo, Spends, number_theirs}
 use Rattle.turn_laws.proofs.Begun.{is_place-true, ours-spir}
 use Rattle.turn_laws.proofs.Uses.{number_at, spent_of}
 use Rattle.events.specs.declared.verdict.Verdict.{Verdict}
@@ -75,6 +75,7 @@ one-uses spir c n event step it = record {
   apart = (tt, tt);
   told = λ other d. one-listed (number_at (Ours other d) (Ours spir c) n) ∙ ap option_to_list (sym (it.told other d));
   not_theirs = λ name. refl;
+  tickets = sym (ap option_to_list (untaken-ticket step.verdict it.spends.untaken));
   named = λ packet accepted other k is.
       (it.spends.of_packet packet accepted).0 ∙ number-here (Ours other counter.EspIn) (Ours spir c) n k (sym (it.told other counter.EspIn) ∙ is);
 }
@@ -92,6 +93,7 @@ second-uses spir c n k event step it =
       apart = uses.apart;
       told = uses.told;
       not_theirs = uses.not_theirs;
+      tickets = uses.tickets;
       named = uses.named;
     }
 
@@ -149,4 +151,5 @@ one-peer-used {past} {event} {calls} {step} u = Used_theirs (record {
         (u.spends.of_packet packet accepted).0 ∙ ap (λ c. Theirs (peer_counter u.slot.sa c)) (ours-counter u.slot.sa.spir other u.c counter.EspIn here),
       );
   no_entry = u.no_entry;
+  no_ticket = untaken-ticket step.verdict u.spends.untaken;
 })

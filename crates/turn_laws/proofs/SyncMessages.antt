@@ -43,11 +43,18 @@ use Rattle.turn_rules.proofs.Cases.{by_bool}
 use Rattle.turn_rules.proofs.NoSynchronisation.{is_of_sync}
 use Rattle.turn_rules.specs.Draws.{counter_name, reach_of, refusal_of_stop}
 use Rattle.turn_rules.specs.Held.{Held}
-use Rattle.turn_rules.specs.MemberMessages.{HeldAnswers, HeldTakesSync, ReadiesWithIv, RefusesThen, TakesSyncAnswer, TakesSyncOf, awaits_sync, cluster_keys, held_ike, member_listener, of_spii, sync_nonce}
+use Rattle.events.specs.declared.ike_outcomes.Kept.{Kept}
+use Rattle.ha_base.specs.declared.outside.Moment.{Moment}
+use Rattle.ike_sas.specs.declared.ticket_messages.TicketAnswer.{TicketAnswer}
+use Rattle.turn_laws.proofs.Tickets.{HasLot, tells-calls}
+use Rattle.turn_rules.specs.Configurations.{fresh_octets}
+use Rattle.turn_rules.specs.MemberStates.{MemberHeld}
+use Rattle.turn_rules.specs.MemberTickets.{TellsTicket}
+use Rattle.turn_rules.specs.MemberMessages.{HeldAnswers, HeldTakesSync, ReadiesThen, ReadiesWithIv, TakesSyncAnswer, TakesSyncOf, awaits_sync, cluster_keys, held_ike, member_listener, of_spii, sync_nonce}
 use Rattle.turn_rules.specs.Messages.{AnswersRequest, ExecutesRequest, Listener, RefusesRequest, TakesArrival, TakesInner, TakesMessage, held_for}
 use Rattle.turn_rules.specs.PeerMessages.{AcceptsSync, AnswersSync, SlotAnswers, SlotSynchronises, has_spis, peer_keys, peer_listener, slot_ike, sync_state}
 use Rattle.turn_rules.specs.Slots.{Slot, first_slot, peer_counter}
-use Rattle.turn_rules.specs.Steps.{Says}
+use Rattle.turn_rules.specs.Steps.{RefusesThen, Says}
 
 by_option : {A X Z : Type 0} {Y : A → Type 0} (o : Option A) → (X → Z) → ((a : A) → Y a → Z) → MatchOption o X Y → Z
 by_option None f g x = f x
@@ -186,14 +193,14 @@ module _ {X : Type 0} (listener : Listener X) (octets : List ℕ) (calls : List 
   new-answered request None does = absurd does
   new-answered request (Some there) does = New_answered there request does
 
-  inner-said : (name : CounterName) (id : ℕ) (inner : Result (List PayloadValue) Bad) → TakesInner name id inner step → IsOther step
-  inner-said name id (Ok payloads) takes = ap is_of_sync takes.says.said
-  inner-said name id (Err bad) takes = absurd takes
+  inner-said : (Keeps : List PayloadValue → Kept → Type 0) (name : CounterName) (id : ℕ) (inner : Result (List PayloadValue) Bad) → TakesInner Keeps name id inner step → IsOther step
+  inner-said Keeps name id (Ok payloads) takes = ap is_of_sync takes.2.says.said
+  inner-said Keeps name id (Err bad) takes = absurd takes
 
-  response-said : (response : Opened) (x : Option X) → MatchOption x ⊥ (λ there. TakesInner (listener.asks there) response.header.id response.inner step)
+  response-said : (response : Opened) (x : Option X) → MatchOption x ⊥ (λ there. TakesInner listener.Keeps (listener.asks there) response.header.id response.inner step)
       → IsOther step
   response-said response None does = absurd does
-  response-said response (Some there) does = inner-said (listener.asks there) response.header.id response.inner does
+  response-said response (Some there) does = inner-said listener.Keeps (listener.asks there) response.header.id response.inner does
 
   arrival-heard : (comes : Arrival) → SyncOpens under octets comes → TakesArrival listener comes calls step → Heard listener octets calls step
   arrival-heard (arrival.Dropped reason) opens takes = Nothing_said (ap is_of_sync takes.1.said)
@@ -210,10 +217,10 @@ module _ {X : Type 0} (listener : Listener X) (octets : List ℕ) (calls : List 
   message-heard takes = arrival-heard takes.comes (arrival-sync under octets takes.comes listener.end takes.is) takes.takes
 
 -- what answers a new request says nothing of a synchronisation
-request-said : (name : CounterName) (held : IkeHeld) (iv : ℕ) (request : Opened) (step : Step) → AnswersRequest name held iv request step → IsOther step
-request-said name held iv request step answers = go (error_of request) answers
+request-said : (name : CounterName) (held : IkeHeld) (iv : ℕ) (request : Opened) (ticket : Option TicketAnswer) (step : Step) → AnswersRequest name held iv request ticket step → IsOther step
+request-said name held iv request ticket step answers = go (error_of request) answers
   where
-    go : (x : Option RequestError) → MatchOption x (ExecutesRequest name held iv request step) (λ error. RefusesRequest name held iv request error step)
+    go : (x : Option RequestError) → MatchOption x (ExecutesRequest name held iv request ticket step) (λ error. RefusesRequest name held iv request error step)
         → IsOther step
     go None executes = ap is_of_sync executes.said
     go (Some error) refuses = ap is_of_sync refuses.said
@@ -238,7 +245,7 @@ module _ (slots : List Slot) (octets : List ℕ) (calls : List Call) (step : Ste
 
   slot-said : (slot : Slot) (request : Opened) → SlotAnswers slot request calls step → IsOther step
   slot-said slot request answers = ⊎_elim
-      (λ below. request-said (peer_counter slot.sa counter.Answer) (slot_ike slot) slot.iv request step (answers.within below))
+      (λ below. request-said (peer_counter slot.sa counter.Answer) (slot_ike slot) slot.iv request None step (answers.within below))
       (λ ended. ap is_of_sync (answers.ended ended).said)
       (cases_lt slot.iv (end_of slot.sa counter.Iv))
 
@@ -285,17 +292,17 @@ module _ (slots : List Slot) (octets : List ℕ) (calls : List Call) (step : Ste
       go (Response_heard taken) = absurd taken.does
 
 -- where numbers get ready first, it is said in what is done then
-pub readies-said : (held : Held) (c : Counter) (at : ℕ) (step : Step) (done : Type 0) → (done → IsOther step) → (calls : List Call)
-    → ReadiesWithIv held c at calls step done → IsOther step
-readies-said held c at step done said calls ready =
+pub readies_then-said : (held : Held) (c : Counter) (at : ℕ) (step : Step) (goes : List Call → Type 0) → ((rest : List Call) → goes rest → IsOther step) → (calls : List Call)
+    → ReadiesThen held c at calls step goes → IsOther step
+readies_then-said held c at step goes said calls ready =
     ready-calls (λ calls. IsOther step) (reach_of held c) at Stopped
-    (λ high rest. Ready (reach_of held counter.Iv) iv rest Stopped (λ high rest. (rest ≡ []) × done))
+    (λ high rest. Ready (reach_of held counter.Iv) iv rest Stopped (λ high rest. goes rest))
     (λ call rest asked is. is)
     (λ reason rest s. ap is_of_sync s.1.said)
-    (λ high rest more. ready-calls (λ calls. IsOther step) (reach_of held counter.Iv) iv Stopped (λ high rest. (rest ≡ []) × done)
+    (λ high rest more. ready-calls (λ calls. IsOther step) (reach_of held counter.Iv) iv Stopped (λ high rest. goes rest)
     (λ call rest asked is. is)
     (λ reason rest s. ap is_of_sync s.1.said)
-    (λ high rest d. said d.1)
+    (λ high rest so. said rest so)
     rest more)
     calls ready
   where
@@ -304,6 +311,10 @@ readies-said held c at step done said calls ready =
 
     Stopped : Stop → List Call → Type 0
     Stopped reason rest = RefusesThen (refusal_of_stop reason) rest step
+
+pub readies-said : (held : Held) (c : Counter) (at : ℕ) (step : Step) (done : Type 0) → (done → IsOther step) → (calls : List Call)
+    → ReadiesWithIv held c at calls step done → IsOther step
+readies-said held c at step done said calls ready = readies_then-said held c at step (λ rest. (rest ≡ []) × done) (λ rest d. said d.1) calls ready
 
 -- a member took the response to its last request to synchronise, which the octets open to
 pub record TakenBy (fresh : List ℕ) (held_of : ℕ → Option Held) (octets : List ℕ) (calls : List Call) (step : Step) : Type 0 where
@@ -320,9 +331,15 @@ pub record TakenBy (fresh : List ℕ) (held_of : ℕ → Option Held) (octets : 
   pub is : IsMemberAnswer (five_at held.nexts counter.Ask) held.answered.floor (sync_nonce fresh attempt) payloads (Ok counters)
   pub says : Says (out.Synced (counter_name held.sa counter.Answer) counters.0 counters.1) step
 
-module _ (fresh : List ℕ) (held_of : ℕ → Option Held) (octets : List ℕ) (calls : List Call) (step : Step) where
+module _ (m : MemberHeld) (within : HasLot m) (now : Moment) (octets : List ℕ) (calls : List Call) (step : Step) where
+  abbrev fresh : List ℕ
+  fresh = fresh_octets m.given
+
+  abbrev held_of : ℕ → Option Held
+  held_of = m.held
+
   abbrev members : Listener Held
-  members = member_listener fresh held_of
+  members = member_listener m now
 
   held-heard : TakenThere members octets (λ held response. HeldTakesSync fresh held response calls step)
       → IsOther step ⊎ TakenBy fresh held_of octets calls step
@@ -361,10 +378,17 @@ module _ (fresh : List ℕ) (held_of : ℕ → Option Held) (octets : List ℕ) 
       awaits None e says = inl (ap is_of_sync says.said)
       awaits (Some attempt) e takes = go attempt e takes.payloads takes.inner takes.answer takes.is takes.takes
 
-  held-said : (held : Held) (request : Opened) → HeldAnswers held request calls step → IsOther step
-  held-said held request answers = readies-said held counter.Answer request.header.id step
-      (AnswersRequest (counter_name held.sa counter.Answer) (held_ike held) (five_at held.nexts counter.Iv) request step)
-      (request-said (counter_name held.sa counter.Answer) (held_ike held) (five_at held.nexts counter.Iv) request step) calls answers
+  held-said : (held : Held) (request : Opened) → HeldAnswers m now held request calls step → IsOther step
+  held-said held request answers = readies_then-said held counter.Answer request.header.id step (λ rest. TellsTicket m now held.sa request rest step Answered)
+      (λ rest tells. tells-calls m within now held.sa request step Answered (λ calls. IsOther step)
+      (λ says. ap is_of_sync says.said)
+      (λ ticket answered. request-said (counter_name held.sa counter.Answer) (held_ike held) (five_at held.nexts counter.Iv) request ticket step answered)
+      (λ call lease is. is)
+      rest tells)
+      calls answers
+    where
+      Answered : Option TicketAnswer → Type 0
+      Answered ticket = AnswersRequest (counter_name held.sa counter.Answer) (held_ike held) (five_at held.nexts counter.Iv) request ticket step
 
   -- and so it is of a member, unless it takes the response to one
   pub member-hears : TakesMessage members octets calls step → IsOther step ⊎ TakenBy fresh held_of octets calls step

@@ -17,7 +17,10 @@ use Rattle.events.specs.declared.verdict.Verdict.TheVariants as out
 use Rattle.ha_base.specs.declared.outside.Moment.{Moment}
 use Rattle.horizons.specs.Ready.{Ready}
 use Rattle.horizons.specs.declared.stop.Stop.{Stop}
+use Rattle.ike_sas.specs.Answers.{request_payloads}
 use Rattle.ike_sas.specs.Held.{IkeHeld}
+use Rattle.ike_sas.specs.TicketMessages.{ticket_request_payloads}
+use Rattle.ike_values.specs.Values.{PayloadValue}
 use Rattle.ike_window.specs.Kept.{kept_octets}
 use Rattle.keeper_book.specs.CounterEnds.{end_of}
 use Rattle.keeper_book.specs.Counters.{five_at}
@@ -30,6 +33,7 @@ use Rattle.keeper_book.specs.declared.records.Record.{Record}
 use Rattle.turn_laws.proofs.Covers.{ready-calls}
 use Rattle.turn_laws.proofs.Receiving.{Brings}
 use Rattle.turn_laws.proofs.SyncMessages.{AcceptedBy, TakenBy, member-hears, peer-hears, readies-said}
+use Rattle.turn_laws.proofs.Tickets.{HasLot}
 use Rattle.turn_rules.proofs.NoSynchronisation.{is_of_sync}
 use Rattle.turn_rules.specs.Configurations.{fresh_octets}
 use Rattle.turn_rules.specs.Datagrams.{PlainDatagram, arrives}
@@ -37,15 +41,14 @@ use Rattle.turn_rules.specs.Deliveries.{MemberGets, PeerGets}
 use Rattle.turn_rules.specs.Draws.{Admits, Concludes, EntersRecord, Grants, TakesOver, reach_of, refusal_of_import, refusal_of_stop, refusal_of_takeover}
 use Rattle.turn_rules.specs.Fits.{Does, DrawsOf, Performs, Quietly, Receives, Refuses, Refusing, SendsOf, run_refusal}
 use Rattle.turn_rules.specs.Held.{Held}
-use Rattle.turn_rules.specs.MemberMessages.{AsksOf, HeldSendsRequest, ReadiesWithIv, RefusesThen, ResendsOf, SendsSync, SyncsOf, held_ike, sync_id}
+use Rattle.turn_rules.specs.MemberMessages.{AsksOf, HeldSendsRequest, ReadiesWithIv, ResendsOf, SendsSync, SyncsOf, held_ike, sync_id}
 use Rattle.turn_rules.specs.MemberPackets.{outbound_of}
 use Rattle.turn_rules.specs.Messages.{GivesAgain, Resends, SendsRequest, Windowed}
 use Rattle.turn_rules.specs.Packets.{IsVerdictOf, SendsEsp}
 use Rattle.turn_rules.specs.PeerMessages.{SlotAsks, SlotSendsRequest, slot_ike}
-use Rattle.turn_rules.specs.Peers.{admits}
-use Rattle.turn_rules.specs.Slots.{Slot, SlotSends, first_slot, has_spir, records}
+use Rattle.turn_rules.specs.Slots.{Slot, SlotSends, admits, first_slot, has_spir}
 use Rattle.turn_rules.specs.States.{RunState}
-use Rattle.turn_rules.specs.Steps.{Says}
+use Rattle.turn_rules.specs.Steps.{RefusesThen, Says}
 
 abbrev IsOther : Step → Type 0
 IsOther step = is_of_sync step.verdict ≡ false
@@ -149,7 +152,7 @@ slot_resends-other : (id : ℕ) (x : Option Slot) (step : Step)
 slot_resends-other id None step says = ap is_of_sync says.said
 slot_resends-other id (Some slot) step r = resent-other id (slot_ike slot) step r
 
-asked-other : (request : List ℕ) (x : Option Held) (calls : List Call) (step : Step) → AsksOf x request calls step → IsOther step
+asked-other : (request : List PayloadValue) (x : Option Held) (calls : List Call) (step : Step) → AsksOf x request calls step → IsOther step
 asked-other request None calls step r = ap is_of_sync r.1.said
 asked-other request (Some held) calls step asks = by_synced held.synced asks
   where
@@ -168,7 +171,7 @@ asked-other request (Some held) calls step asks = by_synced held.synced asks
         w
     by_synced false r = ap is_of_sync r.1.said
 
-slot_asks-other : (request : List ℕ) (x : Option Slot) (step : Step)
+slot_asks-other : (request : List PayloadValue) (x : Option Slot) (step : Step)
     → MatchOption x (Says (out.Refused refusal.Unknown) step) (λ slot. SlotAsks slot request step) → IsOther step
 slot_asks-other request None step says = ap is_of_sync says.said
 slot_asks-other request (Some slot) step w = ⊎_elim (λ fits. sends fits.1) (λ full. ap is_of_sync full.3.said) w
@@ -182,6 +185,10 @@ slot_asks-other request (Some slot) step w = ⊎_elim (λ fits. sends fits.1) (�
         (λ ended. ap is_of_sync (s.ended (inl ended)).said)
         (cases_lt slot.ask (end_of slot.sa counter.Ask))
 
+slot_forgotten-other : (x : Option Slot) (step : Step) → MatchOption x (Says (out.Refused refusal.Unknown) step) (λ slot. Says out.Forgotten step) → IsOther step
+slot_forgotten-other None step says = ap is_of_sync says.said
+slot_forgotten-other (Some slot) step says = ap is_of_sync says.said
+
 worded-other : (a : EspVerdict) (after : List ℕ) (step : Step) → IsVerdictOf a after step.verdict → IsOther step
 worded-other (esp.Accepted name packet) after step worded = ap is_of_sync worded.2
 worded-other (esp.Dropped why) after step worded = ap is_of_sync worded
@@ -189,7 +196,7 @@ worded-other (esp.Refused why) after step worded = ap is_of_sync worded
 
 -- ---- what does
 
-module _ (state : RunState) (now : Moment) (calls : List Call) (step : Step) where
+module _ (state : RunState) (within : (member : ℕ) → HasLot (state.members member)) (now : Moment) (calls : List Call) (step : Step) where
   abbrev fresh_of : ℕ → List ℕ
   fresh_of member = fresh_octets (state.members member).given
 
@@ -241,25 +248,27 @@ module _ (state : RunState) (now : Moment) (calls : List Call) (step : Step) whe
       arrived : datagram.medium ≡ medium.Ike → Arrives state event datagram.octets
       arrived ike = e ∙ ap (λ m. Ok (record { medium = m; octets = datagram.octets })) ike
 
-      member_gets : (m : Medium) → datagram.medium ≡ m → MemberGets m (fresh_of member) (state.members member).held datagram.octets calls step → Turns event
+      member_gets : (m : Medium) → datagram.medium ≡ m → MemberGets m (state.members member) now datagram.octets calls step → Turns event
       member_gets medium.Ike ike takes = ⊎_elim Other (λ taken. Taken_here member datagram.octets brings (arrived ike) taken)
-          (member-hears (fresh_of member) (state.members member).held datagram.octets calls step takes)
+          (member-hears (state.members member) (within member) now datagram.octets calls step takes)
       member_gets medium.Esp esp takes = Other (worded-other takes.answer takes.after step takes.worded)
 
   performed : (event : Event) → Performs state now event calls step → Turns event
   performed (event.Cluster identity lifetime window ticket_key) y = Other (ap is_of_sync y.says.said)
-  performed (event.Import sa) p = Other (imported-other sa calls step (not (admits (records state.peer.slots) sa)) p)
+  performed (event.Import sa) p = Other (imported-other sa calls step (not (admits state.peer.slots sa)) p)
   performed (event.Join fresh) y = Other (ap is_of_sync y.says.said)
   performed (event.Own member spir) quietly = Other (granted-other spir step calls member quietly.follows)
   performed (event.Draw member spir) draws = Other (drawn-other ((state.members member).held spir) calls step draws)
   performed (event.Crash member) y = Other (ap is_of_sync y.says.said)
   performed (event.Send parties.Peer spir payload) sends = Other (slot_sent-other payload.octets (first_slot (has_spir spir) state.peer.slots) step sends.1)
   performed (event.Send (parties.Member member) spir payload) sends = Other (sent-other payload.octets ((state.members member).held spir) calls step sends)
-  performed (event.Ask parties.Peer spir request) asks = Other (slot_asks-other request.octets (first_slot (has_spir spir) state.peer.slots) step asks.1)
-  performed (event.Ask (parties.Member member) spir request) asks = Other (asked-other request.octets ((state.members member).held spir) calls step asks)
+  performed (event.Ask parties.Peer spir request) asks = Other (slot_asks-other (request_payloads request.octets) (first_slot (has_spir spir) state.peer.slots) step asks.1)
+  performed (event.Ask (parties.Member member) spir request) asks = Other (asked-other (request_payloads request.octets) ((state.members member).held spir) calls step asks)
   performed (event.Again parties.Peer spir id) r = Other (slot_resends-other id (first_slot (has_spir spir) state.peer.slots) step r.1)
   performed (event.Again (parties.Member member) spir id) r = Other (resends-other id ((state.members member).held spir) calls step r)
   performed (event.Sync member spir) does = syncs member spir ((state.members member).held spir) refl does
+  performed (event.Ticket spir) asks = Other (slot_asks-other ticket_request_payloads (first_slot (has_spir spir) state.peer.slots) step asks.1)
+  performed (event.Forget spir) forgets = Other (slot_forgotten-other (first_slot (has_spir spir) state.peer.slots) step forgets.1)
   performed (event.Deliver which to) r = received (event.Deliver which to) to
       (record {
         performs = λ verdict. refl;

@@ -31,11 +31,11 @@ use Rattle.turn_laws.proofs.Outcomes.{idle-untaken}
 use Rattle.turn_laws.proofs.PeerSyncs.{holds-other, holds-own, one-slot, peer-synchronised, taken-floor}
 use Rattle.turn_laws.proofs.Records.{deed-of}
 use Rattle.turn_laws.proofs.Theirs.{not-both}
-use Rattle.turn_laws.proofs.Told.{is_end-true}
+use Rattle.turn_laws.proofs.Members.{is_end-true}
 use Rattle.turn_laws.proofs.Uses.{AreUses, Counts, IsUse, Seals_it, Spent, all-among, spent_of}
 use Rattle.turn_laws.specs.Acts.{Move, Seals, Uses}
 use Rattle.turn_laws.specs.Places.{Ours, Place, Pooled, Theirs, place_of}
-use Rattle.turn_laws.specs.Synchronising.{IsFrom, MemberHolds, MemberSynchronised, MemberTakesFrom, PeerHolds, PeerSynchronised, PeerTakesFrom, TakeFrom}
+use Rattle.turn_laws.specs.Synchronising.{IsFrom, MemberHolds, MemberSynchronised, MemberTakesFrom, PeerHolds, PeerSynchronised, PeerTakesFrom, TakeFrom, is_association}
 use Rattle.turn_laws.specs.Turns.{key_iv, place_answered, uses_of}
 use Rattle.turn_rules.proofs.SlotTies.{DoesTold, first-passes, other-config}
 use Rattle.turn_rules.proofs.StateLaws.{does-told}
@@ -45,7 +45,7 @@ use Rattle.turn_rules.specs.Held.{Held, advanced, agreements_of, first_some, flo
 use Rattle.turn_rules.specs.IkeState.{answered_after, response_in, turn_agreed, turn_response}
 use Rattle.turn_rules.specs.Local.{Explained, IsByRule}
 use Rattle.turn_rules.specs.Safe.{Request, request_taken, taken_as, taken_in}
-use Rattle.turn_rules.specs.Slots.{Slot, first_slot, has_spir, peer_counter, since_entered, slot_after, slots_by}
+use Rattle.turn_rules.specs.Slots.{Slot, first_slot, peer_counter, since_entered, slot_after, slots_by}
 use Rattle.turn_rules.specs.Synchronised.{Agreed, after_floor, agreed_in}
 use Rattle.turn_rules.specs.Tasks.{member_task, peer_task}
 
@@ -145,9 +145,9 @@ module _ (boxes : ℕ) (past : List Turn) (local : Explained boxes past) (floor 
       sym need.slot.sa.origin_is_own ∙ (ap (λ (n : CounterName). spir_of_origin n.origin) names ∙ sa.origin_is_own) in
       let spir : need.slot.sa.spir ≡ sa.spir = same_Some need.slot.sa.spir sa.spir spirs in
       let same_spir : floored.slot.sa.spir ≡ sa.spir =
-      eqb-true floored.slot.sa.spir sa.spir (first-passes (has_spir sa.spir) (slots_by (window_by past) (own Peer past)) floored.slot floored.holds) in
+      eqb-true floored.slot.sa.spir sa.spir (first-passes (is_association sa.spir) (slots_by (window_by past) (own Peer past)) floored.slot floored.holds) in
       let one : need.slot ≡ floored.slot =
-      one-slot boxes past local need.test (has_spir sa.spir) need.slot floored.slot need.is_first floored.holds (spir ∙ sym same_spir) in
+      one-slot boxes past local need.test (is_association sa.spir) need.slot floored.slot need.is_first floored.holds (spir ∙ sym same_spir) in
       let is_open : IsOpenTo need.slot counter.Answer need.number = subst (λ c. IsOpenTo need.slot c need.number) answers need.is_open in
       let from : need.slot.answered.floor ≤ need.number = slot-from (window_by past) (own Peer past) need.test need.slot need.number need.is_first is_open.1 in
       let floors : need.slot.answered.floor ≡ floored.slot.answered.floor = ap (λ (s : Slot). s.answered.floor) one in
@@ -179,12 +179,12 @@ still-floored boxes past turn does floor spir old = by_test (is_by Peer turn) re
   where
     by_test : (b : Bool) → is_by Peer turn ≡ b → IsFloored floor spir (turn ∷ past)
     by_test true mine =
-        let more : old.slot.answered.floor ≤ (slot_after (peer_task turn.event) turn.step old.slot).answered.floor =
+        let more : old.slot.answered.floor ≤ (slot_after turn.moment (peer_task turn.event) turn.step old.slot).answered.floor =
         answered-more (agreed_in old.slot.sa.spir (peer_task turn.event) turn.step.verdict)
         (response_in old.slot.sa.spir (peer_task turn.event) turn.step) old.slot.answered in
         let low : floor ≤ old.slot.answered.floor = old.from in
         record {
-          slot = slot_after (peer_task turn.event) turn.step old.slot;
+          slot = slot_after turn.moment (peer_task turn.event) turn.step old.slot;
           holds = holds-own boxes past turn does mine spir old.slot old.holds;
           from = omega (arith, more, low);
         }

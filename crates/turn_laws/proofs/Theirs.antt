@@ -15,7 +15,7 @@ use Rattle.turn_laws.proofs.Moved.{having-more, moved-holds, rest-listed, rest-u
 use Rattle.turn_laws.proofs.Outcomes.{rests-rest}
 use Rattle.turn_laws.proofs.Records.{deed-of}
 use Rattle.turn_laws.proofs.Runs.{onto-append, others-hold}
-use Rattle.turn_laws.proofs.Told.{is_end-false, is_end-true}
+use Rattle.turn_laws.proofs.Members.{is_end-false, is_end-true}
 use Rattle.turn_laws.specs.Acts.{Act, Calls, act_by, begun_by, effect_begun, entered_as, holding_at}
 use Rattle.turn_laws.specs.Holdings.{Actor, End, Holding, holding_after, is_actor}
 use Rattle.turn_laws.specs.Listed.{listed_at}

@@ -1,5 +1,5 @@
 -- What an end's own turns say that it holds of a counter is what the acts of all turns make of it.
-use Rattle.std.proofs.Common.{◌≡◌, ◌≢◌, ℕ, ◌+◌, ◌⊎◌, inl, inr, Bool, true, false, Option, Some, None, List, [], ◌∷◌, ◌++◌, map, ⊎_elim, refl, ap, sym, ◌∙◌, subst, if◌then◌else◌, option_to_list}
+use Rattle.std.proofs.Common.{◌≡◌, ℕ, ◌+◌, ◌⊎◌, inl, inr, Bool, true, false, Option, Some, None, List, [], ◌∷◌, ◌++◌, map, ⊎_elim, refl, ap, sym, ◌∙◌, subst, if◌then◌else◌, option_to_list}
 use Rattle.std.specs.Prelude.{is_some, reverse}
 use Rattle.std.specs.List.{AllByRecursion, cons_option, filter_map, flat_map}
 use Rattle.std.specs.Option.{option_map}
@@ -19,8 +19,8 @@ use Rattle.turn_laws.proofs.Uses.{uses-moved}
 use Rattle.turn_laws.proofs.Covers.{used-calls}
 use Rattle.turn_laws.proofs.Acting.{moves_onto}
 use Rattle.turn_laws.proofs.Deeds.{Asked, Deed, Ended, Rested, Used, Used_theirs, rest_of}
-use Rattle.turn_laws.proofs.Holdings.{is_performer-same, is_performer-true}
 use Rattle.turn_laws.proofs.Outcomes.{Idle, Ours_used, Outcome, Over, Theirs_used, idle-taken, outcome-of, over-rest, over-taken, rests-rest}
+use Rattle.turn_laws.proofs.Members.{is_end-false, is_end-true}
 use Rattle.turn_laws.proofs.Records.{deed-of}
 use Rattle.turn_laws.proofs.Runs.{covered_by, held-call, held-covers, onto-append, others-hold}
 use Rattle.turn_laws.specs.Acts.{Act, Calls, holding_begun, holding_at, settled_as}
@@ -28,7 +28,7 @@ use Rattle.turn_laws.specs.Holdings.{Actor, End, Holding}
 use Rattle.turn_laws.specs.Places.{Ours}
 use Rattle.turn_laws.specs.Turns.{actor_as, actor_of, acts_of, moves_of, number_taken, turn_taken, told}
 use Rattle.turn_rules.proofs.Ties.{greatest-append}
-use Rattle.turn_rules.specs.Ends.{Member, Peer, Performer, is_by, is_end, is_performer, own, performer, performer_at}
+use Rattle.turn_rules.specs.Ends.{Member, Peer, is_by, own, performer, performer_at}
 use Rattle.turn_rules.specs.Held.{after_number, covers_in, covers_of, first_some, found, grant_in, grant_of, granted, greatest, since}
 use Rattle.turn_rules.specs.Local.{Explained}
 
@@ -167,15 +167,6 @@ module _ (spir : ℕ) (c : Counter) (w : Actor) (event : Event) (calls : List Ca
           ap (option_map (noted (number_taken spir c event step)))
           (subst (λ cs. holding_at (Ours spir c) (moves_onto w (map Calls cs) acts) w ≡ first_some (option_map (holding_begun c) (grant_in spir cs)) (option_map (covered_by spir c w cs) (holding_at (Ours spir c) acts w))) (sym is.1) (held-call spir c w is.0 acts is.3))
           ∙ told_once (holding_at (Ours spir c) acts w) is.2
-
--- whose turn it is
-pub is_end-true : (end : Performer) (x : Option Performer) → is_end end x ≡ true → x ≡ Some end
-is_end-true end None e = absurd (cc)
-is_end-true end (Some other) e = ap Some (sym (is_performer-true end other e))
-
-pub is_end-false : (end : Performer) (x : Option Performer) → is_end end x ≡ false → actor_as x ≢ End end
-is_end-false end None e same = absurd (cc)
-is_end-false end (Some other) e same = let here : is_performer end other ≡ true = subst (λ x. is_performer end x ≡ true) (let s : End other ≡ End end = same in let t : end ≡ other = cc in t) (is_performer-same end) in absurd (cc)
 
 -- what a member's own turns say that it holds is what the acts of all turns make of it
 pub told-held : (boxes : ℕ) (past : List Turn) → Explained boxes past → (member spir : ℕ) (c : Counter) → told spir c (own (Member member) past) ≡ holding_at (Ours spir c) (acts_of past) (End (Member member))

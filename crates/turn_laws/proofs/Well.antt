@@ -1,6 +1,7 @@
 -- The moves of every turn that is explained may be made.
 use Rattle.turn_laws.proofs.Settled.{IsInOrder, lots-ordered, lease-lot}
 use Rattle.keeper_book.specs.declared.pools.Pool.{Pool}
+use Rattle.pool_lots.specs.declared.lots.TheConstants.{LEASED_NUMBERS}
 use Rattle.std.proofs.Common.{◌≡◌, ℕ, ◌<◌, ◌≤◌, ◌==◌, max, true, Bool, Option, Some, None, MatchOption, List, [], ◌∷◌, ◌++◌, map, ⊎_elim, refl, ap, sym, ◌∙◌, subst, arith, ◌⊎◌, length}
 use Rattle.std.proofs.lemmas.Bool.{cases_lt, eq-eqb}
 use Rattle.std.specs.List.{AllByRecursion}
@@ -259,11 +260,11 @@ module _ (past : List Turn) (member : ℕ) (event : Event) (step : Step) where
       })
 
   -- and the first one of a range that was leased
-  leased-may : (acts : List Act) (need : LotNeed) (call : Call) → call.asked ≡ ask.Lease need.pool need.count → seen call ≡ answer.First need.number → HoldsFor (holding_at (Pooled need.pool) (act_by w (Calls call) ∷ acts) w) need.number
+  leased-may : (acts : List Act) (need : LotNeed) (call : Call) → call.asked ≡ ask.Lease need.pool LEASED_NUMBERS → seen call ≡ answer.First need.number → HoldsFor (holding_at (Pooled need.pool) (act_by w (Calls call) ∷ acts) w) need.number
   leased-may acts need call asked sees = record {
-    holding = lot_begun (length (begun_at (Pooled need.pool) acts).bases) need.pool need.number need.count;
-    holds = lease-lot acts w need.pool need.number need.count call asked sees;
-    may = record { from_base = omega arith; below_high = let some : 1 ≤ need.count = need.some in omega arith; unused = tt };
+    holding = lot_begun (length (begun_at (Pooled need.pool) acts).bases) need.pool need.number LEASED_NUMBERS;
+    holds = lease-lot acts w need.pool need.number LEASED_NUMBERS call asked sees;
+    may = record { from_base = omega arith; below_high = omega arith; unused = tt };
   }
 
   lot-well : (needs : List (Need past member)) (lot : Option LotNeed) (acts : List Act) → AreLots acts → AllByRecursion (λ n. IsUsable n acts) needs → (calls : List Call)
@@ -272,13 +273,13 @@ module _ (past : List Turn) (member : ℕ) (event : Event) (step : Step) where
   lot-well needs (Some need) acts lots usable calls (Left h holds below is ended it) = subst (λ calls. MayMake acts calls) (sym ended)
       (it-well acts (with_lot (Some need) (map spent_by needs)) (left-may acts need h lots holds below is, usable-holds acts needs usable) it)
   lot-well needs (Some need) acts lots usable calls (Leased call one asked sees it) =
-      let lease : IsLease call = record { pool = need.pool; count = need.count; asked = asked } in
+      let lease : IsLease call = record { pool = need.pool; asked = asked } in
       subst (λ calls. MayMake acts calls) (sym one) (
         may-lease acts call lease,
         it-well (act_by w (Calls call) ∷ acts) (with_lot (Some need) (map spent_by needs)) (leased-may acts need call asked sees, usable-holds (act_by w (Calls call) ∷ acts) needs (leased-usable acts call lease needs usable)) it,
       )
   lot-well needs (Some need) acts lots usable calls (InVain call why one asked sees so) =
-      let lease : IsLease call = record { pool = need.pool; count = need.count; asked = asked } in
+      let lease : IsLease call = record { pool = need.pool; asked = asked } in
       subst (λ calls. MayMake acts calls) (sym one) (
         may-lease acts call lease,
         ⊎_elim (λ rests. rests-well (act_by w (Calls call) ∷ acts) rests)

@@ -35,7 +35,7 @@ MemberAcceptsFirst past turn =
     → IsUnaccepted (Ours spir counter.EspIn) number past → IsAcknowledged held number turn.calls
     → IsAcceptedAs (counter_name held.sa counter.EspIn) number payload turn.step.verdict
 
--- and so by the peer, which needs no acknowledgement
+-- and so by the peer, in an association that is live there: it needs no acknowledgement
 abbrev pub PeerAcceptsFirst : List Turn → Turn → Type 0
 PeerAcceptsFirst past turn =
     (number : ℕ) (slot : Slot) (payload octets : List ℕ) → Came past turn Peer octets

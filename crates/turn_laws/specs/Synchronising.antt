@@ -1,6 +1,6 @@
 -- What a synchronisation leaves an end, as its own turns tell before and after it (RFC 6311,
 -- section 5).
-use Rattle.std.specs.Prelude.{ℕ, ◌+◌, ◌≡◌, ◌≤◌, max, unwrap_or, true, false, Some, None, Ok, List, [], ◌∷◌, ◌++◌}
+use Rattle.std.specs.Prelude.{ℕ, ◌+◌, ◌==◌, ◌≡◌, ◌≤◌, max, unwrap_or, Bool, true, false, Some, None, Ok, List, [], ◌∷◌, ◌++◌}
 use Rattle.std.specs.List.{AllByRecursion, filter_map}
 use Rattle.events.specs.declared.turn.Medium.TheVariants as medium
 use Rattle.events.specs.declared.turn.Turn.{Turn}
@@ -27,8 +27,8 @@ use Rattle.turn_rules.specs.Held.{Held, found, grant_of, held_by, window_by}
 use Rattle.turn_rules.specs.MemberMessages.{cluster_keys, sync_nonce}
 use Rattle.turn_rules.specs.PeerMessages.{peer_keys}
 use Rattle.turn_rules.specs.Safe.{Request, taken_in}
-use Rattle.turn_rules.specs.Slots.{Slot, first_slot, has_spir, peer_counter, slots_by}
-use Rattle.turn_rules.specs.States.{fresh_at}
+use Rattle.turn_rules.specs.Slots.{Slot, first_slot, peer_counter, slots_by}
+use Rattle.turn_rules.specs.MemberStates.{fresh_at}
 
 -- in this turn octets came which open under a key, and these payloads stand in them
 pub record CameWith (past : List Turn) (turn : Turn) (key : List ℕ)
@@ -40,10 +40,14 @@ pub record CameWith (past : List Turn) (turn : Turn) (key : List ℕ)
   pub opens : IsOpening key octets (Ok message)
   pub inner : message.inner ≡ Ok payloads
 
--- what the peer's own turns say that it holds of the association of a responder's SPI
+-- the association of a responder's SPI, closed or not
+abbrev pub is_association : ℕ → Slot → Bool
+is_association spir slot = slot.sa.spir == spir
+
+-- what the peer's own turns say that it holds of it
 abbrev pub PeerHolds : List Turn → ℕ → Slot → Type 0
 PeerHolds past spir slot =
-    first_slot (has_spir spir) (slots_by (window_by past) (own Peer past)) ≡ Some slot
+    first_slot (is_association spir) (slots_by (window_by past) (own Peer past)) ≡ Some slot
 
 -- and what a member's say
 abbrev pub MemberHolds : List Turn → ℕ → ℕ → Held → Type 0

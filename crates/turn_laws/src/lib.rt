@@ -14,8 +14,9 @@ pub use laws::{
 pub use traces::{
     all_is_owned, all_synchronisations_catch_up, answered_are_taken, covers_are_caught_up,
     executed_for_the_named, genuine_are_accepted, greater_counters_are_left, holdings_are_apart,
-    no_nonce_reuse, no_number_past_its_end, no_number_twice, none_below_is_taken,
-    one_receives_at_an_spi, own_turns_tell_holdings, own_turns_tell_states, packets_once,
-    replaced_by_later_epochs, requests_once, runs_are_safe, synchronisations_leave_the_greater,
-    synchronised_numbers_catch_up, turns_are_moves, uses_are_told,
+    lots_left_are_apart, no_nonce_reuse, no_number_past_its_end, no_number_twice,
+    none_below_is_taken, one_receives_at_an_spi, own_turns_tell_holdings, own_turns_tell_states,
+    packets_once, replaced_by_later_epochs, requests_once, runs_are_safe,
+    synchronisations_leave_the_greater, synchronised_numbers_catch_up, turns_are_moves,
+    uses_are_told,
 };

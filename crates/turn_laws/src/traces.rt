@@ -3,7 +3,7 @@
 ghost use Rattle.std.specs.Prelude.{◌≡◌, ◌≢◌, ◌<◌, ◌≤◌, ℕ, Some, IsSome, List, ◌∷◌, ◌++◌};
 ghost use Rattle.std.specs.List.{AllByRecursion, filter_map, flat_map};
 ghost use Rattle.events.specs.declared.turn.Turn.{Turn};
-ghost use Rattle.keeper_book.specs.Book.{Answers, Book};
+ghost use Rattle.keeper_book.specs.Book.{Answers, Book, pool_next};
 ghost use Rattle.keeper_book.specs.Counters.{counter_named, five_at};
 ghost use Rattle.ha_base.specs.declared.counter_names.CounterName.{CounterName};
 ghost use Rattle.ha_base.specs.declared.counter_names.Kind.{Kind};
@@ -12,17 +12,18 @@ ghost use Rattle.keeper_book.specs.declared.calls.KeeperAsk.TheVariants as ask;
 ghost use Rattle.keeper_book.specs.declared.counters.Counter.{Counter};
 ghost use Rattle.keeper_book.specs.declared.counters.Counter.TheVariants as counter;
 ghost use Rattle.keeper_book.specs.declared.faults.KeeperFault.TheVariants as fault;
+ghost use Rattle.keeper_book.specs.declared.pools.Pool.TheVariants as pools;
 ghost use Rattle.keeper_book.specs.declared.records.Record.{Record};
 ghost use Rattle.turn_laws.specs.Acts.{Act, MayAsk, MayDoAll, end_at, holding_at, numbers_at};
 ghost use Rattle.turn_laws.specs.Answered.{KeepsTaken};
 ghost use Rattle.turn_laws.specs.CaughtUp.{AllCatchUp, CatchesUp, CoversAreCaughtUp, NoneInvented};
 ghost use Rattle.turn_laws.specs.FirstDelivery.{MemberAcceptsFirst, PeerAcceptsFirst};
-ghost use Rattle.turn_laws.specs.Holdings.{Actor, End, Holding};
+ghost use Rattle.turn_laws.specs.Holdings.{Actor, End, Holding, IsNotIn};
 ghost use Rattle.turn_laws.specs.Listed.{listed_at, request_at};
-ghost use Rattle.turn_laws.specs.OwnTurns.{OwnTurnsTell};
+ghost use Rattle.turn_laws.specs.OwnTurns.{IsLeftIn, OwnTurnsTell, left_of_lot};
 ghost use Rattle.turn_laws.specs.Owned.{Owned};
 ghost use Rattle.turn_laws.specs.PeerTurns.{told_theirs};
-ghost use Rattle.turn_laws.specs.Places.{Ours, Place, Theirs};
+ghost use Rattle.turn_laws.specs.Places.{Ours, Place, Pooled, Theirs};
 ghost use Rattle.turn_laws.specs.Replaced.{AreReplacedLater};
 ghost use Rattle.turn_laws.specs.Serving.{ServesNamed};
 ghost use Rattle.turn_laws.specs.Synchronising.{LeavesGreater, MemberSynchronises, MemberTakesFrom, PeerSynchronises, PeerTakesFrom};
@@ -34,11 +35,12 @@ ghost use Rattle.turn_rules.specs.Local.{Explained, Stands};
 ghost use Rattle.turn_rules.specs.Safe.{IsEachOnce, Safe, TakesWhereServed, accepted_in, key_ivs, taken_in};
 ghost use Rattle.turn_rules.specs.Slots.{since_entered, slot_by};
 ghost use Rattle.turn_rules.specs.Tasks.{member_task, peer_task};
+ghost use Rattle.turn_rules.specs.TicketNumbers.{numbers_by, ticket_number};
 
 use esp_packets::sealed_packets_open;
 
 /// What an end's own turns say that it holds of a counter is what the moves of all turns make of
-/// it.
+/// it, and so is what they say that a member has left of its lot of tickets.
 pub fn own_turns_tell_holdings()
     ensures members { (boxes : ℕ) (past : List Turn) → Explained boxes past
         → (member spir : ℕ) (c : Counter)
@@ -47,6 +49,9 @@ pub fn own_turns_tell_holdings()
     ensures peer { (boxes : ℕ) (past : List Turn) → Explained boxes past → (name : CounterName)
         → told_theirs name (own Peer past)
         ≡ holding_at (Theirs name) (acts_of past) (End Peer) }
+    ensures tickets { (boxes : ℕ) (past : List Turn) → Explained boxes past → (member : ℕ)
+        → numbers_by (own (Member member) past)
+        ≡ left_of_lot (holding_at (Pooled pools.Ticket) (acts_of past) (End (Member member))) }
 {}
 
 /// What the turns of a run make of what its ends hold, each end's own turns tell.
@@ -70,7 +75,8 @@ pub fn all_is_owned()
 /// The numbers of a counter that the laws speak of are exactly those that the lists of the trace
 /// have: the numbers that were drawn, those of accepted packets, the Message IDs of requests that
 /// were asked and taken, and the IVs of seals. Of a counter that members send by they are those from
-/// which the next number is told, and of the requests that members answer, those that turns take.
+/// which the next number is told, of the requests that members answer, those that turns take, and of
+/// tickets those that the verdicts tell.
 pub fn uses_are_told()
     ensures listed { (past : List Turn) (p : Place)
         → numbers_at p (acts_of past) ≡ flat_map (listed_at p) past }
@@ -80,10 +86,14 @@ pub fn uses_are_told()
     ensures taken { (boxes : ℕ) (past : List Turn) → Explained boxes past → (spir : ℕ)
         → numbers_at (Ours spir counter.Answer) (acts_of past)
         ≡ filter_map (λ turn. request_at (Ours spir counter.Answer) (taken_in turn)) past }
+    ensures tickets { (boxes : ℕ) (past : List Turn) → Explained boxes past
+        → numbers_at (Pooled pools.Ticket) (acts_of past)
+        ≡ filter_map (λ turn. ticket_number turn.step.verdict) past }
 {}
 
 /// No number of a counter is used twice, by whatever ends: of no counter of the cluster or the
-/// peer, and in particular of no counter that events of members used.
+/// peer, and in particular of no counter that events of members used. No two tickets have one number,
+/// whichever members issued them.
 pub fn no_number_twice()
     ensures places { (boxes : ℕ) (past : List Turn) (book : Book) → Explained boxes past
         → Stands past book
@@ -91,6 +101,8 @@ pub fn no_number_twice()
     ensures counters { (boxes : ℕ) (past : List Turn) (book : Book) → Explained boxes past
         → Stands past book
         → (spir : ℕ) (c : Counter) → IsEachOnce (filter_map (number_of spir c) past) }
+    ensures tickets { (boxes : ℕ) (past : List Turn) (book : Book) → Explained boxes past
+        → Stands past book → IsEachOnce (filter_map (λ turn. ticket_number turn.step.verdict) past) }
 {}
 
 /// No number reaches its counter's end, as the record of what was held gives it, whatever the
@@ -121,6 +133,23 @@ pub fn holdings_are_apart()
         → (m k spir : ℕ) (h g : Held) → held_by (window_by past) (own (Member m) past) spir ≡ Some h
         → held_by (window_by past) (own (Member k) past) spir ≡ Some g
         → h.epoch < g.epoch → (c : Counter) → five_at h.highs c ≤ five_at g.bases c }
+{}
+
+/// What members have left of the ranges of tickets that they leased, those that ended too, are numbers
+/// that were leased. No two members have one of them left, and no ticket has it.
+pub fn lots_left_are_apart()
+    ensures leased { (boxes : ℕ) (past : List Turn) (book : Book) → Explained boxes past
+        → Stands past book
+        → (member n : ℕ) → IsLeftIn (numbers_by (own (Member member) past)) n
+        → n < pool_next pools.Ticket book }
+    ensures apart { (boxes : ℕ) (past : List Turn) (book : Book) → Explained boxes past
+        → Stands past book
+        → (m k n : ℕ) → IsLeftIn (numbers_by (own (Member m) past)) n
+        → IsLeftIn (numbers_by (own (Member k) past)) n → m ≡ k }
+    ensures unissued { (boxes : ℕ) (past : List Turn) (book : Book) → Explained boxes past
+        → Stands past book
+        → (member n : ℕ) → IsLeftIn (numbers_by (own (Member member) past)) n
+        → IsNotIn n (filter_map (λ turn. ticket_number turn.step.verdict) past) }
 {}
 
 /// With an honest book a cover that is answered `Replaced` is one of an earlier epoch than the
@@ -238,8 +267,9 @@ pub fn executed_for_the_named()
 {}
 
 /// A covered genuine packet that comes to an end that is up is accepted at first delivery, by a
-/// member where its number is acknowledged to it. Genuine are octets that open, whoever sealed
-/// them, and new is what no earlier turn accepted.
+/// member where its number is acknowledged to it, and by the peer where it did not close the
+/// association. Genuine are octets that open, whoever sealed them, and new is what no earlier turn
+/// accepted.
 pub fn genuine_are_accepted()
     ensures runs { (boxes : ℕ) (past : List Turn) → Explained boxes past → AreAccepted past }
     ensures members { (boxes : ℕ) (past : List Turn) (turn : Turn) → Explained boxes (turn ∷ past)

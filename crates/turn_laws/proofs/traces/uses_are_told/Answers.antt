@@ -1,5 +1,5 @@
 use Rattle.turn_laws.proofs.Listed.{numbers-listed}
-use Rattle.turn_laws.proofs.Numbers.{answered-numbers, sent-numbers}
+use Rattle.turn_laws.proofs.Numbers.{answered-numbers, sent-numbers, ticket-numbers}
 use Rattle.turn_laws.proofs.traces.uses_are_told.Goals as goal
 
 pub returns-clause-listed : goal.returns-clause-listed
@@ -10,3 +10,6 @@ returns-clause-sent c = sent-numbers
 
 pub returns-clause-taken : goal.returns-clause-taken
 returns-clause-taken c boxes past local spir = answered-numbers spir boxes past local
+
+pub returns-clause-tickets : goal.returns-clause-tickets
+returns-clause-tickets c = ticket-numbers
