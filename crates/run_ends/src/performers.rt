@@ -69,6 +69,7 @@ impl Parties {
     }
 }
 
+// what a member that is up does at an event of its own, by what it holds
 fn member_performs<K: Keeper>(
     alloc: Global,
     member: &mut Member,
@@ -107,6 +108,7 @@ fn member_performs<K: Keeper>(
     }
 }
 
+// and what the peer does
 fn peer_performs<K: Keeper>(
     alloc: Global,
     peer: &mut Peer,
