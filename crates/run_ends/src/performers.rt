@@ -1,6 +1,6 @@
 //! What an end does at an event that the run does not refuse.
 
-ghost use Rattle.std.specs.Prelude.{◌≡◌, ◌<◌, ◌≤◌, not, Some, None, true, [], IfOk, OnErr, length};
+ghost use Rattle.std.specs.Prelude.{◌≡◌, ◌<◌, not, Some, None, true, IfOk, OnErr};
 ghost use Rattle.std.specs.List.{AllByRecursion};
 ghost use Rattle.cluster_member.specs.Members.{AsksInVain};
 ghost use Rattle.cluster_peer.specs.Slots.{IsPeerAfter};
