@@ -55,10 +55,10 @@ fn play_lines<S: Source, O: Sink, K: Keeper>(
         (streams_told S.Source O.Sink source.old out.old errors)
         (streams_told S.Source O.Sink source.new out.new now_errors) result }
 {
-    let mut lines = EventLines::new(alloc)?;
+    let mut reader = EventLines::new(alloc)?;
     put_head(alloc, out)?;
     'lines: loop {
-        match lines.next_line(alloc, source) {
+        match reader.next_line(alloc, source) {
             Ok(Line::End) => return put_end(alloc, world.turns(), None, out),
             Ok(Line::Passed) => {}
             Ok(Line::Said(moment, event)) => {

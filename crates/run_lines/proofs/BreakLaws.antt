@@ -21,7 +21,7 @@ use Rattle.input_lines.specs.Lines.{with_line_feeds}
 use Rattle.input_lines.specs.declared.fault.InputFault.{InputFault}
 use Rattle.report_text.specs.Report.{report, report_head, turns_text}
 use Rattle.word_text.specs.Ends.{end_line}
-use Rattle.run_lines.specs.Played.{IsBegun, IsPlayed, IsPlayedSoFar, playing, titles}
+use Rattle.run_lines.specs.Played.{AllButNewest, IsBegun, IsPlayed, IsPlayedSoFar, playing, titles}
 use Rattle.run_lines.specs.Writes.{Writes, newest_text}
 use Rattle.run_lines.proofs.ReadLaws.{AllTold, HaveTold, IsPlaying, head-newest, lines_told, nothing_follows, nothing_told, rest_told, turns_text-none}
 
@@ -34,14 +34,27 @@ more_front front text n = (length front + n, sym (take-append-add front text n))
 less_front : (front text : List ℕ) → IsFront front (front ++ text)
 less_front front text = (length front + 0, sym (take-append-add front text 0 ∙ append-nil front))
 
+before_newest : (past newest : List Turn) (turn : Turn) (more : List ℕ) → newest ≡ turn ∷ past → AllButNewest newest ((report_head ++ turns_text past) ++ more)
+before_newest past newest turn more is = subst (λ (p : List Turn). AllButNewest p ((report_head ++ turns_text past) ++ more)) (sym is) (less_front (report_head ++ turns_text past) more)
+
+-- the turns stand there
+all_but_newest : (past : List Turn) (more : List ℕ) → AllButNewest past ((report_head ++ turns_text past) ++ more)
+all_but_newest [] more = tt
+all_but_newest (turn ∷ past) more = subst (IsFront (report_head ++ turns_text past))
+    (sym (append_assoc (report_head ++ turns_text past) (newest_text (turn ∷ past)) more) ∙ ap (λ (t : List ℕ). t ++ more) (head-newest past (turn ∷ past) turn refl))
+    (less_front (report_head ++ turns_text past) (newest_text (turn ∷ past) ++ more))
+
+all_written : (past : List Turn) → AllButNewest past (report_head ++ turns_text past)
+all_written past = subst (AllButNewest past) (append-nil (report_head ++ turns_text past)) (all_but_newest past [])
+
 module _ (Holds Cut : List Turn → Type 0) (weaken : (trace : List Turn) → Holds trace → Cut trace) (old new : Outside) where
-  -- some octets are a front of the turns' text, or of the whole report, where no event is left
+  -- Some octets are a front of the turns' text, or of the whole report, where no event is left. No more than the newest turn is cut.
   abbrev Fronts : (past : List Turn) → Contents → List ℕ → Type 0
-  Fronts past rest output = IsFront output (report_head ++ turns_text past) ⊎ ((rest.events ≡ []) × IsFront output (report past))
+  Fronts past rest output = (IsFront output (report_head ++ turns_text past) ⊎ ((rest.events ≡ []) × IsFront output (report past))) × AllButNewest past output
 
   begun : (H : List Turn → Type 0) (past : List Turn) (t : HaveTold old.input.octets new.input.octets past) (output : List ℕ) → Fronts past t.rest output → H past
       → IsBounded t.input × IsBegun H (t.input ++ octets_told new.input.octets) output
-  begun H past t output front holds = (t.bounded, record { trace = past; rest = t.rest; events = t.events; front = front; holds = holds })
+  begun H past t output front holds = (t.bounded, record { trace = past; rest = t.rest; events = t.events; front = front.0; written = front.1; holds = holds })
 
   -- memory ran out
   pub memory_stops : (past : List Turn) (t : HaveTold old.input.octets new.input.octets past) (output : List ℕ) → Appends old.output.octets new.output.octets output → Fronts past t.rest output
@@ -63,19 +76,20 @@ module _ (Holds Cut : List Turn → Type 0) (weaken : (trace : List Turn) → Ho
 
   -- a text could not be written behind what stands there
   pub text_stops : (A : Type 0) (past : List Turn) (t : HaveTold old.input.octets new.input.octets past) (mid : Stream) (before text : List ℕ) (why : Stop) → Appends old.output.octets mid.octets before → NoneFailed old.output mid
-      → Writes {A = A} (Err why) text mid new.output → ((output : List ℕ) → IsFront output (before ++ text) → Fronts past t.rest output) → NoneFailed old.input new.input → Holds past → Streams (playing Holds Cut) old new (Err why)
+      → Writes {A = A} (Err why) text mid new.output → ((more : List ℕ) → IsFront (before ++ more) (before ++ text) → Fronts past t.rest (before ++ more)) → NoneFailed old.input new.input → Holds past → Streams (playing Holds Cut) old new (Err why)
   text_stops A past t mid before text stop.Memory wrote none same front reads holds =
-      memory_stops past t before (subst (λ (s : Stream). Appends old.output.octets s.octets before) (sym same) wrote) (front before (less_front before text)) reads
+      memory_stops past t (before ++ []) (subst (λ (s : Stream). Appends old.output.octets s.octets (before ++ [])) (sym same) (subst (Appends old.output.octets mid.octets) (sym (append-nil before)) wrote))
+      (front [] (more_front before text 0)) reads
       (ap (λ (s : Stream). s.faults) same ∙ none) (weaken past holds)
   text_stops A past t mid before text stop.ReadFault wrote none never front reads holds = absurd never
   text_stops A past t mid before text stop.WriteFault wrote none w front reads holds =
-      write_stops past t (before ++ take w.1.0 text) (Appends-trans old.output.octets mid.octets new.output.octets before (take w.1.0 text) wrote w.1.1) (front (before ++ take w.1.0 text) (more_front before text w.1.0)) reads
+      write_stops past t (before ++ take w.1.0 text) (Appends-trans old.output.octets mid.octets new.output.octets before (take w.1.0 text) wrote w.1.1) (front (take w.1.0 text) (more_front before text w.1.0)) reads
       (subst (λ (n : ℕ). Rose n new.output.faults) none w.0) holds
 
   -- nothing was read and nothing written, for want of memory
   pub nothing_stops : new.input ≡ old.input → new.output ≡ old.output → Cut [] → Streams (playing Holds Cut) old new (Err stop.Memory)
   nothing_stops input output cut =
-      memory_stops [] told [] (subst (λ (s : Stream). Appends old.output.octets s.octets []) (sym output) (Appends-nil old.output.octets)) (inl (0, refl)) (ap (λ (s : Stream). s.faults) input)
+      memory_stops [] told [] (subst (λ (s : Stream). Appends old.output.octets s.octets []) (sym output) (Appends-nil old.output.octets)) (inl (0, refl), tt) (ap (λ (s : Stream). s.faults) input)
       (ap (λ (s : Stream). s.faults) output) cut
     where
       told : HaveTold old.input.octets new.input.octets []
@@ -85,7 +99,7 @@ module _ (Holds Cut : List Turn → Type 0) (weaken : (trace : List Turn) → Ho
   pub head_stops : (A : Type 0) (why : Stop) → new.input ≡ old.input → Writes {A = A} (Err why) report_head old.output new.output → Holds [] → Streams (playing Holds Cut) old new (Err why)
   head_stops A why input w holds =
       text_stops A [] told old.output [] report_head why (Appends-nil old.output.octets) refl w
-      (λ output front. inl (subst (IsFront output) (sym (turns_text-none report_head)) front)) (ap (λ (s : Stream). s.faults) input) holds
+      (λ more front. (inl (subst (IsFront more) (sym (turns_text-none report_head)) front), tt)) (ap (λ (s : Stream). s.faults) input) holds
     where
       told : HaveTold old.input.octets new.input.octets []
       told = subst (λ (s : Stream). HaveTold old.input.octets s.octets []) (sym input) (nothing_told old.input.octets)
@@ -96,7 +110,7 @@ module _ (Holds Cut : List Turn → Type 0) (weaken : (trace : List Turn) → Ho
       → NoneFailed old.input new.input → Holds newest → Streams (playing Holds Cut) old new (Err why)
   turn_stops A reading past newest turn mid why h within more wrote none w reads holds =
       text_stops A newest (lines_told reading old.input.octets new.input.octets newest [] h within) mid (report_head ++ turns_text past) (newest_text newest) why wrote none w
-      (λ output front. inl (subst (IsFront output) (head-newest past newest turn more) front)) reads holds
+      (λ rest front. (inl (subst (IsFront ((report_head ++ turns_text past) ++ rest)) (head-newest past newest turn more) front), before_newest past newest turn rest more)) reads holds
 
   -- the last line was written, or could not be
   pub last_ends : (past : List Turn) (fault : Option InputFault) (turns : ℕ) (mid : Stream) (answer : Result (Option InputFault) Stop) → AllTold old.input.octets new.input.octets past fault → turns ≡ length past
@@ -111,7 +125,7 @@ module _ (Holds Cut : List Turn → Type 0) (weaken : (trace : List Turn) → Ho
     writes = (Appends-trans old.output.octets mid.octets new.output.octets (report_head ++ turns_text past) (end_line turns) wrote w.0, w.1 ∙ none);
   })
   last_ends past fault turns mid (Err why) t count wrote none w same reads holds =
-      text_stops (Option InputFault) past told mid (report_head ++ turns_text past) (end_line turns) why wrote none w (λ output front. inr (refl, subst (IsFront output) whole front)) reads holds
+      text_stops (Option InputFault) past told mid (report_head ++ turns_text past) (end_line turns) why wrote none w (λ more front. (inr (refl, subst (IsFront ((report_head ++ turns_text past) ++ more)) whole front), all_but_newest past more)) reads holds
     where
       whole : (report_head ++ turns_text past) ++ end_line turns ≡ report past
       whole = append_assoc report_head (turns_text past) (end_line turns) ∙ ap (λ (n : ℕ). report_head ++ (turns_text past ++ end_line n)) count
@@ -124,14 +138,14 @@ module _ (Holds Cut : List Turn → Type 0) (weaken : (trace : List Turn) → Ho
   pub unplayed_stops : (reading : Reading) (past : List Turn) (more : List (Moment × PlainEvent)) → HasRead reading old.input.octets new.input.octets (titles past ++ more) → reading.place.before ≤ INPUT_OCTETS
       → Appends old.output.octets new.output.octets (report_head ++ turns_text past) → NoneFailed old.output new.output → NoneFailed old.input new.input → Cut past → Streams (playing Holds Cut) old new (Err stop.Memory)
   unplayed_stops reading past more h within wrote writes reads cut =
-      memory_stops past (lines_told reading old.input.octets new.input.octets past more h within) (report_head ++ turns_text past) wrote (inl (all_front (report_head ++ turns_text past))) reads writes cut
+      memory_stops past (lines_told reading old.input.octets new.input.octets past more h within) (report_head ++ turns_text past) wrote (inl (all_front (report_head ++ turns_text past)), all_written past) reads writes cut
 
   -- memory ran out while a line was read
   pub line_stops : (reading : Reading) (mid : Stream) (past : List Turn) → IsPlaying reading old.input.octets mid.octets old.output.octets new.output.octets past → NoneFailed old.input mid → NoneFailed old.output new.output
       → StopsAt why_none.Memory reading mid.octets new.input.octets mid.faults new.input.faults → Cut past → Streams (playing Holds Cut) old new (Err stop.Memory)
   line_stops reading mid past p none writes s cut =
       memory_stops past (rest_told reading old.input.octets mid.octets new.input.octets past s.0.0 p.has_read s.1 s.0.1) (report_head ++ turns_text past) p.wrote
-      (inl (all_front (report_head ++ turns_text past))) (s.2 ∙ none) writes cut
+      (inl (all_front (report_head ++ turns_text past)), all_written past) (s.2 ∙ none) writes cut
 
   -- a read failed
   pub source_stops : (reading : Reading) (mid : Stream) (past : List Turn) → IsPlaying reading old.input.octets mid.octets old.output.octets new.output.octets past → NoneFailed old.input mid → NoneFailed old.output new.output
@@ -142,7 +156,7 @@ module _ (Holds Cut : List Turn → Type 0) (weaken : (trace : List Turn) → Ho
       input = told.input;
       output = output;
       read = told.consumed;
-      begins = (told.bounded, (begun Holds past told output (inl (all_front output)) holds).1, whole);
+      begins = (told.bounded, (begun Holds past told output (inl (all_front output), all_written past) holds).1, whole);
       wrote = p.wrote;
     },
     subst (λ (n : ℕ). Rose n new.input.faults) none s.2,
@@ -194,14 +208,14 @@ streams_as H C H' C' holds cuts old new worked streams = go worked streams
     }
     go (Err stop.Memory) b = (
       record { input = b.0.input; output = b.0.output; read = b.0.read;
-        begins = (b.0.begins.0, record { trace = b.0.begins.1.trace; rest = b.0.begins.1.rest; events = b.0.begins.1.events; front = b.0.begins.1.front; holds = cuts b.0.begins.1.trace b.0.begins.1.holds });
+        begins = (b.0.begins.0, record { trace = b.0.begins.1.trace; rest = b.0.begins.1.rest; events = b.0.begins.1.events; front = b.0.begins.1.front; written = b.0.begins.1.written; holds = cuts b.0.begins.1.trace b.0.begins.1.holds });
         wrote = b.0.wrote },
       b.1,
       b.2,
     )
     go (Err stop.WriteFault) b = (
       record { input = b.0.input; output = b.0.output; read = b.0.read;
-        begins = (b.0.begins.0, record { trace = b.0.begins.1.trace; rest = b.0.begins.1.rest; events = b.0.begins.1.events; front = b.0.begins.1.front; holds = holds b.0.begins.1.trace b.0.begins.1.holds });
+        begins = (b.0.begins.0, record { trace = b.0.begins.1.trace; rest = b.0.begins.1.rest; events = b.0.begins.1.events; front = b.0.begins.1.front; written = b.0.begins.1.written; holds = holds b.0.begins.1.trace b.0.begins.1.holds });
         wrote = b.0.wrote },
       b.1,
       b.2,
@@ -210,7 +224,7 @@ streams_as H C H' C' holds cuts old new worked streams = go worked streams
       record { input = b.0.input; output = b.0.output; read = b.0.read;
         begins = (
           b.0.begins.0,
-          record { trace = b.0.begins.1.trace; rest = b.0.begins.1.rest; events = b.0.begins.1.events; front = b.0.begins.1.front; holds = holds b.0.begins.1.trace b.0.begins.1.holds },
+          record { trace = b.0.begins.1.trace; rest = b.0.begins.1.rest; events = b.0.begins.1.events; front = b.0.begins.1.front; written = b.0.begins.1.written; holds = holds b.0.begins.1.trace b.0.begins.1.holds },
           record { lines = b.0.begins.2.lines; tail = b.0.begins.2.tail; parts = b.0.begins.2.parts; feedless = b.0.begins.2.feedless;
             works = so_far holds (with_line_feeds b.0.begins.2.lines) b.0.output b.0.begins.2.works },
         );
@@ -227,5 +241,6 @@ played_begins Holds Cut weaken input output fault p = record {
   rest = record { events = []; fault = Some fault };
   events = p.events ∙ (λ i. record { events = sym (append-nil (titles p.trace)) i; fault = Some fault });
   front = inr (refl, subst (λ (o : List ℕ). IsFront o (report p.trace)) (sym p.written) (all_front (report p.trace)));
+  written = subst (AllButNewest p.trace) (sym (p.written ∙ sym (append_assoc report_head (turns_text p.trace) (end_line (length p.trace))))) (all_but_newest p.trace (end_line (length p.trace)));
   holds = weaken p.trace p.holds;
 }

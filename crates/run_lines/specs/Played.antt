@@ -21,6 +21,11 @@ abbrev pub titles : List Turn → List (Moment × PlainEvent)
 titles [] = []
 titles (turn ∷ past) = titles past ++ title turn ∷ []
 
+-- the turns stand there, but maybe the newest
+abbrev pub AllButNewest : (trace : List Turn) → (output : List ℕ) → Type 0
+AllButNewest [] output = Unit {0}
+AllButNewest (turn ∷ past) output = IsFront (report_head ++ turns_text past) output
+
 module _ (Holds : List Turn → Type 0) where
   -- What an input was played as: the trace has one turn for each of its events up to its first
   -- fault, where it has one, and the text is the report of the trace.
@@ -32,13 +37,14 @@ module _ (Holds : List Turn → Type 0) where
 
   -- What a run wrote of an input that was played in part: the trace has one turn for each of its
   -- first events, and the output is a front of the text of these turns, or of the whole report,
-  -- where no event is left before the first fault or the end.
+  -- where no event is left before the first fault or the end. No more than the newest is cut.
   pub record IsBegun (input output : List ℕ) : Type 0 where
     pub trace : List Turn
     pub rest : Contents
     pub events : contents_of input ≡ behind_events (titles trace) rest
     pub front : IsFront output (report_head ++ turns_text trace)
         ⊎ ((rest.events ≡ []) × IsFront output (report trace))
+    pub written : AllButNewest trace output
     pub holds : Holds trace
 
   -- What a run wrote by the time that all these lines were played, of which none is at fault: the
