@@ -2,7 +2,6 @@
 use Rattle.std.proofs.Common.{◌≡◌, ℕ, ◌+◌, List, [], ◌∷◌, length, Option, Some, None, refl, ap, sym, ◌∙◌, length-append, add-one, arith}
 use Rattle.std.specs.Prelude.{option_to_list, slice_get, unwrap_or}
 use Rattle.std.specs.Option.{option_map}
-use Rattle.std.specs.List.{AllByRecursion}
 use Rattle.report_text.specs.Report.{datagrams_given, given_in, turn_text}
 use Rattle.events.specs.declared.turn.Datagram.{Datagram}
 use Rattle.events.specs.declared.turn.Turn.{Turn}

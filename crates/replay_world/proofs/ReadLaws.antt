@@ -1,13 +1,7 @@
 -- What was read of an input tells what the whole of it is shown as.
 use Rattle.ha_base.specs.declared.limits.TheConstants.{INPUT_OCTETS}
-use Rattle.std.specs.Io.KnownBytes.{IsAtEnd}
-use Rattle.std.proofs.Common.{◌≡◌, ◌<◌, ◌≤◌, ◌⊎◌, ℕ, List, ◌++◌, length, inl, inr, Option, None, ap, ◌∙◌, sym, append-nil, arith}
-use Rattle.call_ends.proofs.EndLaws.{closed_ends, is_read, streams}
-use Rattle.call_ends.specs.Closing.{Closes}
-use Rattle.call_ends.specs.Endings.{Ends}
-use Rattle.call_ends.specs.Jobs.{IsBounded, IsRead, by_lines}
-use Rattle.call_ends.specs.Outside.{ReadsAll, Stream, octets_told}
-use Rattle.call_ends.specs.declared.status.Status.{Status}
+use Rattle.std.proofs.Common.{◌≡◌, ◌≤◌, ℕ, List, ◌++◌, length, inl, inr, Option, None, ap, ◌∙◌, sym, append-nil, arith}
+use Rattle.call_ends.specs.Jobs.{IsRead}
 use Rattle.input_lines.specs.declared.fault.InputFault.{InputFault}
 use Rattle.replay_world.specs.Replays.{IsShown}
 use Rattle.show_messages.specs.Messages.{messages_of}
