@@ -13,12 +13,12 @@ ghost use Rattle.replay_world.specs.Worlds.{boxes_of};
 ghost use Rattle.turn_laws.specs.Serving.{KeepServices};
 
 use crate::world::World;
-use run_lines::{put_end, put_head, put_turn};
 use call_ends::Stop;
 use event_text::{EventLines, Line, TakeFault};
 use ha_base::{Service, Sink, Source};
 use input_lines::InputFault;
 use keeper_book::{Gate, Keeper};
+use run_lines::{put_end, put_head, put_turn};
 use std::alloc::Global;
 use turn_laws::{
     all_is_owned, all_synchronisations_catch_up, covers_are_caught_up, no_number_past_its_end,

@@ -120,8 +120,10 @@ module _ (Holds Cut : List Turn → Type 0) (weaken : (trace : List Turn) → Ho
     input = t.input;
     output = (report_head ++ turns_text past) ++ end_line turns;
     reads = (t.consumed, reads);
-    makes = (record { whole = t.whole; bounded = t.bounded },
-        record { trace = past; events = t.events; written = append_assoc report_head (turns_text past) (end_line turns) ∙ ap (λ (n : ℕ). report_head ++ (turns_text past ++ end_line n)) count; holds = holds });
+    makes = (
+      record { whole = t.whole; bounded = t.bounded },
+      record { trace = past; events = t.events; written = append_assoc report_head (turns_text past) (end_line turns) ∙ ap (λ (n : ℕ). report_head ++ (turns_text past ++ end_line n)) count; holds = holds },
+    );
     writes = (Appends-trans old.output.octets mid.octets new.output.octets (report_head ++ turns_text past) (end_line turns) wrote w.0, w.1 ∙ none);
   })
   last_ends past fault turns mid (Err why) t count wrote none w same reads holds =
@@ -131,8 +133,13 @@ module _ (Holds Cut : List Turn → Type 0) (weaken : (trace : List Turn) → Ho
       whole = append_assoc report_head (turns_text past) (end_line turns) ∙ ap (λ (n : ℕ). report_head ++ (turns_text past ++ end_line n)) count
 
       told : HaveTold old.input.octets new.input.octets past
-      told = record { input = t.input; consumed = t.consumed; bounded = t.bounded; rest = record { events = []; fault = fault };
-        events = t.events ∙ (λ i. record { events = sym (append-nil (titles past)) i; fault = fault }) }
+      told = record {
+        input = t.input;
+        consumed = t.consumed;
+        bounded = t.bounded;
+        rest = record { events = []; fault = fault };
+        events = t.events ∙ (λ i. record { events = sym (append-nil (titles past)) i; fault = fault });
+      }
 
   -- memory ran out before the turn of an event
   pub unplayed_stops : (reading : Reading) (past : List Turn) (more : List (Moment × PlainEvent)) → HasRead reading old.input.octets new.input.octets (titles past ++ more) → reading.place.before ≤ INPUT_OCTETS
@@ -170,7 +177,7 @@ module _ (Holds Cut : List Turn → Type 0) (weaken : (trace : List Turn) → Ho
       told = rest_told reading old.input.octets mid.octets new.input.octets past s.0.0 p.has_read s.1 s.0.1
 
       lines : (ls : List (List ℕ)) × (p.has_read.taken ≡ with_line_feeds ls)
-      lines = elim p.has_read.whole [ | inl fed ↦ (fed.1, fed.2) | inr ended ↦ absurd (let k : true ≡ false = sym ended.0 ∙ s.1 in cc) ]
+      lines = elim p.has_read.whole [ inl fed ↦ (fed.1, fed.2) | inr ended ↦ absurd (let k : true ≡ false = sym ended.0 ∙ s.1 in cc) ]
 
       works : IsPlayedSoFar Holds p.has_read.taken output
       works = record {
@@ -207,28 +214,45 @@ streams_as H C H' C' holds cuts old new worked streams = go worked streams
       writes = f.writes;
     }
     go (Err stop.Memory) b = (
-      record { input = b.0.input; output = b.0.output; read = b.0.read;
+      record {
+        input = b.0.input;
+        output = b.0.output;
+        read = b.0.read;
         begins = (b.0.begins.0, record { trace = b.0.begins.1.trace; rest = b.0.begins.1.rest; events = b.0.begins.1.events; front = b.0.begins.1.front; written = b.0.begins.1.written; holds = cuts b.0.begins.1.trace b.0.begins.1.holds });
-        wrote = b.0.wrote },
+        wrote = b.0.wrote;
+      },
       b.1,
       b.2,
     )
     go (Err stop.WriteFault) b = (
-      record { input = b.0.input; output = b.0.output; read = b.0.read;
+      record {
+        input = b.0.input;
+        output = b.0.output;
+        read = b.0.read;
         begins = (b.0.begins.0, record { trace = b.0.begins.1.trace; rest = b.0.begins.1.rest; events = b.0.begins.1.events; front = b.0.begins.1.front; written = b.0.begins.1.written; holds = holds b.0.begins.1.trace b.0.begins.1.holds });
-        wrote = b.0.wrote },
+        wrote = b.0.wrote;
+      },
       b.1,
       b.2,
     )
     go (Err stop.ReadFault) b = (
-      record { input = b.0.input; output = b.0.output; read = b.0.read;
+      record {
+        input = b.0.input;
+        output = b.0.output;
+        read = b.0.read;
         begins = (
           b.0.begins.0,
           record { trace = b.0.begins.1.trace; rest = b.0.begins.1.rest; events = b.0.begins.1.events; front = b.0.begins.1.front; written = b.0.begins.1.written; holds = holds b.0.begins.1.trace b.0.begins.1.holds },
-          record { lines = b.0.begins.2.lines; tail = b.0.begins.2.tail; parts = b.0.begins.2.parts; feedless = b.0.begins.2.feedless;
-            works = so_far holds (with_line_feeds b.0.begins.2.lines) b.0.output b.0.begins.2.works },
+          record {
+            lines = b.0.begins.2.lines;
+            tail = b.0.begins.2.tail;
+            parts = b.0.begins.2.parts;
+            feedless = b.0.begins.2.feedless;
+            works = so_far holds (with_line_feeds b.0.begins.2.lines) b.0.output b.0.begins.2.works;
+          },
         );
-        wrote = b.0.wrote },
+        wrote = b.0.wrote;
+      },
       b.1,
       b.2,
     )
