@@ -1,5 +1,5 @@
 mod AskedLaws
-mod FewEvents
+mod GoingLaws
 mod Joins
 mod ServedLaws
 mod OwnedLaws

@@ -3,9 +3,10 @@ use Rattle.std.specs.Prelude.{◌≡◌, ℕ, List, Option, Some, None}
 use Rattle.call_ends.specs.Endings.{Declines, Ends}
 use Rattle.call_ends.specs.Jobs.{Job, by_lines}
 use Rattle.call_ends.specs.Outside.{Outside}
+use Rattle.call_ends.specs.Streaming.{streaming}
 use Rattle.call_ends.specs.declared.status.Status.{Status}
 use Rattle.input_lines.specs.declared.fault.InputFault.{InputFault}
-use Rattle.replay_world.specs.Played.{Handed, IsPlayed}
+use Rattle.replay_world.specs.Handed.{Handed, running}
 use Rattle.replay_world.specs.declared.top.Command.{Command}
 use Rattle.replay_world.specs.declared.top.Command.TheVariants.{Run, Show}
 use Rattle.show_messages.specs.Messages.{messages_of}
@@ -19,7 +20,7 @@ pub record IsShown (input : List ℕ) (fault : Option InputFault) (text : List �
 
 -- what each command makes of its input
 abbrev pub job_of : Handed → Command → Job
-job_of run Run = by_lines (IsPlayed run)
+job_of run Run = streaming (running run)
 job_of run Show = by_lines IsShown
 
 -- how a call ends: its words ask for a command, or for none

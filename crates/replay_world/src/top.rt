@@ -6,13 +6,13 @@ ghost use Rattle.call_ends.specs.Endings.{Ends};
 ghost use Rattle.call_ends.specs.Jobs.{by_lines};
 ghost use Rattle.call_ends.specs.Outside.{outside};
 ghost use Rattle.replay_world.specs.Commands.{command_of, command_named};
-ghost use Rattle.replay_world.specs.Played.{handed};
+ghost use Rattle.replay_world.specs.Handed.{handed};
 ghost use Rattle.replay_world.specs.Replays.{IsShown, Replays, job_of};
 ghost use Rattle.replay_world.specs.declared.top.Command.TheVariants.{Run};
 
 use crate::play::play_file;
 pub use call_ends::Status;
-use call_ends::{complain, input_of, put_output};
+use call_ends::{complain, input_of, put_output, say_end};
 use ha_base::{Failed, Service, Sink, Source, write_all};
 use keeper_book::Keeper;
 use show_messages::show;
@@ -46,7 +46,7 @@ fn command_of(words: &Vec<String>) -> Option<Command>
     }
 }
 
-// Plays an event file and writes its report.
+// Plays an event file, line by line, and writes the report turn by turn.
 fn run_command<S: Source, O: Sink, D: Sink, K: Keeper>(
     alloc: Global,
     source: &mut S,
@@ -63,17 +63,10 @@ fn run_command<S: Source, O: Sink, D: Sink, K: Keeper>(
         (outside S.Source O.Sink D.Sink source.old out.old diag.old)
         (outside S.Source O.Sink D.Sink source.new out.new diag.new) result }
     ensures quiet { result ≡ Status.Done → diag.new ≡ diag.old }
-    ensures unplayed { result ≡ Status.ReadFault → keeper.new ≡ keeper.old }
     ensures held { K.held keeper.new ≡ K.held keeper.old }
 {
-    let input = match input_of(alloc, source, diag) {
-        Ok(input) => input,
-        Err(status) => return status,
-    };
-    let Ok(played) = play_file(alloc, &input, keeper, peer_service, services) else {
-        return complain(diag, b"ha: want of memory\n", Status::Memory);
-    };
-    put_output(alloc, out, diag, &played.report, played.fault)
+    let played = play_file(alloc, source, out, keeper, peer_service, services);
+    say_end(alloc, diag, played)
 }
 
 // Reads messages and writes their text.
@@ -118,7 +111,6 @@ pub fn replay<S: Source, O: Sink, D: Sink, K: Keeper>(
         (outside S.Source O.Sink D.Sink source.old out.old diag.old)
         (outside S.Source O.Sink D.Sink source.new out.new diag.new) result }
     ensures quiet { result ≡ Status.Done → diag.new ≡ diag.old }
-    ensures unplayed { result ≡ Status.ReadFault → keeper.new ≡ keeper.old }
     ensures unasked { command_of words.now.items ≢ Some Run → keeper.new ≡ keeper.old }
     ensures held { K.held keeper.new ≡ K.held keeper.old }
 {

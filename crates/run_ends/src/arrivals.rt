@@ -66,7 +66,7 @@ impl Arrival {
     }
 }
 
-/// What an event delivers. An error is want of memory.
+/// What an event delivers that the run does not refuse. An error is want of memory.
 pub(crate) fn arriving(alloc: Global, trace: &Trace, event: &Event) -> Result<Arrival, Memory>
     requires { refused_arrival (arrives (datagrams_of trace.now.past) event.now) ≡ None }
     ensures { IfOk result
@@ -80,12 +80,12 @@ pub(crate) fn arriving(alloc: Global, trace: &Trace, event: &Event) -> Result<Ar
             octet,
             ..
         } => {
-            let given = given(alloc, trace, *which)?;
-            return Ok(given.altered(*place as usize, *octet));
+            let arrival = given(alloc, trace, *which)?;
+            return Ok(arrival.altered(*place as usize, *octet));
         }
         Event::Cut { which, keep, .. } => {
-            let given = given(alloc, trace, *which)?;
-            return Ok(given.cut(*keep as usize));
+            let arrival = given(alloc, trace, *which)?;
+            return Ok(arrival.cut(*keep as usize));
         }
         Event::Inject { medium, octets, .. } => return copied(alloc, *medium, octets.as_slice()),
         _ => unreachable!(),

@@ -1,6 +1,6 @@
 //! What an end does at an event that the run does not refuse.
 
-ghost use Rattle.std.specs.Prelude.{◌≡◌, ◌<◌, ◌≤◌, not, Some, None, true, [], IfOk, OnErr, length};
+ghost use Rattle.std.specs.Prelude.{◌≡◌, ◌<◌, not, Some, None, true, IfOk, OnErr};
 ghost use Rattle.std.specs.List.{AllByRecursion};
 ghost use Rattle.cluster_member.specs.Members.{AsksInVain};
 ghost use Rattle.cluster_peer.specs.Slots.{IsPeerAfter};
@@ -72,6 +72,7 @@ impl Parties {
     }
 }
 
+// what a member that is up does at an event of its own, by what it holds
 fn member_performs<K: Keeper>(
     alloc: Global,
     member: &mut Member,
@@ -112,6 +113,7 @@ fn member_performs<K: Keeper>(
     }
 }
 
+// and what the peer does
 fn peer_performs<K: Keeper>(
     alloc: Global,
     peer: &mut Peer,

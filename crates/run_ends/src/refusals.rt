@@ -1,10 +1,10 @@
 //! Why the run itself refuses an event, before any end sees it.
 
-ghost use Rattle.std.specs.Prelude.{◌≡◌, [], None, length, nat_le, nat_lt, ◌||◌};
+ghost use Rattle.std.specs.Prelude.{◌≡◌, [], None};
 ghost use Rattle.turn_rules.specs.Datagrams.{datagram_at, datagrams_of};
-ghost use Rattle.turn_rules.specs.Fits.{MAX_MEMBERS, is_importable, is_of_datagrams, member_of, named_in};
+ghost use Rattle.turn_rules.specs.Fits.{is_importable, is_of_datagrams, member_of, named_in};
 ghost use Rattle.turn_rules.specs.Fits.{refused_absent, refused_besides, refused_where, run_refusal};
-ghost use Rattle.run_ends.specs.Parties.{has_member, state_of};
+ghost use Rattle.run_ends.specs.Parties.{state_of};
 ghost use Rattle.run_ends.specs.Refusals.{refused_short};
 
 use crate::parties::Parties;

@@ -1,32 +1,29 @@
 -- What was asked through the reference was asked of the keeper that is lent.
-use Rattle.std.proofs.Common.{Result, Ok, Err, rules}
-use Rattle.std.specs.Result.{IfOk}
+use Rattle.std.proofs.Common.{◌≡◌, refl, sym, ap, subst, ◌∙◌, rules}
+use Rattle.run_ends.specs.Asked.{AsksAsSeen}
 use Rattle.turn_rules.specs.Local.{calls_of}
 use Rattle.replay_world.proofs.AskedLaws.{seen-lent}
+use Rattle.replay_world.proofs.GoingLaws.{streams-then, trace-as}
+use Rattle.replay_world.specs.Handed.{handed}
 use Rattle.replay_world.proofs.play.play_file.Goals as goal
 
-if_ok-as : {T E : Type 0} {P Q : T → Type 0} (result : Result T E) → ((value : T) → P value → Q value) → IfOk result P → IfOk result Q
-if_ok-as (Ok value) f p = f value p
-if_ok-as (Err why) f p = tt
-
-pub returns-clause-played : goal.returns-clause-played
-returns-clause-played g c = if_ok-as c.play_run-played.result (λ played p.
-    let seen = seen-lent g.K.Keeper c.new-gate.result.keeper c.play_run-played.new.keeper.keeper (calls_of p.trace) p.asks.made p.asks.seen_as p.asks.asked in
-    record {
-      trace = p.trace;
-      events = search rules;
-      written = p.written;
-      local = p.local;
-      own_turns = p.own_turns;
-      below_ends = p.below_ends;
-      synchronised = p.synchronised;
-      covers = p.covers;
-      serves = p.serves;
-      asks = search rules;
-      stands = search rules;
-      owned = search rules;
-      safe = search rules;
-      replaced_later = search rules;
-      catch_up = search rules;
-      caused = search rules;
-    }) c.play_run-played.ensures.played
+pub returns-clause-streams : goal.returns-clause-streams
+returns-clause-streams g c errors now_errors =
+    let keeper = g.K.Keeper in
+    let old = c.new-gate.result.keeper in
+    let new = c.play_run-played.new.keeper.keeper in
+    let was : old.now ≡ c.args.keeper.now = search rules in
+    let is : new.now ≡ c.keeper-1.given.0 = search rules in
+    let run = handed keeper c.args.keeper.now c.keeper-1.given.0 (λ z. (g.dyn-1.0.entry z.vtable).1.gives z.value) c.args.peer_service c.args.services in
+    streams-then _ _ _ _ _ _ c.play_run-played.result (c.play_run-played.ensures.streams errors now_errors)
+    (λ trace t. trace-as _ run new c.keeper-1.given.0 trace refl (λ s. s)
+    (λ a. subst (λ k. AsksAsSeen keeper k (calls_of trace) c.keeper-1.given.0) was (subst (λ k. AsksAsSeen keeper old.now (calls_of trace) k) is
+    (seen-lent keeper old new (calls_of trace) a.made a.seen_as a.asked)))
+    (ap keeper.book was) (ap keeper.book is) (ap keeper.faults was) (ap keeper.faults is) t)
+    (λ trace t. record {
+      asked_last = t.asked_last.now;
+      same_book = sym (ap keeper.book is) ∙ t.same_book;
+      is_trace = trace-as _ run t.asked_last t.asked_last.now trace refl (λ s. s)
+          (λ a. subst (λ k. AsksAsSeen keeper k (calls_of trace) t.asked_last.now) was (seen-lent keeper old t.asked_last (calls_of trace) a.made a.seen_as a.asked))
+          (ap keeper.book was) refl (ap keeper.faults was) refl t.is_trace;
+    })

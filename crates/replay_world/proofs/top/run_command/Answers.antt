@@ -1,26 +1,16 @@
 -- Each way out is a row of the table.
-use Rattle.call_ends.proofs.EndLaws.{unmade_ends, unread_ends}
-use Rattle.call_ends.specs.Outside.{sink_told, source_told}
-use Rattle.replay_world.specs.Played.{IsPlayed}
-use Rattle.replay_world.proofs.ReadLaws.{run_closes}
+use Rattle.call_ends.proofs.StreamLaws.{stream_ends}
+use Rattle.call_ends.specs.Outside.{outside, sink_told}
+use Rattle.run_lines.proofs.BreakLaws.{played_begins}
+use Rattle.replay_world.proofs.GoingLaws.{trace-cut}
+use Rattle.replay_world.specs.Handed.{IsTrace, IsTraceCut, handed, running}
 use Rattle.replay_world.proofs.top.run_command.Goals as goal
-
-pub returns-in-Err-clause-ends : goal.returns-in-Err-clause-ends
-returns-in-Err-clause-ends g c =
-    unread_ends (IsPlayed _) (source_told g.S.Source c.args.source.now) (source_told g.S.Source c.input_of.new.source)
-    (sink_told g.O.Sink c.args.out.now) (sink_told g.O.Sink c.args.out.now) (sink_told g.D.Sink c.args.diag.now) (sink_told g.D.Sink c.input_of.new.diag)
-    c.in-Err.status c.in-Err.ensures.unread
-
-pub returns-in_default-clause-ends : goal.returns-in_default-clause-ends
-returns-in_default-clause-ends g c =
-    rw c.complain.ensures.status (unmade_ends (IsPlayed _) (source_told g.S.Source c.args.source.now) (source_told g.S.Source c.input_of.new.source)
-    (sink_told g.O.Sink c.args.out.now) (sink_told g.O.Sink c.args.out.now) (sink_told g.D.Sink c.args.diag.now) (sink_told g.D.Sink c.complain.new.diag)
-    c.in-Ok.input.octets c.in-Ok.ensures.reads c.in-Ok.ensures.bounded (rw c.in-Ok.ensures.quiet at c.complain.ensures.says))
 
 pub returns-clause-ends : goal.returns-clause-ends
 returns-clause-ends g c =
-    let read = c.in-Ok.ensures in
-    run_closes (source_told g.S.Source c.args.source.now) (source_told g.S.Source c.input_of.new.source)
-    (sink_told g.O.Sink c.args.out.now) (sink_told g.O.Sink c.put_output.new.out) (sink_told g.D.Sink c.args.diag.now) (sink_told g.D.Sink c.put_output.new.diag)
-    c.in-Ok.input.octets c.in-Ok-play_file.played.report.octets c.in-Ok-play_file.played.fault read.reads read.whole read.bounded c.in-Ok-play_file.ensures.played
-    c.put_output.result (rw read.quiet at c.put_output.ensures.closes)
+    let run = handed g.K.Keeper c.args.keeper.now c.play_file-played.new.keeper _ c.args.peer_service c.args.services in
+    stream_ends (running run) (λ input output fault. played_begins (IsTrace run run.now) (IsTraceCut run) (trace-cut run) input output fault)
+    (outside g.S.Source g.O.Sink g.D.Sink c.args.source.now c.args.out.now c.args.diag.now) (outside g.S.Source g.O.Sink g.D.Sink c.play_file-played.new.source c.play_file-played.new.out c.say_end.new.diag)
+    c.play_file-played.result
+    (c.play_file-played.ensures.streams (sink_told g.D.Sink c.args.diag.now) (sink_told g.D.Sink c.say_end.new.diag))
+    c.say_end.result c.say_end.ensures.says
