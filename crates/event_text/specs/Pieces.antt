@@ -3,7 +3,7 @@ use Rattle.std.specs.Prelude.{◌≡◌, ◌≢◌, ℕ, ◌+◌, ◌<◌, ◌�
 use Rattle.std.specs.List.{list_all}
 use Rattle.std.specs.Io.KnownBytes.{Consumes, IsAtEnd}
 use Rattle.ha_base.specs.Faults.{Rose}
-use Rattle.ha_base.specs.declared.limits.TheConstants.{INPUT_OCTETS, PIECE_OCTETS}
+use Rattle.ha_base.specs.declared.limits.TheConstants.{INPUT_OCTETS, NUMBER_END, PIECE_OCTETS}
 use Rattle.ha_base.specs.declared.outside.Moment.{Moment}
 use Rattle.events.specs.Events.{PlainEvent, plain}
 use Rattle.events.specs.Ranges.{Fits}
@@ -56,6 +56,12 @@ event_of line.End = None
 event_of line.Passed = None
 event_of (line.Said now event) = Some (now, plain event)
 
+-- its moment lies in the range of moments
+abbrev pub moment_in : Line → Type 0
+moment_in (line.Said now event) = now.0 < NUMBER_END
+moment_in other = Unit {0}
+
+-- and its fields in theirs
 abbrev pub fits_in : Line → Type 0
 fits_in (line.Said now event) = Fits (plain event)
 fits_in other = Unit {0}

@@ -1,12 +1,12 @@
 //! An event file that is read in pieces, line by line.
 
-ghost use Rattle.ha_base.specs.declared.limits.TheConstants.{INPUT_OCTETS, LINE_OCTETS};
+ghost use Rattle.ha_base.specs.declared.limits.TheConstants.{INPUT_OCTETS, LINE_OCTETS, NUMBER_END};
 ghost use Rattle.std.specs.Prelude.{◌≡◌, ◌≢◌, ◌≤◌, ◌+◌, ◌<◌, [], length, false, IfErr, IfOk, IfSome, OnErr, OnOk, OnSome, MatchResult, Some, Ok, Err};
 ghost use Rattle.events.specs.Events.{plain};
 ghost use Rattle.events.specs.Ranges.{Fits};
 ghost use Rattle.event_text.specs.Input.{events_counted, moment_behind, plain_event_of};
 ghost use Rattle.event_text.specs.InMemory.{FailsInLine};
-ghost use Rattle.event_text.specs.Pieces.{FailsAt, IsFresh, IsNew, Takes, event_from, event_of, fits_in};
+ghost use Rattle.event_text.specs.Pieces.{FailsAt, IsFresh, IsNew, Takes, event_from, event_of, fits_in, moment_in};
 ghost use Rattle.event_text.specs.declared.lines.Line.TheVariants as taken;
 ghost use Rattle.event_text.specs.declared.input.TheConstants.{MAX_EVENTS};
 
@@ -44,6 +44,7 @@ fn event_from(
         ≡ Ok (plain_event_of event))
         (λ e. FailsInLine e (event_from number count last line.now)) }
     ensures few { IfOk result (λ event. OnSome event (count ≢ MAX_EVENTS)) }
+    ensures moment { IfOk result (λ event. IfSome event (λ x. x.0.0 < NUMBER_END)) }
     ensures fits { IfOk result (λ event. IfSome event (λ x. Fits (plain x.1))) }
 {
     if number == 1 {
@@ -84,6 +85,7 @@ fn count_line(alloc: Global, counted: &mut Counted, text: &[u8]) -> Result<Line,
     ensures value { IfOk result (λ said. event_from counted.old.line counted.old.count
         counted.old.last text.now ≡ Ok (event_of said)) }
     ensures some { IfOk result (λ said. said ≢ taken.End) }
+    ensures moment { IfOk result moment_in }
     ensures fits { IfOk result fits_in }
     ensures line { OnOk result (counted.new.line ≡ counted.old.line + 1) }
     ensures count { IfOk result (λ said. counted.new.count
@@ -164,6 +166,7 @@ impl EventLines {
         requires first { IsFresh self.old }
         ensures takes { Takes result self.old self.new (S.left source.old) (S.left source.new)
             (S.faults source.old) (S.faults source.new) }
+        ensures moment { IfOk result moment_in }
         ensures fits { IfOk result fits_in }
     {
         let fault = match self.lines.take(source) {

@@ -16,8 +16,9 @@ use Rattle.events.specs.declared.verdict.Verdict.TheVariants as out
 use Rattle.ha_base.specs.declared.outside.Moment.{Moment}
 use Rattle.keeper_book.specs.declared.calls.Call.{Call}
 use Rattle.keeper_book.specs.declared.records.Record.{Record}
-use Rattle.run_ends.proofs.Asking.{asks-proper, peer_asks-proper}
+use Rattle.run_ends.proofs.Asking.{asks-proper, peer_asks-proper, peer_forgets-proper}
 use Rattle.run_ends.proofs.Bounds.{fits_ask, fits_send}
+use Rattle.run_ends.proofs.MessageBounds.{request-few, ticket_request-few}
 use Rattle.run_ends.proofs.Performing.{member_gets-said, peer_gets-said}
 use Rattle.run_ends.proofs.Syncing.{syncs-proper}
 use Rattle.run_ends.proofs.Verdicts.{draws-proper, enters-proper, peer_sends-proper, sends-proper, takes-proper}
@@ -32,11 +33,12 @@ use Rattle.turn_rules.specs.Local.{Local}
 use Rattle.turn_rules.specs.MemberMessages.{ResendsOf, held_ike}
 use Rattle.turn_rules.specs.Messages.{GivesAgain, Resends}
 use Rattle.turn_rules.specs.PeerMessages.{slot_ike}
-use Rattle.turn_rules.specs.Peers.{admits}
-use Rattle.turn_rules.specs.Slots.{Slot, first_slot, has_spir, records}
+use Rattle.turn_rules.specs.Slots.{Slot, admits, first_slot, has_spir}
 use Rattle.turn_rules.specs.States.{RunState, is_join, joins, told_state}
 use Rattle.turn_rules.specs.Steps.{Says}
+use Rattle.ike_sas.specs.Answers.{request_payloads}
 use Rattle.ike_sas.specs.Held.{IkeHeld}
+use Rattle.ike_sas.specs.TicketMessages.{ticket_request_payloads}
 use Rattle.ike_window.specs.Kept.{kept_octets}
 
 module _ (state : RunState) (moment : Moment) (calls : List Call) (step : Step) where
@@ -53,7 +55,7 @@ module _ (state : RunState) (moment : Moment) (calls : List Call) (step : Step) 
   receives-none : (to : Party) (found : Result PlainDatagram Refusal) → Receives state moment to found calls step → NoJoin
   receives-none to (Err why) r = absurd r
   receives-none parties.Peer (Ok datagram) r = (peer_gets-said datagram.medium state.peer.slots datagram.octets calls step r).no_join
-  receives-none (parties.Member member) (Ok datagram) r = (member_gets-said datagram.medium (fresh_octets (state.members member).given) (state.members member).held datagram.octets calls step r).no_join
+  receives-none (parties.Member member) (Ok datagram) r = (member_gets-said datagram.medium (state.members member) moment datagram.octets calls step r).no_join
 
   resends-none : (held : IkeHeld) (id : ℕ) → Resends id held step → NoJoin
   resends-none held id = go (kept_octets id held.asked)
@@ -80,7 +82,7 @@ module _ (state : RunState) (moment : Moment) (calls : List Call) (step : Step) 
   -- a member joins where there is a service for it, and at no other event
   performs-joins : (at : Event) → Fits (plain at) → run_refusal state at ≡ None → Performs state moment at calls step → is_join step.verdict ≡ true → state.joined < state.boxes
   performs-joins (event.Cluster identity lifetime window ticket_key) fits free p = never (ap is_join p.says.said)
-  performs-joins (event.Import sa) fits free p = never (imports-none sa (not (admits (records state.peer.slots) sa)) p)
+  performs-joins (event.Import sa) fits free p = never (imports-none sa (not (admits state.peer.slots sa)) p)
   performs-joins (event.Join fresh) fits free p = λ join.
       leb-false state.boxes state.joined (or_parts (nat_le MAX_MEMBERS state.joined) (nat_le state.boxes state.joined) (room (nat_le MAX_MEMBERS state.joined || nat_le state.boxes state.joined) free)).1
   performs-joins (event.Own member spir) fits free p = never (takes-proper spir member calls step p).said.no_join
@@ -91,13 +93,15 @@ module _ (state : RunState) (moment : Moment) (calls : List Call) (step : Step) 
   performs-joins (event.Send (parties.Member member) spir payload) fits free p =
       never (sends-proper ((state.members member).held spir) payload.octets calls step (fits_send (parties.Member member) spir payload fits) p).said.no_join
   performs-joins (event.Ask parties.Peer spir request) fits free p =
-      never (peer_asks-proper spir state.peer.slots request.octets step (fits_ask parties.Peer spir request fits) p.1).said.no_join
+      never (peer_asks-proper spir state.peer.slots (request_payloads request.octets) step (request-few request.octets (fits_ask parties.Peer spir request fits)) p.1).said.no_join
   performs-joins (event.Ask (parties.Member member) spir request) fits free p =
-      never (asks-proper ((state.members member).held spir) request.octets calls step (fits_ask (parties.Member member) spir request fits) p).said.no_join
+      never (asks-proper ((state.members member).held spir) (request_payloads request.octets) calls step (request-few request.octets (fits_ask (parties.Member member) spir request fits)) p).said.no_join
   performs-joins (event.Again parties.Peer spir id) fits free p = never (peer-resends-none (first_slot (has_spir spir) state.peer.slots) id p.1)
   performs-joins (event.Again (parties.Member member) spir id) fits free p = never (member-resends-none ((state.members member).held spir) id p)
   performs-joins (event.Sync member spir) fits free p =
       never (syncs-proper (fresh_octets (state.members member).given) ((state.members member).held spir) calls step p).said.no_join
+  performs-joins (event.Ticket spir) fits free p = never (peer_asks-proper spir state.peer.slots ticket_request_payloads step ticket_request-few p.1).said.no_join
+  performs-joins (event.Forget spir) fits free p = never (peer_forgets-proper spir state.peer.slots step p.1).said.no_join
   performs-joins (event.Deliver which to) fits free p = never (receives-none to (arrives state.datagrams (event.Deliver which to)) p)
   performs-joins (event.Alter which to place octet) fits free p = never (receives-none to (arrives state.datagrams (event.Alter which to place octet)) p)
   performs-joins (event.Cut which to keep) fits free p = never (receives-none to (arrives state.datagrams (event.Cut which to keep)) p)

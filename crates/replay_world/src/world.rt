@@ -3,6 +3,7 @@ ghost use Rattle.std.specs.Option.{option_copied};
 ghost use Rattle.events.specs.Events.{plain};
 ghost use Rattle.events.specs.Ranges.{Fits};
 ghost use Rattle.keeper_book.specs.Gates.{told_calls};
+ghost use Rattle.ha_base.specs.declared.limits.TheConstants.{NUMBER_END};
 ghost use Rattle.ha_base.specs.declared.services.TheConstants.{MOST_REQUESTS};
 ghost use Rattle.run_ends.specs.Asked.{AsksAsSeen, newest_calls};
 ghost use Rattle.run_ends.specs.Runs.{CausedSince, Grows, LackMemory, StandsTold, served_last};
@@ -63,7 +64,7 @@ impl World {
         })
     }
 
-    /// Plays an event at a moment, one that a line spells: the ends act, and one turn is appended
+    /// Plays an event at a moment, both such as a line spells: the ends act, and one turn is appended
     /// to the trace. The service of the end that acts executes what the turn says, each other one
     /// is as it was, and a member that ends drops its own. An error is want of memory; the run and
     /// the keeper's book are then as they were, and the keeper was asked only where it lacked the
@@ -79,6 +80,7 @@ impl World {
         event: Event,
     ) -> Result<(), Memory>
         requires told { told_calls keeper.old ≡ Some [] }
+        requires moment { now.0 < NUMBER_END }
         requires fits { Fits (plain event) }
         requires few { length (run_of self.old).past < MOST_REQUESTS }
         requires kept { KeepServices count (run_of self.old).boxes (run_of self.old).past
@@ -141,6 +143,7 @@ impl World {
         event: Event,
     ) -> Result<(), Memory>
         requires told { told_calls keeper.old ≡ Some [] }
+        requires moment { now.0 < NUMBER_END }
         requires fits { Fits (plain event) }
         requires few { length (run_of self.old).past < MOST_REQUESTS }
         requires kept { KeepServices count (run_of self.old).boxes (run_of self.old).past
