@@ -14,7 +14,6 @@ use Rattle.ha_base.specs.declared.counter_names.CounterName.{CounterName}
 use Rattle.ha_base.specs.declared.counter_names.End.TheVariants as end
 use Rattle.ha_base.specs.declared.outside.Moment.{Moment}
 use Rattle.ike_sas.specs.Answers.{error_of}
-use Rattle.ike_sas.specs.Errors.{first_error}
 use Rattle.ike_sas.specs.declared.answers.RequestError.{RequestError}
 use Rattle.ike_values.specs.Values.{PayloadValue}
 use Rattle.ike_values.specs.declared.fault.Bad.{Bad}

@@ -17,8 +17,8 @@ ghost use Rattle.ha_base.specs.declared.limits.TheConstants.{DATAGRAM_OCTETS, PA
 ghost use Rattle.ha_base.specs.declared.outside.Moment.{Moment};
 ghost use Rattle.ha_base.specs.declared.services.TheConstants.{MOST_REQUESTS};
 
-use crate::names::{ike_keys, name_at};
 use crate::kept_tickets::{Ticket, given_ticket};
+use crate::names::{ike_keys, name_at};
 use esp_sas::{InboundSa, OutboundSa, Room};
 use events::{EspVerdict, Refusal, Step, Verdict};
 use ha_base::{End, Memory, Moment, Service};
