@@ -15,7 +15,7 @@ use Rattle.request_exchange.proofs.Arrivals.{fitting}
 use Rattle.request_exchange.specs.Given.{IsFitting}
 use Rattle.sk_payload.specs.declared.open.Opened.{Opened}
 use Rattle.turn_rules.specs.Messages.{TakesArrival, TakesInner}
-use Rattle.turn_rules.specs.PeerMessages.{SlotSynchronises, has_spis, peer_listener, slot_ike}
+use Rattle.turn_rules.specs.PeerMessages.{KeepsTicket, SlotSynchronises, has_spis, peer_listener, slot_ike}
 use Rattle.turn_rules.specs.Slots.{Slot, first_slot, peer_counter}
 use Rattle.cluster_peer.specs.Messages.{IsThere, slot_for}
 
@@ -53,9 +53,9 @@ module _ (slots : List Slot) where
 -- ---- responses
 
 pub response-takes : (slots : List Slot) (slot : Slot) (response : Opened) (step : Step) → slot_for slots response ≡ Some slot
-    → TakesInner (peer_counter slot.sa counter.Ask) response.header.id response.inner step → TakesArrival (peer_listener slots) (arrival.Response response) [] step
+    → TakesInner KeepsTicket (peer_counter slot.sa counter.Ask) response.header.id response.inner step → TakesArrival (peer_listener slots) (arrival.Response response) [] step
 response-takes slots slot response step found takes =
-    (refl, subst (λ o. MatchOption o ⊥ (λ (s : Slot). TakesInner (peer_counter s.sa counter.Ask) response.header.id response.inner step)) (sym found) takes)
+    (refl, subst (λ o. MatchOption o ⊥ (λ (s : Slot). TakesInner KeepsTicket (peer_counter s.sa counter.Ask) response.header.id response.inner step)) (sym found) takes)
 
 -- a synchronisation
 pub sync-takes : (slots : List Slot) (slot : Slot) (request : Opened) (step : Step) → slot_for slots request ≡ Some slot

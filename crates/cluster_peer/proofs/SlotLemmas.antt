@@ -1,7 +1,12 @@
 -- The first slot that passes a test, by the place where it stands.
-use Rattle.std.proofs.Common.{◌≡◌, ℕ, zero, suc, ◌<◌, Bool, true, false, List, [], ◌∷◌, ◌++◌, length, take, Some, None, get_or, refl, ap, sym, ◌∙◌, arith}
-use Rattle.turn_rules.specs.Slots.{Slot, first_slot}
+use Rattle.std.proofs.Common.{◌≡◌, ℕ, zero, suc, ◌<◌, ◌==◌, Bool, true, false, List, [], ◌∷◌, ◌++◌, length, take, Some, None, get_or, refl, ap, sym, ◌∙◌, arith}
+use Rattle.std.proofs.lemmas.Bool.{and_parts, eqb-true}
+use Rattle.turn_rules.specs.Slots.{Slot, first_slot, has_spir}
 use Rattle.cluster_peer.specs.Slots.{IsFirstSlot}
+
+-- a live association of a responder's SPI has it
+pub its-spir : (spir : ℕ) (slot : Slot) → has_spir spir slot ≡ true → slot.sa.spir ≡ spir
+its-spir spir slot is = eqb-true slot.sa.spir spir (and_parts slot.live (slot.sa.spir == spir) is).1
 
 module _ (test : Slot → Bool) where
   here : (s : Slot) (ss : List Slot) → test s ≡ true → first_slot test (s ∷ ss) ≡ Some s

@@ -1,5 +1,5 @@
 pub mod Associations
 pub mod Genuine
+pub mod KeptTickets
 pub mod Messages
 pub mod Slots
-pub mod Tickets

@@ -17,8 +17,8 @@ ghost use Rattle.ha_base.specs.declared.limits.TheConstants.{DATAGRAM_OCTETS, PA
 ghost use Rattle.ha_base.specs.declared.outside.Moment.{Moment};
 ghost use Rattle.ha_base.specs.declared.services.TheConstants.{MOST_REQUESTS};
 
+use crate::kept_tickets::{Ticket, given_ticket};
 use crate::names::{ike_keys, name_at};
-use crate::tickets::{Ticket, given_ticket};
 use esp_sas::{InboundSa, OutboundSa, Room};
 use events::{EspVerdict, Refusal, Step, Verdict};
 use ha_base::{End, Memory, Moment, Service};
@@ -204,8 +204,9 @@ impl Association {
         self.sa.spii == spii && self.has_spir(spir)
     }
 
-    /// Sends a request (RFC 7296, sections 2.2 and 2.3). It is refused `WindowFull` with the least Message ID that is outstanding where the window has no room, and
-    /// `Exhausted` where no Message ID or no IV is left. No memory is taken.
+    /// Sends a request (RFC 7296, sections 2.2 and 2.3). It is refused `WindowFull` with the least
+    /// Message ID that is outstanding where the window has no room, and `Exhausted` where no Message
+    /// ID or no IV is left. No memory is taken.
     pub fn ask(&mut self, room: RequestRoom) -> Step
         ensures asks { SlotAsks self.old room result }
         ensures after { (now : Moment) → self.new

@@ -2,11 +2,11 @@
 #![tactic(auto)]
 
 mod association;
+mod kept_tickets;
 mod messages;
 mod names;
 mod peer;
 mod slots;
 mod synchronising;
-mod tickets;
 
 pub use peer::Peer;

@@ -1,13 +1,13 @@
--- One association more, which receives at another SPI.
-use Rattle.std.proofs.Common.{ap, ◌∙◌}
-use Rattle.std.proofs.lemmas.Bool.{ne_eqb}
+-- One association more, which does not pass.
+use Rattle.std.proofs.Common.{ap, sym, take, get_or, ◌∙◌}
 use Rattle.std.proofs.lemmas.List.{take_more}
-use Rattle.turn_rules.specs.Slots.{Slot, first_slot, receives_at}
+use Rattle.turn_rules.specs.Slots.{first_slot, receives_at}
 use Rattle.cluster_peer.proofs.SlotLemmas.{none_more}
 use Rattle.cluster_peer.proofs.slots.receiver_at.Goals as goal
 
 pub loop-place-preserved : goal.loop-place-preserved
 loop-place-preserved c =
-    ap (first_slot (receives_at c.args.spi)) (take_more _ _ c.index-items-place.result c.loop-place-test.true)
-    ∙ none_more (receives_at c.args.spi) _ _ c.loop-place.invariant
-    (ne_eqb _ _ (λ h. c.if-spi.false (c.spi.ensures ∙ ap (λ (e : Slot). e.sa.spi_out) c.index-items-place.is ∙ h)))
+    let test = receives_at c.args.spi in
+    ap (first_slot test) (take_more _ _ c.index-items-place.result c.loop-place-test.true)
+    ∙ none_more test (take c.loop-place.place c.args.items.now) (get_or c.args.items.now c.loop-place.place c.index-items-place.result) c.loop-place.invariant
+    (ap test (sym c.index-items-place.is) ∙ sym c.receives_at.ensures ∙ c.if-receives_at.false)

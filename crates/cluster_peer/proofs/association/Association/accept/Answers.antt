@@ -30,7 +30,7 @@ returns-clause-accepts c =
     let ike = c.self.inside.ike in
     let ivs = c.self.inside.ivs in
     let keeps : IsIkeOfRecord sa ivs ike = c.self.invariant.1 in
-    let old : Slot = record { sa = sa; next = c.self.inside.lot.next; window = c.self.inside.inbound.window; iv = ivs.next; ask = ike.next; asked = ike.asked; answered = ike.answered; highest = c.self.inside.highest } in
+    let old : Slot = record { sa = sa; live = c.self.inside.live; next = c.self.inside.lot.next; window = c.self.inside.inbound.window; iv = ivs.next; ask = ike.next; asked = ike.asked; answered = ike.answered; highest = c.self.inside.highest; ticket = c.self.inside.ticket } in
     let accepted = c.args.accepted.now in
     let asked = c.args.asked.now in
     let request = c.args.request.now in

@@ -1,5 +1,5 @@
 -- The response is sealed under the next IV, with the keys of the record.
-use Rattle.std.proofs.Common.{rules, ◌≡◌, ℕ, ◌+◌, ◌<◌, true, [], refl, ap, ◌∙◌, subst, arith}
+use Rattle.std.proofs.Common.{rules, ◌≡◌, ℕ, ◌+◌, ◌<◌, true, None, [], refl, ap, ◌∙◌, subst, arith}
 use Rattle.ha_base.specs.declared.counter_names.CounterName.{CounterName}
 use Rattle.ike_sas.specs.Held.{IkeHeld}
 use Rattle.keeper_book.specs.CounterEnds.{end_of}
@@ -21,13 +21,13 @@ ike-is : (slot : Slot) (ike : IkeHeld) → ike.keys ≡ peer_keys slot.sa → ik
 ike-is slot ike keys synced asked next answered i = record { keys = keys i; asked = asked i; next = next i; answered = answered i; synced = synced i }
 
 answers : (slot : Slot) (name : CounterName) (ike : IkeHeld) (iv : ℕ) (request : Opened) (step : Step) → name ≡ peer_counter slot.sa counter.Answer → ike ≡ slot_ike slot → iv ≡ slot.iv
-    → AnswersRequest name ike iv request step → AnswersRequest (peer_counter slot.sa counter.Answer) (slot_ike slot) slot.iv request step
+    → AnswersRequest name ike iv request None step → AnswersRequest (peer_counter slot.sa counter.Answer) (slot_ike slot) slot.iv request None step
 answers slot name ike iv request step named held numbered does =
-    subst (λ n. AnswersRequest n (slot_ike slot) slot.iv request step) named
-    (subst (λ h. AnswersRequest name h slot.iv request step) held
-    (subst (λ n. AnswersRequest name ike n request step) numbered does))
+    subst (λ n. AnswersRequest n (slot_ike slot) slot.iv request None step) named
+    (subst (λ h. AnswersRequest name h slot.iv request None step) held
+    (subst (λ n. AnswersRequest name ike n request None step) numbered does))
 
-within : (old : Slot) (request : Opened) (step : Step) (now : Slot) → old ≡ now → AnswersRequest (peer_counter old.sa counter.Answer) (slot_ike old) old.iv request step
+within : (old : Slot) (request : Opened) (step : Step) (now : Slot) → old ≡ now → AnswersRequest (peer_counter old.sa counter.Answer) (slot_ike old) old.iv request None step
     → old.iv < end_of old.sa counter.Iv → SlotAnswers now request [] step
 within old request step now same does below = subst (λ slot. SlotAnswers slot request [] step) same
     (record { no_calls = refl; within = λ _. does; ended = λ above. absurd (omega arith) })
@@ -38,7 +38,7 @@ returns-in-Some-clause-answers g c =
     let ike = c.self.inside.ike in
     let ivs = c.self.inside.ivs in
     let keeps : IsIkeOfRecord sa ivs ike = c.self.invariant.1 in
-    let old : Slot = record { sa = sa; next = c.self.inside.lot.next; window = c.self.inside.inbound.window; iv = ivs.next; ask = ike.next; asked = ike.asked; answered = ike.answered; highest = c.self.inside.highest } in
+    let old : Slot = record { sa = sa; live = c.self.inside.live; next = c.self.inside.lot.next; window = c.self.inside.inbound.window; iv = ivs.next; ask = ike.next; asked = ike.asked; answered = ike.answered; highest = c.self.inside.highest; ticket = c.self.inside.ticket } in
     let numbered : c.in-Some.iv ≡ record { name = ivs.name; value = ivs.next } = c.in-Some.ensures.number in
     let does = answers old c.name_at-name.result ike c.in-Some.iv.value c.args.request.now c.answer.result c.name_at-name.ensures
     (ike-is old ike keeps.keys keeps.synced refl refl refl) (ap (λ (n : Drawn). n.value) numbered) c.answer.ensures.answers in
@@ -47,17 +47,17 @@ returns-in-Some-clause-answers g c =
     within old c.args.request.now c.answer.result c.args.self.now c.self.view_is does (omega arith)
 
 pub returns-in-Some-clause-after : goal.returns-in-Some-clause-after
-returns-in-Some-clause-after g c =
+returns-in-Some-clause-after g c = λ now.
     let sa = c.self.inside.sa in
     let ike = c.self.inside.ike in
     let ivs = c.self.inside.ivs in
     let keeps : IsIkeOfRecord sa ivs ike = c.self.invariant.1 in
-    let old : Slot = record { sa = sa; next = c.self.inside.lot.next; window = c.self.inside.inbound.window; iv = ivs.next; ask = ike.next; asked = ike.asked; answered = ike.answered; highest = c.self.inside.highest } in
+    let old : Slot = record { sa = sa; live = c.self.inside.live; next = c.self.inside.lot.next; window = c.self.inside.inbound.window; iv = ivs.next; ask = ike.next; asked = ike.asked; answered = ike.answered; highest = c.self.inside.highest; ticket = c.self.inside.ticket } in
     let numbered : c.in-Some.iv ≡ record { name = ivs.name; value = ivs.next } = c.in-Some.ensures.number in
     let does = answers old c.name_at-name.result ike c.in-Some.iv.value c.args.request.now c.answer.result c.name_at-name.ensures
     (ike-is old ike keeps.keys keeps.synced refl refl refl) (ap (λ (n : Drawn). n.value) numbered) c.answer.ensures.answers in
     let risen : c.draw.new.self ≡ record ivs { next = ivs.next + 1 } = c.in-Some.ensures.rises in
     let held : c.answer.new.sa ≡ record ike { answered = with_taken (kept_under c.args.request.now.header.id c.answer.result.gives) ike.answered } = c.answer.ensures.held in
-    (λ i. record { sa = sa; next = c.self.inside.lot.next; window = c.self.inside.inbound.window; iv = (risen i).next; ask = (held i).next; asked = (held i).asked; answered = (held i).answered; highest = c.higher.ensures i })
-    ∙ answered-own old c.args.request.now c.answer.result does
-    ∙ ap (slot_after task.Receive c.answer.result) c.self.view_is
+    (λ i. record { sa = sa; live = c.self.inside.live; next = c.self.inside.lot.next; window = c.self.inside.inbound.window; iv = (risen i).next; ask = (held i).next; asked = (held i).asked; answered = (held i).answered; highest = c.higher.ensures i; ticket = c.self.inside.ticket })
+    ∙ answered-own now old c.args.request.now c.answer.result does
+    ∙ ap (slot_after now task.Receive c.answer.result) c.self.view_is

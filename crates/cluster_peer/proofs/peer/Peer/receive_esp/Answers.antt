@@ -18,6 +18,6 @@ returns-clause-genuine c =
 pub returns-clause-after : goal.returns-clause-after
 returns-clause-after c = λ step worded quiet. record {
   window = ap (λ (v : PeerWithRoom). v.window) c.self.view_is;
-  holds = λ now. held-after task.Receive step c.self.inside.gateway c.self.inside.slots.slots c.receive.new.self.slots (c.receive.ensures.after step worded quiet)
+  holds = λ now. held-after now task.Receive step c.self.inside.gateway c.self.inside.slots.slots c.receive.new.self.slots (c.receive.ensures.after now step worded quiet)
       ∙ ap (λ (v : PeerWithRoom). peer_after v.window now task.Receive step v.held) c.self.view_is;
 }

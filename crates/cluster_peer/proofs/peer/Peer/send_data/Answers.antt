@@ -11,6 +11,6 @@ returns-clause-after c =
     let asked = task.Send c.args.spir c.args.payload.now in
     record {
       window = ap (λ (v : PeerWithRoom). v.window) c.self.view_is;
-      holds = λ now. held-after asked c.send.result c.self.inside.gateway c.self.inside.slots.slots c.send.new.self.slots c.send.ensures.after
+      holds = λ now. held-after now asked c.send.result c.self.inside.gateway c.self.inside.slots.slots c.send.new.self.slots (c.send.ensures.after now)
           ∙ ap (λ (v : PeerWithRoom). peer_after v.window now asked c.send.result v.held) c.self.view_is;
     }

@@ -17,4 +17,4 @@ returns-in-Some-clause-receives c = record {
 }
 
 pub returns-in-None-clause-after : goal.returns-in-None-clause-after
-returns-in-None-clause-after c = λ step worded quiet. kept_all (slot_after task.Receive step) c.args.self.now.slots (dropped-kept _ c.args.bytes.now step worded quiet drop.Short refl)
+returns-in-None-clause-after c = λ now step worded quiet. kept_all (slot_after now task.Receive step) c.args.self.now.slots (dropped-kept now _ c.args.bytes.now step worded quiet drop.Short refl)

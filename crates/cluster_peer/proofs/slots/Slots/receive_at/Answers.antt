@@ -19,16 +19,16 @@ returns-in-Some-clause-receives c =
     rw found c.receive.ensures.receives
 
 pub returns-in-Some-clause-after : goal.returns-in-Some-clause-after
-returns-in-Some-clause-after c = λ step worded quiet.
+returns-in-Some-clause-after c = λ now step worded quiet.
     let items = c.self.inside.items.items in
     let place : IsFirstSlot (receives_at c.args.spi) c.in-Some.place items = rw c.deref.ensures.value at c.in-Some.ensures in
     let old : items ≡ c.args.self.now.slots = ap (λ (v : Slotted). v.slots) c.self.view_is in
-    packet-after c.receive.result c.receive.new.bytes step worded quiet c.in-Some.place items c.index_mut-association.result.now c.receive.new.self place.within
+    packet-after now c.receive.result c.receive.new.bytes step worded quiet c.in-Some.place items c.index_mut-association.result.now c.receive.new.self place.within
     c.index_mut-association.ensures.value c.self.invariant c.receive.ensures.noted c.args.bytes.now c.receive.ensures.receives
-    ∙ ap (λ slots. map (slot_after task.Receive step) slots) old
+    ∙ ap (λ slots. map (slot_after now task.Receive step) slots) old
 
 pub returns-in-None-clause-after : goal.returns-in-None-clause-after
-returns-in-None-clause-after c = λ step worded quiet. kept_all (slot_after task.Receive step) c.args.self.now.slots (dropped-kept _ c.args.bytes.now step worded quiet drop.WrongSpi refl)
+returns-in-None-clause-after c = λ now step worded quiet. kept_all (slot_after now task.Receive step) c.args.self.now.slots (dropped-kept now _ c.args.bytes.now step worded quiet drop.WrongSpi refl)
 
 pub invariant_of-self : goal.invariant_of-self
 invariant_of-self c =

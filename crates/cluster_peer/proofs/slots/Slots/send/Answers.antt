@@ -1,12 +1,11 @@
 -- A payload is sent by the association at its place.
 use Rattle.std.proofs.Common.{◌≡◌, Some, ap, sym, ◌∙◌, map}
-use Rattle.std.proofs.lemmas.Bool.{eqb-true}
 use Rattle.events.specs.declared.verdict.Refusal.TheVariants as refusal
 use Rattle.turn_rules.specs.Slots.{first_slot, has_spir, slot_after}
 use Rattle.turn_rules.specs.Tasks as task
 use Rattle.cluster_peer.specs.Slots.{IsFirstSlot, Slotted}
 use Rattle.cluster_peer.proofs.SlotLaws.{distinct-set, kept_all, refused-kept, sent-after}
-use Rattle.cluster_peer.proofs.SlotLemmas.{first_at}
+use Rattle.cluster_peer.proofs.SlotLemmas.{first_at, its-spir}
 use Rattle.cluster_peer.proofs.slots.Slots.send.Goals as goal
 
 pub returns-in-Some-clause-sends : goal.returns-in-Some-clause-sends
@@ -20,19 +19,19 @@ returns-in-Some-clause-sends c =
     rw found c.send.ensures.sends
 
 pub returns-in-Some-clause-after : goal.returns-in-Some-clause-after
-returns-in-Some-clause-after c =
+returns-in-Some-clause-after c = λ now.
     let items = c.self.inside.items.items in
     let slot = c.index_mut-association.result.now in
     let place : IsFirstSlot (has_spir c.args.spir) c.in-Some.place items = rw c.deref.ensures.value at c.in-Some.ensures in
     let old : items ≡ c.args.self.now.slots = ap (λ (v : Slotted). v.slots) c.self.view_is in
-    let its = eqb-true slot.sa.spir c.args.spir (place.here slot c.index_mut-association.ensures.value) in
-    sent-after c.args.spir c.args.payload.now c.send.result c.in-Some.place items slot c.send.new.self place.within c.index_mut-association.ensures.value c.self.invariant
+    let its = its-spir c.args.spir slot (place.here slot c.index_mut-association.ensures.value) in
+    sent-after now c.args.spir c.args.payload.now c.send.result c.in-Some.place items slot c.send.new.self place.within c.index_mut-association.ensures.value c.self.invariant
     its c.send.ensures.sends c.send.ensures.within c.send.ensures.ended
-    ∙ ap (λ slots. map (slot_after (task.Send c.args.spir c.args.payload.now) c.send.result) slots) old
+    ∙ ap (λ slots. map (slot_after now (task.Send c.args.spir c.args.payload.now) c.send.result) slots) old
 
 pub returns-in-None-clause-after : goal.returns-in-None-clause-after
-returns-in-None-clause-after c = kept_all (slot_after (task.Send c.args.spir c.args.payload.now) c.quiet.result) c.args.self.now.slots
-    (refused-kept (task.Send c.args.spir c.args.payload.now) c.quiet.result refusal.Unknown
+returns-in-None-clause-after c = λ now. kept_all (slot_after now (task.Send c.args.spir c.args.payload.now) c.quiet.result) c.args.self.now.slots
+    (refused-kept now (task.Send c.args.spir c.args.payload.now) c.quiet.result refusal.Unknown
     (record { said = c.quiet.ensures.verdict; quiet = record { served = c.quiet.ensures.served; seals = c.quiet.ensures.seals; gives = c.quiet.ensures.gives } }))
 
 pub invariant_of-self : goal.invariant_of-self

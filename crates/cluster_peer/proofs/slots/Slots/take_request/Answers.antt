@@ -33,16 +33,16 @@ returns-clause-takes g c =
     rw found c.answer.ensures.answers
 
 pub returns-clause-after : goal.returns-clause-after
-returns-clause-after g c =
+returns-clause-after g c = λ now.
     let items = c.self.inside.items.items in
     let slot = c.index_mut-association.result.now in
     let test = has_spis c.args.request.now.header.spii c.args.request.now.header.spir in
     let place : IsFirstSlot test c.in-Some.place items = rw c.deref.ensures.value at c.in-Some.ensures in
     let old : items ≡ c.args.self.now.slots = ap (λ (v : Slotted). v.slots) c.self.view_is in
     let found : slot_for c.args.self.now.slots c.args.request.now ≡ Some slot = ap (first_slot test) (sym old) ∙ first_at test c.in-Some.place items slot place c.index_mut-association.ensures.value in
-    answered-after c.answer.result c.in-Some.place items slot c.answer.new.self place.within c.index_mut-association.ensures.value c.self.invariant
-    c.args.request.now c.answer.ensures.answers c.answer.ensures.after
-    ∙ ap (λ slots. map (slot_after task.Receive c.answer.result) slots) old
+    answered-after now c.answer.result c.in-Some.place items slot c.answer.new.self place.within c.index_mut-association.ensures.value c.self.invariant
+    c.args.request.now c.answer.ensures.answers (c.answer.ensures.after now)
+    ∙ ap (λ slots. map (slot_after now task.Receive c.answer.result) slots) old
 
 pub invariant_of-self : goal.invariant_of-self
 invariant_of-self g c =

@@ -30,8 +30,8 @@ returns-clause-after c =
     let response = c.args.response.now in
     let place : IsFirstSlot (has_spis response.header.spii response.header.spir) c.in-Some.place items = rw c.deref.ensures.value at c.in-Some.ensures in
     ok-map2 c.take_reply.result (λ step takes after.
-    replied-after step c.in-Some.place items slot c.take_reply.new.self place.within c.index_mut-association.ensures.value c.self.invariant response.header.id response.inner takes after
-    ∙ ap (λ (v : Slotted). map (slot_after task.Receive step) v.slots) c.self.view_is) c.take_reply.ensures.takes c.take_reply.ensures.after
+    replied-after c.args.now step c.in-Some.place items slot c.take_reply.new.self place.within c.index_mut-association.ensures.value c.self.invariant response.header.id response.inner takes after
+    ∙ ap (λ (v : Slotted). map (slot_after c.args.now task.Receive step) v.slots) c.self.view_is) c.take_reply.ensures.takes c.take_reply.ensures.after
 
 pub invariant_of-self : goal.invariant_of-self
 invariant_of-self c =

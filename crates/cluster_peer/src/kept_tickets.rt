@@ -1,7 +1,7 @@
 //! Tickets that the peer keeps (RFC 5723, section 4.1).
 
 ghost use Rattle.std.specs.Prelude.{◌≡◌, IfOk};
-ghost use Rattle.cluster_peer.specs.Tickets.{ticket_inside};
+ghost use Rattle.cluster_peer.specs.KeptTickets.{ticket_inside};
 
 use ha_base::{Memory, Moment, Octets};
 use ike_sas::{GivenTicket, TicketReply, ticket_reply};
