@@ -1,5 +1,5 @@
 -- What a draw of a number of a pool was.
-use Rattle.std.proofs.Common.{◌≡◌, ℕ, ◌≤◌, ◌<◌, List, [], ◌∷◌, Option, Some, None, Result, Ok, Err, ⊎_elim, refl, ap, sym, subst, ◌∙◌, arith}
+use Rattle.std.proofs.Common.{◌≡◌, ℕ, ◌≤◌, List, [], ◌∷◌, None, Result, Ok, Err, ⊎_elim, refl, ap, subst, ◌∙◌, arith}
 use Rattle.std.specs.List.{cons_option}
 use Rattle.std.proofs.lemmas.Bool.{cases_lt}
 use Rattle.keeper_book.proofs.Passed.{seen-answer}
@@ -10,7 +10,6 @@ use Rattle.keeper_book.specs.declared.calls.KeeperAnswer.TheVariants as answer
 use Rattle.keeper_book.specs.declared.calls.KeeperAsk.TheVariants as ask
 use Rattle.keeper_book.specs.declared.counters.Counter.{Counter}
 use Rattle.keeper_book.specs.declared.faults.KeeperFault.{KeeperFault}
-use Rattle.keeper_book.specs.declared.faults.KeeperFault.TheVariants as fault
 use Rattle.keeper_book.specs.declared.pools.Pool.{Pool}
 use Rattle.pool_lots.specs.Lots.{DrawsPooled, Leased, Leases, LeavesLot, LotReady, drawn_once, leased_lot}
 use Rattle.pool_lots.specs.declared.lots.TheConstants.{LEASED_NUMBERS}

@@ -1,16 +1,14 @@
 -- What a member says of a ticket, by what it drew.
 use Rattle.std.proofs.Common.{◌≡◌, ℕ, ◌+◌, ◌≤◌, true, false, Bool, MatchBool, MatchOption, IsSome, List, [], ◌∷◌, Option, Some, None, Result, Ok, Err, refl, ap, sym, subst, ◌∙◌}
 use Rattle.aes_gcm.specs.NamedKey.{NamedKey}
-use Rattle.events.specs.declared.seals.Seal.{Seal}
 use Rattle.events.specs.declared.turn.Step.{Step}
 use Rattle.events.specs.declared.verdict.Refusal.{Refusal}
 use Rattle.events.specs.declared.verdict.Refusal.TheVariants as refusal
-use Rattle.events.specs.declared.verdict.Verdict.TheVariants as out
 use Rattle.ha_base.specs.declared.outside.Moment.{Moment}
 use Rattle.ike_sas.specs.TicketMessages.{is_ticket_due}
 use Rattle.ike_sas.specs.declared.ticket_messages.TicketAnswer.{TicketAnswer}
-use Rattle.ike_sas.specs.declared.ticket_messages.TicketAnswer.TheVariants.{Declined, Issued}
-use Rattle.keeper_book.specs.Told.{AreAnswers, IsRefusalOf, seen}
+use Rattle.ike_sas.specs.declared.ticket_messages.TicketAnswer.TheVariants.{Declined}
+use Rattle.keeper_book.specs.Told.{seen}
 use Rattle.keeper_book.specs.declared.calls.Call.{Call}
 use Rattle.keeper_book.specs.declared.calls.KeeperAnswer.TheVariants as answer
 use Rattle.keeper_book.specs.declared.calls.KeeperAsk.TheVariants as ask
@@ -18,15 +16,14 @@ use Rattle.keeper_book.specs.declared.faults.KeeperFault.{KeeperFault}
 use Rattle.keeper_book.specs.declared.faults.KeeperFault.TheVariants as fault
 use Rattle.keeper_book.specs.declared.pools.Pool.TheVariants as pool
 use Rattle.keeper_book.specs.declared.records.Record.{Record}
-use Rattle.pool_lots.specs.Lots.{DrawsPooled, LeavesLot, drawn_once, leased_lot}
+use Rattle.pool_lots.specs.Lots.{DrawsPooled, LeavesLot}
 use Rattle.pool_lots.specs.declared.lots.TheConstants.{LEASED_NUMBERS}
 use Rattle.sk_payload.specs.declared.open.Opened.{Opened}
 use Rattle.spend_once.specs.Lot.{Drawn, Remaining}
 use Rattle.turn_rules.specs.Held.{covers_in, first_some, grant_in}
-use Rattle.turn_rules.specs.MemberTickets.{SealsTicket, Tells, TellsIssued, TellsTicket, TellsWithout, content_of}
-use Rattle.turn_rules.specs.Steps.{Says}
+use Rattle.turn_rules.specs.MemberTickets.{SealsTicket, Tells, TellsIssued, TellsWithout, content_of}
 use Rattle.turn_rules.specs.TicketNumbers.{after_lease, after_ticket, first_leased, lease_in, numbers_after, ticket_number}
-use Rattle.ticket_issuing.proofs.Draws.{draw-elim, draw-refusal, lease-covers, lease-grants, lot-map}
+use Rattle.ticket_issuing.proofs.Draws.{draw-elim, lease-covers, lease-grants, lot-map}
 use Rattle.ticket_issuing.specs.Issuing.{IsRefusedAs, IsRoomFor, Issues, Issuing, TellsDue, TellsNoNumber, TellsOf, configuration_for, issuing_after, member_issuing, number_told}
 
 abbrev Told : Type 0

@@ -1,7 +1,6 @@
 -- A ticket that is due, and one that is not.
-use Rattle.std.proofs.Common.{◌≡◌, [], refl, sym, ◌∙◌, rules}
+use Rattle.std.proofs.Common.{[], refl, sym, ◌∙◌}
 use Rattle.keeper_book.proofs.Asking.{asks_for_none}
-use Rattle.ike_sas.specs.TicketMessages.{is_ticket_due}
 use Rattle.ticket_issuing.proofs.Telling.{due-without-key, no-key, tells-due}
 use Rattle.ticket_issuing.proofs.issuer.Issuer.tell.Goals as goal
 

@@ -1,9 +1,6 @@
 -- The ticket of the number that was drawn, or none where there is no number.
-use Rattle.std.proofs.Common.{◌≡◌, Option, Some, Ok, List, refl, ap, sym, subst, ◌∙◌}
-use Rattle.aes_gcm.specs.NamedKey.{NamedKey}
-use Rattle.keeper_book.specs.declared.calls.Call.{Call}
+use Rattle.std.proofs.Common.{Some, Ok, refl, sym, subst, ◌∙◌}
 use Rattle.keeper_book.specs.declared.pools.Pool.TheVariants as pool
-use Rattle.spend_once.specs.Lot.{Remaining}
 use Rattle.ticket_issuing.proofs.Draws.{draw-refusal, draw-stopped, drawn-name}
 use Rattle.ticket_issuing.proofs.Telling.{due-issued, due-without}
 use Rattle.ticket_issuing.proofs.issuer.Issuer.tell_due.Goals as goal
