@@ -18,7 +18,7 @@ use Rattle.ike_window.specs.Kept.{KeptMessage, with_kept}
 use Rattle.ike_window.specs.Stored.{least_free}
 use Rattle.ike_window.specs.Windows.{ResponseWindow}
 use Rattle.keeper_book.specs.CounterEnds.{end_of}
-use Rattle.keeper_book.specs.Counters.{five_at, with_five}
+use Rattle.keeper_book.specs.Counters.{five_at}
 use Rattle.keeper_book.specs.declared.calls.Call.{Call}
 use Rattle.keeper_book.specs.declared.counters.Counter.{Counter}
 use Rattle.keeper_book.specs.declared.counters.Counter.TheVariants as counter
@@ -27,7 +27,7 @@ use Rattle.sk_payload.specs.declared.open.Opened.{Opened}
 use Rattle.turn_rules.proofs.NoSynchronisation.{is_of_sync}
 use Rattle.turn_rules.proofs.Readies.{none-vain}
 use Rattle.turn_rules.proofs.Ties.{used-receiving}
-use Rattle.turn_rules.specs.Draws.{counter_name, refusal_of_stop}
+use Rattle.turn_rules.specs.Draws.{counter_name}
 use Rattle.turn_rules.specs.Held.{Held, accepted, after_number, first_some, five_of, iv_in, used_in}
 use Rattle.turn_rules.specs.CountersOf.{is_of_spir, number_under}
 use Rattle.turn_rules.specs.IkeState.{with_taken, is_same_end, kept_under, outstanding_after, replied_in, request_in, response_in, response_to, sealed_iv, taken_id, without_replied}
@@ -94,12 +94,12 @@ iv-sealed held n step seal seals named iv spir = ap (iv_in end.Cluster spir) sea
 -- ---- a request is answered
 
 -- what a step says of the request that it answered
-record Answered (held : Held) (id : ℕ) (step : Step) : Type 0 where
-  uses : (spir : ℕ) → iv_in end.Cluster spir step.seals ≡ (if held.sa.spir == spir then Some held.nexts.iv else None)
-  taken : (spir : ℕ) → taken_id spir step.verdict ≡ number_under spir (counter_name held.sa counter.Answer) id
-  unreplied : (spir : ℕ) → replied_in spir task.Receive step.verdict ≡ None
-  unaccepted : (spir : ℕ) → accepted spir step.verdict ≡ None
-  plain : is_of_sync step.verdict ≡ false
+pub record Answered (held : Held) (id : ℕ) (step : Step) : Type 0 where
+  pub uses : (spir : ℕ) → iv_in end.Cluster spir step.seals ≡ (if held.sa.spir == spir then Some held.nexts.iv else None)
+  pub taken : (spir : ℕ) → taken_id spir step.verdict ≡ number_under spir (counter_name held.sa counter.Answer) id
+  pub unreplied : (spir : ℕ) → replied_in spir task.Receive step.verdict ≡ None
+  pub unaccepted : (spir : ℕ) → accepted spir step.verdict ≡ None
+  pub plain : is_of_sync step.verdict ≡ false
 
 -- a ticket is sealed under no IV of an association
 ticket-unused : (ticket : Option TicketAnswer) → IfSome ticket IsOfFirstKey → (spir : ℕ) (seal : Seal) → iv_in end.Cluster spir (seals_of ticket ++ seal ∷ []) ≡ iv_in end.Cluster spir (seal ∷ [])
@@ -115,7 +115,7 @@ responds-uses held request reply ticket step named r spir =
     ap (iv_in end.Cluster spir) r.seals ∙ ticket-unused ticket named spir r.sent.seal
     ∙ iv-of held held.nexts.iv r.sent.seal r.sends.named r.sends.iv_is spir
 
-answered-by : (held : Held) (request : Opened) (ticket : Option TicketAnswer) (step : Step) → IfSome ticket IsOfFirstKey → (error : Option RequestError)
+pub answered-by : (held : Held) (request : Opened) (ticket : Option TicketAnswer) (step : Step) → IfSome ticket IsOfFirstKey → (error : Option RequestError)
     → MatchOption error (ExecutesRequest (counter_name held.sa counter.Answer) (held_ike held) held.nexts.iv request ticket step)
     (λ e. RefusesRequest (counter_name held.sa counter.Answer) (held_ike held) held.nexts.iv request e step) → Answered held request.header.id step
 answered-by held request ticket step named None a = record {
@@ -162,7 +162,7 @@ module _ (held now : Held) (id : ℕ) (step : Step) (a : Answered held id step) 
   own_response : response_in held.sa.spir task.Receive step ≡ kept_under id step.gives
   own_response = answers held.sa.spir ∙ ap (λ n. response_to n step.gives) (mine held id)
 
-  answered-advances : (calls : List Call) → AreCoversTo held calls held.highs → now ≡ answered_with id step held → Advances held task.Receive calls step now
+  pub answered-advances : (calls : List Call) → AreCoversTo held calls held.highs → now ≡ answered_with id step held → Advances held task.Receive calls step now
   answered-advances calls covers same = message-advances held now task.Receive calls step held.highs covers of
       (same ∙ sym (λ i. record held {
         nexts = record held.nexts { iv = own_next i };
@@ -174,7 +174,7 @@ module _ (held now : Held) (id : ℕ) (step : Step) (a : Answered held id step) 
       asked_is = ap (λ r. outstanding_after false None r held.asked) (a.unreplied held.sa.spir)
 
 -- the number of the ticket that a step says
-ticket-said : (held : Held) (request : Opened) (ticket : Option TicketAnswer) (step : Step) → (ticket ≢ None → error_of request ≡ None) → AnswersHeld held request step ticket
+pub ticket-said : (held : Held) (request : Opened) (ticket : Option TicketAnswer) (step : Step) → (ticket ≢ None → error_of request ≡ None) → AnswersHeld held request step ticket
     → ticket_number step.verdict ≡ number_told (Ok ticket)
 ticket-said held request ticket step due answers = go ticket (error_of request) due answers
   where

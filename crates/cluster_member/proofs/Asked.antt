@@ -1,18 +1,13 @@
 -- What a holding is once a request was sent under the numbers that its horizons gave, or was refused.
-use Rattle.std.proofs.Common.{◌≡◌, ℕ, ◌+◌, ◌≤◌, max, false, Option, Some, None, MatchOption, List, [], ◌∷◌, Result, Ok, Err, ⊎_elim, refl, ap, sym, ◌∙◌, subst, arith}
-use Rattle.std.proofs.lemmas.Bool.{cases_lt}
+use Rattle.std.proofs.Common.{◌≡◌, ℕ, ◌+◌, ◌≤◌, max, false, Option, None, List, Result, Ok, Err, refl, ap, sym, ◌∙◌, subst, arith}
 use Rattle.events.specs.declared.turn.Step.{Step}
 use Rattle.events.specs.declared.verdict.Verdict.TheVariants as out
 use Rattle.horizons.specs.Reaches.{IsSameCounter, Reach}
-use Rattle.horizons.specs.Ready.{Answered, Covers, Ready, next_number}
-use Rattle.horizons.specs.Stops.{stop_of}
+use Rattle.horizons.specs.Ready.{Ready, next_number}
 use Rattle.horizons.specs.declared.stop.Stop.{Stop}
 use Rattle.ike_sas.specs.Held.{IkeHeld}
-use Rattle.keeper_book.specs.Told.{seen}
 use Rattle.ike_values.specs.Values.{PayloadValue}
 use Rattle.keeper_book.specs.declared.calls.Call.{Call}
-use Rattle.keeper_book.specs.declared.calls.KeeperAnswer.{KeeperAnswer}
-use Rattle.keeper_book.specs.declared.calls.KeeperAnswer.TheVariants as answer
 use Rattle.keeper_book.specs.declared.counters.Counter.{Counter}
 use Rattle.keeper_book.specs.declared.counters.Counter.TheVariants as counter
 use Rattle.keeper_book.specs.declared.records.Record.{Record}

@@ -1,8 +1,7 @@
 -- A Message ID is made ready to be answered, and the next IV.
-use Rattle.std.proofs.Common.{◌≡◌, ℕ, ◌+◌, List, [], ◌∷◌, ◌++◌, None, Result, Ok, Err, append-nil, refl, ap, sym, ◌∙◌, subst}
+use Rattle.std.proofs.Common.{◌≡◌, ℕ, List, [], ◌++◌, None, Result, Ok, Err, append-nil, ap, sym, ◌∙◌, subst}
 use Rattle.events.specs.declared.turn.Step.{Step}
 use Rattle.events.specs.declared.verdict.Verdict.TheVariants as out
-use Rattle.horizons.specs.Reaches.{Reach}
 use Rattle.horizons.specs.Ready.{Ready}
 use Rattle.horizons.specs.declared.stop.Stop.{Stop}
 use Rattle.keeper_book.specs.Counters.{with_five}
@@ -19,40 +18,6 @@ use Rattle.cluster_member.proofs.Covering.{AreCoversTo, one-covers, then-covers,
 use Rattle.cluster_member.proofs.Readying.{ready-first, ready-then}
 use Rattle.cluster_member.proofs.Unticketed.{none-unleased, ready-unleased}
 use Rattle.cluster_member.specs.Answering.{LeavesHeld, ReadiesAnswer, covered_below}
-use Rattle.cluster_member.specs.Numbers.{CoversBoth, LeavesBoth}
-
--- two horizons are those of what is held
-module _ (held now : Held) (id : ℕ) (calls : List Call) (result : Result (Unit {0}) Stop) (one other one_now other_now : Reach)
-    (one_is : one ≡ reach_of held counter.Answer) (other_is : other ≡ reach_of held counter.Iv)
-    (both : CoversBoth one id other calls result one_now other_now)
-    (none : one_now ≡ one → other_now ≡ other → now ≡ held)
-    (first : (high : ℕ) → one_now ≡ record one { high = high } → other_now ≡ other → now ≡ covered_below counter.Answer high held)
-    (second : (high above : ℕ) → one_now ≡ record one { high = high } → other_now ≡ record other { high = above }
-    → now ≡ covered_below counter.Iv above (covered_below counter.Answer high held)) where
-  -- the same words of two horizons
-  abbrev Readied : Reach → Reach → Type 0
-  Readied a b = Ready a id calls
-      (λ why rest. LeavesHeld rest result (Err why) now held)
-      (λ high rest. Ready b b.next rest
-      (λ why more. LeavesHeld more result (Err why) now (covered_below counter.Answer high held))
-      (λ above more. LeavesHeld more result (Ok tt) now (covered_below counter.Iv above (covered_below counter.Answer high held))))
-
-  readied : Readied one other
-  readied = ready-map
-      {P = λ why rest. LeavesBoth rest result (Err why) one_now one other_now other}
-      {G = λ high rest. Ready other other.next rest
-      (λ why more. LeavesBoth more result (Err why) one_now (record one { high = high }) other_now other)
-      (λ above more. LeavesBoth more result (Ok tt) one_now (record one { high = high }) other_now (record other { high = above }))}
-      (λ why rest l. record { no_more = l.no_more; answered = l.answered; after = none l.first_after l.second_after })
-      (λ high rest r. ready-map
-      {P = λ why more. LeavesBoth more result (Err why) one_now (record one { high = high }) other_now other}
-      {G = λ above more. LeavesBoth more result (Ok tt) one_now (record one { high = high }) other_now (record other { high = above })}
-      (λ why more l. record { no_more = l.no_more; answered = l.answered; after = first high l.first_after l.second_after })
-      (λ above more l. record { no_more = l.no_more; answered = l.answered; after = second high above l.first_after l.second_after })
-      other other.next rest r) one id calls both
-
-  pub readies-held : ReadiesAnswer held id calls result now
-  readies-held = subst (λ r. Readied r (reach_of held counter.Iv)) one_is (subst (Readied one) other_is readied)
 
 -- ---- what was made ready
 

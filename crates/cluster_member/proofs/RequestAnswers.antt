@@ -1,5 +1,5 @@
 -- A request is answered by the rule, once its numbers are ready and it is known what is said of a ticket.
-use Rattle.std.proofs.Common.{◌≡◌, ◌≢◌, ℕ, ◌&&◌, Bool, true, false, MatchBool, MatchOption, IfOk, IfSome, List, [], ◌∷◌, ◌++◌, Option, Some, None, is_none, Result, Ok, Err, refl, ap, sym, ◌∙◌, subst}
+use Rattle.std.proofs.Common.{◌≡◌, ◌≢◌, ℕ, ◌&&◌, Bool, true, false, MatchBool, MatchOption, IfSome, List, [], ◌++◌, Option, Some, None, is_none, Result, Ok, Err, refl, ap, sym, ◌∙◌, subst}
 use Rattle.aes_gcm.specs.NamedKey.{NamedKey}
 use Rattle.events.specs.declared.turn.Step.{Step}
 use Rattle.events.specs.declared.verdict.Refusal.{Refusal}
@@ -21,9 +21,8 @@ use Rattle.keeper_book.specs.declared.faults.KeeperFault.TheVariants as fault
 use Rattle.keeper_book.specs.declared.pools.Pool.TheVariants as pool
 use Rattle.keeper_book.specs.declared.records.Record.{Record}
 use Rattle.sk_payload.specs.declared.open.Opened.{Opened}
-use Rattle.spend_once.specs.Lot.{Remaining}
 use Rattle.ticket_issuing.proofs.Draws.{lot-map}
-use Rattle.ticket_issuing.specs.Issuing.{IsOfFirstKey, Issuing, TellsOf, issuing_after, member_issuing, number_told}
+use Rattle.ticket_issuing.specs.Issuing.{IsOfFirstKey, Issuing, TellsOf, member_issuing, number_told}
 use Rattle.turn_rules.proofs.Readies.{ready-map}
 use Rattle.turn_rules.specs.Configurations.{membership}
 use Rattle.turn_rules.specs.Draws.{reach_of, refusal_of_stop}
@@ -39,7 +38,6 @@ use Rattle.cluster_member.proofs.Covering.{AreCoversTo, then-advances}
 use Rattle.cluster_member.proofs.ReadyAnswers.{readies-raised, readies-refused, readies-then, readies-unleased}
 use Rattle.cluster_member.proofs.Requests.{raised-refused}
 use Rattle.cluster_member.proofs.Unticketed.{numbers-then, unticketed-numbers}
-use Rattle.cluster_member.specs.Advances.{Advances}
 use Rattle.cluster_member.specs.Answering.{AnswersHeld, AnswersReady, AnswersWith, ReadiesAnswer, answered_with}
 use Rattle.cluster_member.specs.Members.{configuration_with}
 
@@ -119,10 +117,13 @@ module _ (issuing left : Issuing) (now : Moment) (old new : Held) (request : Ope
   said-due : (ticket : Option TicketAnswer) → told ≡ Ok ticket → ticket ≢ None → error_of request ≡ None
   said-due ticket is some = due-good request (where-due ticket is some (is_ticket_due request) refl (tells.follows step (λ why no. absurd (cc))))
 
+  same_ticket : (ticket other : Option TicketAnswer) → told ≡ Ok ticket → told ≡ Ok other → ticket ≡ other
+  same_ticket ticket other is gives = cc
+
   pub ready-answered : (ticket : Option TicketAnswer) → told ≡ Ok ticket → IfSome ticket IsOfFirstKey → AnswersHeld old request step ticket
       → new ≡ answered_with request.header.id step old → AnswersReady issuing now old request calls step left new
   ready-answered ticket is named answers after = record {
-    tells = tells-onto (λ t gives. let same : ticket ≡ t = cc in subst (AnswersHeld old request step) same answers) (member_issuing issuing) now old.sa step request calls
+    tells = tells-onto {Q = AnswersHeld old request step} (λ t gives. subst (AnswersHeld old request step) (same_ticket ticket t is gives) answers) (member_issuing issuing) now old.sa step request calls
         (tells.follows step (λ why no. absurd (cc)));
     advances = answered-advances old new request.header.id step (answered-by old request ticket step named (error_of request) answers) calls vain after;
     issues = tells.left step (ticket-said old request ticket step (said-due ticket is) answers ∙ ap number_told (sym is));
@@ -130,11 +131,34 @@ module _ (issuing left : Issuing) (now : Moment) (old new : Held) (request : Ope
 
   pub ready-refused : (why : Refusal) → told ≡ Err why → Says (out.Refused why) step → new ≡ old → AnswersReady issuing now old request calls step left new
   ready-refused why is says same = record {
-    tells = tells-onto (λ t gives. absurd (cc)) (member_issuing issuing) now old.sa step request calls
+    tells = tells-onto {Q = AnswersHeld old request step} (λ t gives. absurd (no_told t gives)) (member_issuing issuing) now old.sa step request calls
         (tells.follows step (λ other no. let one : why ≡ other = cc in subst (λ w. Says (out.Refused w) step) one says));
     advances = raised-refused task.Receive calls step old new old.highs why vain says same;
     issues = tells.left step (ap ticket_number says.said ∙ ap number_told (sym is));
   }
+    where
+      no_told : (ticket : Option TicketAnswer) → told ≡ Ok ticket → ⊥
+      no_told ticket gives = cc
+
+-- where a ticket is told, it was due
+pub told-due : (issuing left : Issuing) (now : Moment) (sa : Record) (request : Opened) (calls : List Call) (told : Result (Option TicketAnswer) Refusal)
+    → TellsOf issuing now sa request calls told left → (P : Type 0) → (is_ticket_due request ≡ true → P) → (ticket : Option TicketAnswer) → told ≡ Ok ticket → IfSome ticket (λ _. P)
+told-due issuing left now sa request calls told tells P fits None is = tt
+told-due issuing left now sa request calls told tells P fits (Some ticket) is = fits (go (is_ticket_due request) refl
+    (tells.follows (record { verdict = out.Configured; served = None; seals = []; gives = None }) (λ why other. absurd (no_refusal why other))))
+  where
+    no_refusal : (why : Refusal) → told ≡ Err why → ⊥
+    no_refusal why other = cc
+
+    no_ticket : told ≡ Ok None → ⊥
+    no_ticket none = cc
+
+    go : (b : Bool) → is_ticket_due request ≡ b → MatchBool b
+        (MatchOption issuing.key (Tells (Some Declined) calls (λ t. told ≡ Ok t))
+        (λ key. TellsIssued (member_issuing issuing) now sa key calls (record { verdict = out.Configured; served = None; seals = []; gives = None }) (λ t. told ≡ Ok t)))
+        (Tells None calls (λ t. told ≡ Ok t)) → is_ticket_due request ≡ true
+    go true due t = due
+    go false due t = absurd (no_ticket t.1)
 
 -- ---- a request
 

@@ -1,18 +1,15 @@
 -- Calls and verdicts by which no number of a ticket was leased or used.
-use Rattle.std.proofs.Common.{◌≡◌, ℕ, ◌≤◌, Bool, true, false, Option, Some, None, MatchBool, List, [], ◌∷◌, ◌++◌, Result, Ok, Err, ⊎_elim, refl, ap, sym, ◌∙◌, length}
+use Rattle.std.proofs.Common.{◌≡◌, ℕ, Option, Some, None, List, [], ◌∷◌, ◌++◌, Result, Ok, Err, ⊎_elim, refl, ap, sym, ◌∙◌, length}
 use Rattle.std.proofs.lemmas.Bool.{cases_lt}
-use Rattle.events.specs.declared.ike_outcomes.IkeDrop.{IkeDrop}
 use Rattle.events.specs.declared.turn.Step.{Step}
 use Rattle.events.specs.declared.verdict.EspVerdict.{EspVerdict}
 use Rattle.events.specs.declared.verdict.EspVerdict.TheVariants as esp
 use Rattle.events.specs.declared.verdict.Verdict.{Verdict}
 use Rattle.events.specs.declared.verdict.Verdict.TheVariants as out
-use Rattle.esp_packets.specs.Packet.{spi_of}
 use Rattle.ha_base.specs.declared.esp_outcomes.EspDrop.{EspDrop}
-use Rattle.ha_base.specs.declared.esp_outcomes.EspDrop.TheVariants as drop
 use Rattle.ha_base.specs.declared.esp_outcomes.EspOpened.{EspOpened}
 use Rattle.horizons.specs.Reaches.{Reach, cover_of}
-use Rattle.horizons.specs.Ready.{Answered, Covers, Ready}
+use Rattle.horizons.specs.Ready.{Covers, Ready}
 use Rattle.horizons.specs.declared.stop.Stop.{Stop}
 use Rattle.horizons.specs.declared.stop.Stop.TheVariants as stop
 use Rattle.ike_values.specs.Values.{PayloadValue}
@@ -21,19 +18,24 @@ use Rattle.keeper_book.specs.Told.{seen}
 use Rattle.keeper_book.specs.declared.calls.Call.{Call}
 use Rattle.keeper_book.specs.declared.calls.KeeperAnswer.{KeeperAnswer}
 use Rattle.keeper_book.specs.declared.calls.KeeperAnswer.TheVariants as answer
-use Rattle.keeper_book.specs.declared.calls.KeeperAsk.TheVariants as ask
 use Rattle.keeper_book.specs.declared.counters.Counter.{Counter}
 use Rattle.keeper_book.specs.declared.counters.Counter.TheVariants as counter
 use Rattle.sk_payload.specs.declared.open.Opened.{Opened}
 use Rattle.spend_once.specs.Lot.{Remaining}
 use Rattle.turn_rules.proofs.Cases.{by_bool, by_option}
 use Rattle.turn_rules.proofs.Readies.{ready-map}
-use Rattle.turn_rules.specs.Draws.{Concludes, Draws, Grants, TakesOver, counter_name, reach_of, refusal_of_stop, refusal_of_takeover}
-use Rattle.turn_rules.specs.Fits.{DrawsOf, Quietly, SendsOf}
+use Rattle.turn_rules.specs.Draws.{Concludes, Grants, TakesOver, counter_name, reach_of, refusal_of_stop, refusal_of_takeover}
+use Rattle.turn_rules.specs.Fits.{DrawsOf, SendsOf}
 use Rattle.turn_rules.specs.Held.{Held, first_some}
-use Rattle.turn_rules.specs.MemberMessages.{AsksOf, HeldSyncs, ReadiesWithIv, ResendsOf, SendsSync, SyncsOf, held_ike, sync_id}
-use Rattle.turn_rules.specs.MemberPackets.{MemberReceives, ReceivesPacket, TakesPacket, outbound_of}
-use Rattle.turn_rules.specs.Messages.{Resends, SendsRequest}
+use Rattle.turn_rules.specs.MemberMessages.{AsksOf, HeldTakesSync, KeepsNothing, ReadiesWithIv, ResendsOf, SendsSync, SyncsOf, TakesSyncAnswer, awaits_sync, held_ike, of_spii, sync_id}
+use Rattle.turn_rules.specs.MemberPackets.{MemberReceives, TakesPacket, outbound_of}
+use Rattle.turn_rules.specs.Messages.{SendsRequest, TakesInner}
+use Rattle.ha_base.specs.declared.counter_names.CounterName.{CounterName}
+use Rattle.ike_values.specs.declared.fault.Bad.{Bad}
+use Rattle.sync_exchange.specs.declared.sync_drop.SyncDrop.{SyncDrop}
+use Rattle.sync_exchange.specs.declared.sync_drop.SyncDrop.TheVariants as reason
+use Rattle.cluster_member.specs.Arriving.{TakesWhereHeld}
+use Rattle.sk_payload.specs.declared.open.Opened.{Opened}
 use Rattle.turn_rules.specs.Packets.{IsVerdictOf, SendsEsp}
 use Rattle.turn_rules.specs.Steps.{RefusesThen, Says}
 use Rattle.turn_rules.specs.TicketNumbers.{after_lease, after_ticket, first_leased, lease_in, numbers_after, ticket_number}
@@ -195,3 +197,30 @@ receives-unticketed held octets calls answered after step receives worded = reco
       (cases_lt (length octets) 34);
   unused = packet-unused answered after step.verdict worded;
 }
+
+-- ---- responses
+
+inner-unused : (name : CounterName) (id : ℕ) (inner : Result (List PayloadValue) Bad) (step : Step) → TakesInner KeepsNothing name id inner step → ticket_number step.verdict ≡ None
+inner-unused name id (Ok payloads) step takes = ap ticket_number takes.2.says.said
+inner-unused name id (Err bad) step takes = absurd takes
+
+pub takes-there-unused : (held_by : ℕ → Option Held) (response : Opened) (step : Step)
+    → TakesWhereHeld held_by response (λ h. TakesInner KeepsNothing (counter_name h.sa counter.Ask) response.header.id response.inner step) → ticket_number step.verdict ≡ None
+takes-there-unused held_by response step = by_option (of_spii response.header.spii (held_by response.header.spir))
+    (λ none no-one. absurd no-one)
+    (λ h some takes. inner-unused (counter_name h.sa counter.Ask) response.header.id response.inner step takes)
+
+sync-answer-unused : (held : Held) (answered : Result (ℕ × ℕ) SyncDrop) (step : Step) → TakesSyncAnswer held answered step → ticket_number step.verdict ≡ None
+sync-answer-unused held (Ok ids) step takes = ap ticket_number takes.said
+sync-answer-unused held (Err reason.Nonce) step takes = ap ticket_number takes.said
+sync-answer-unused held (Err reason.NotSync) step takes = absurd takes
+sync-answer-unused held (Err (reason.NotAbove id)) step takes = absurd takes
+sync-answer-unused held (Err reason.Delta) step takes = absurd takes
+
+pub takes-sync-unused : (fresh : List ℕ) (held_by : ℕ → Option Held) (response : Opened) (step : Step)
+    → TakesWhereHeld held_by response (λ h. HeldTakesSync fresh h response [] step) → ticket_number step.verdict ≡ None
+takes-sync-unused fresh held_by response step = by_option (of_spii response.header.spii (held_by response.header.spir))
+    (λ none no-one. absurd no-one)
+    (λ h some takes. by_option (awaits_sync h)
+    (λ none says. ap ticket_number says.said)
+    (λ id some t. sync-answer-unused h t.answer step t.takes) takes.1)

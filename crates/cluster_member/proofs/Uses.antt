@@ -11,15 +11,14 @@ use Rattle.keeper_book.specs.Counters.{five_at, with_five}
 use Rattle.keeper_book.specs.declared.calls.Call.{Call}
 use Rattle.keeper_book.specs.declared.counters.Counter.{Counter}
 use Rattle.keeper_book.specs.declared.counters.Counter.TheVariants as counter
-use Rattle.sk_payload.specs.declared.open.Opened.{Opened}
 use Rattle.ike_values.specs.Values.{PayloadValue}
 use Rattle.cluster_member.specs.Answering.{covered_below}
 use Rattle.turn_rules.specs.Draws.{counter_name, reach_of, refusal_of_stop}
 use Rattle.turn_rules.specs.Held.{Held}
-use Rattle.turn_rules.specs.IkeState.{kept_under, outstanding_after, with_taken}
+use Rattle.turn_rules.specs.IkeState.{kept_under, outstanding_after}
 use Rattle.turn_rules.specs.MemberMessages.{held_ike}
 use Rattle.turn_rules.specs.MemberPackets.{inbound_of, outbound_of}
-use Rattle.turn_rules.specs.Messages.{AnswersRequest, SendsRequest}
+use Rattle.turn_rules.specs.Messages.{SendsRequest}
 use Rattle.turn_rules.specs.Packets.{SendsEsp, noted}
 use Rattle.turn_rules.specs.Steps.{RefusesThen, Says}
 
