@@ -1,5 +1,5 @@
 -- What a holding is after it answered a request, or took a response.
-use Rattle.std.proofs.Common.{◌≡◌, ℕ, ◌+◌, ◌==◌, ◌≤◌, max, Bool, true, false, Option, Some, None, MatchOption, List, [], ◌∷◌, Result, Ok, Err, refl, ap, sym, ◌∙◌, arith, if◌then◌else◌}
+use Rattle.std.proofs.Common.{◌≡◌, ◌≢◌, ◌++◌, IfSome, ℕ, ◌+◌, ◌==◌, ◌≤◌, max, Bool, true, false, Option, Some, None, MatchOption, List, [], ◌∷◌, Result, Ok, Err, refl, ap, sym, ◌∙◌, arith, if◌then◌else◌}
 use Rattle.std.proofs.lemmas.Bool.{eq-eqb}
 use Rattle.events.specs.declared.seals.Seal.{Seal}
 use Rattle.events.specs.declared.turn.Step.{Step}
@@ -8,13 +8,17 @@ use Rattle.ha_base.specs.declared.counter_names.End.TheVariants as end
 use Rattle.horizons.specs.Reaches.{Reach}
 use Rattle.ike_sas.specs.Answers.{error_of}
 use Rattle.ike_sas.specs.declared.answers.RequestError.{RequestError}
+use Rattle.ike_sas.specs.declared.ticket_messages.TicketAnswer.{TicketAnswer}
+use Rattle.ike_sas.specs.declared.ticket_messages.TicketAnswer.TheVariants.{Declined, Issued}
+use Rattle.ticket_issuing.specs.Issuing.{IsOfFirstKey, number_told}
+use Rattle.turn_rules.specs.TicketNumbers.{ticket_number}
 use Rattle.ike_values.specs.Values.{PayloadValue}
 use Rattle.ike_values.specs.declared.fault.Bad.{Bad}
 use Rattle.ike_window.specs.Kept.{KeptMessage, with_kept}
 use Rattle.ike_window.specs.Stored.{least_free}
 use Rattle.ike_window.specs.Windows.{ResponseWindow}
 use Rattle.keeper_book.specs.CounterEnds.{end_of}
-use Rattle.keeper_book.specs.Counters.{five_at, with_five}
+use Rattle.keeper_book.specs.Counters.{five_at}
 use Rattle.keeper_book.specs.declared.calls.Call.{Call}
 use Rattle.keeper_book.specs.declared.counters.Counter.{Counter}
 use Rattle.keeper_book.specs.declared.counters.Counter.TheVariants as counter
@@ -23,18 +27,16 @@ use Rattle.sk_payload.specs.declared.open.Opened.{Opened}
 use Rattle.turn_rules.proofs.NoSynchronisation.{is_of_sync}
 use Rattle.turn_rules.proofs.Readies.{none-vain}
 use Rattle.turn_rules.proofs.Ties.{used-receiving}
-use Rattle.turn_rules.specs.Draws.{counter_name, refusal_of_stop}
+use Rattle.turn_rules.specs.Draws.{counter_name}
 use Rattle.turn_rules.specs.Held.{Held, accepted, after_number, first_some, five_of, iv_in, used_in}
 use Rattle.turn_rules.specs.CountersOf.{is_of_spir, number_under}
 use Rattle.turn_rules.specs.IkeState.{with_taken, is_same_end, kept_under, outstanding_after, replied_in, request_in, response_in, response_to, sealed_iv, taken_id, without_replied}
-use Rattle.turn_rules.specs.MemberMessages.{HeldAnswers, held_ike}
-use Rattle.turn_rules.specs.Messages.{AnswersRequest, ExecutesRequest, RefusesRequest, TakesInner}
+use Rattle.turn_rules.specs.MemberMessages.{KeepsNothing, held_ike}
+use Rattle.turn_rules.specs.Messages.{ExecutesRequest, RefusesRequest, Responds, TakesInner, seals_of}
 use Rattle.turn_rules.specs.Steps.{IsQuiet}
 use Rattle.turn_rules.specs.Tasks as task
 use Rattle.cluster_member.proofs.Covering.{AreCoversTo, IsOf, message-advances, vain-covers}
-use Rattle.cluster_member.proofs.Requests.{raised-refused}
-use Rattle.cluster_member.proofs.UsingIv.{with-iv-elim, with-iv-rule}
-use Rattle.cluster_member.proofs.Uses.{AnswersNext, answered_below}
+use Rattle.cluster_member.specs.Answering.{AnswersHeld, answered_with}
 use Rattle.cluster_member.specs.Holdings.{IsHorizon}
 use Rattle.cluster_member.specs.Advances.{Advances}
 
@@ -76,47 +78,55 @@ some-none None = refl
 some-none (Some x) = refl
 
 -- a message was sealed under an IV of the association
-pub iv-sealed : (held : Held) (n : ℕ) (step : Step) (seal : Seal) → step.seals ≡ seal ∷ [] → seal.name ≡ counter_name held.sa counter.Iv → seal.iv ≡ n
-    → (spir : ℕ) → iv_in end.Cluster spir step.seals ≡ (if held.sa.spir == spir then Some n else None)
-iv-sealed held n step seal seals named iv spir =
-    ap (iv_in end.Cluster spir) seals
-    ∙ some-none (sealed_iv end.Cluster spir seal seal.name.kind)
+iv-of : (held : Held) (n : ℕ) (seal : Seal) → seal.name ≡ counter_name held.sa counter.Iv → seal.iv ≡ n
+    → (spir : ℕ) → iv_in end.Cluster spir (seal ∷ []) ≡ (if held.sa.spir == spir then Some n else None)
+iv-of held n seal named iv spir =
+    some-none (sealed_iv end.Cluster spir seal seal.name.kind)
     ∙ ap (sealed_iv end.Cluster spir seal) (ap (λ (name : CounterName). name.kind) named)
     ∙ ap (λ (name : CounterName). if is_same_end end.Cluster name.end then number_under spir name seal.iv else None) named
     ∙ ap (number_under spir (counter_name held.sa counter.Iv)) iv
     ∙ own-number held counter.Iv spir n
 
+pub iv-sealed : (held : Held) (n : ℕ) (step : Step) (seal : Seal) → step.seals ≡ seal ∷ [] → seal.name ≡ counter_name held.sa counter.Iv → seal.iv ≡ n
+    → (spir : ℕ) → iv_in end.Cluster spir step.seals ≡ (if held.sa.spir == spir then Some n else None)
+iv-sealed held n step seal seals named iv spir = ap (iv_in end.Cluster spir) seals ∙ iv-of held n seal named iv spir
+
 -- ---- a request is answered
 
 -- what a step says of the request that it answered
-record Answered (held : Held) (id : ℕ) (step : Step) : Type 0 where
-  seal : Seal
-  seals : step.seals ≡ seal ∷ []
-  named : seal.name ≡ counter_name held.sa counter.Iv
-  iv : seal.iv ≡ held.nexts.iv
-  taken : (spir : ℕ) → taken_id spir step.verdict ≡ number_under spir (counter_name held.sa counter.Answer) id
-  unreplied : (spir : ℕ) → replied_in spir task.Receive step.verdict ≡ None
-  unaccepted : (spir : ℕ) → accepted spir step.verdict ≡ None
-  plain : is_of_sync step.verdict ≡ false
+pub record Answered (held : Held) (id : ℕ) (step : Step) : Type 0 where
+  pub uses : (spir : ℕ) → iv_in end.Cluster spir step.seals ≡ (if held.sa.spir == spir then Some held.nexts.iv else None)
+  pub taken : (spir : ℕ) → taken_id spir step.verdict ≡ number_under spir (counter_name held.sa counter.Answer) id
+  pub unreplied : (spir : ℕ) → replied_in spir task.Receive step.verdict ≡ None
+  pub unaccepted : (spir : ℕ) → accepted spir step.verdict ≡ None
+  pub plain : is_of_sync step.verdict ≡ false
 
-answered-by : (held : Held) (request : Opened) (step : Step) (error : Option RequestError)
-    → MatchOption error (ExecutesRequest (counter_name held.sa counter.Answer) (held_ike held) held.nexts.iv request step)
+-- a ticket is sealed under no IV of an association
+ticket-unused : (ticket : Option TicketAnswer) → IfSome ticket IsOfFirstKey → (spir : ℕ) (seal : Seal) → iv_in end.Cluster spir (seals_of ticket ++ seal ∷ []) ≡ iv_in end.Cluster spir (seal ∷ [])
+ticket-unused None named spir seal = refl
+ticket-unused (Some Declined) named spir seal = refl
+ticket-unused (Some (Issued lifetime sealed)) named spir seal =
+    ap (λ (name : CounterName). first_some (sealed_iv end.Cluster spir sealed name.kind) (iv_in end.Cluster spir (seal ∷ []))) named
+
+responds-uses : (held : Held) (request : Opened) (reply : List ℕ) (ticket : Option TicketAnswer) (step : Step) → IfSome ticket IsOfFirstKey
+    → Responds (held_ike held) held.nexts.iv request reply ticket step
+    → (spir : ℕ) → iv_in end.Cluster spir step.seals ≡ (if held.sa.spir == spir then Some held.nexts.iv else None)
+responds-uses held request reply ticket step named r spir =
+    ap (iv_in end.Cluster spir) r.seals ∙ ticket-unused ticket named spir r.sent.seal
+    ∙ iv-of held held.nexts.iv r.sent.seal r.sends.named r.sends.iv_is spir
+
+pub answered-by : (held : Held) (request : Opened) (ticket : Option TicketAnswer) (step : Step) → IfSome ticket IsOfFirstKey → (error : Option RequestError)
+    → MatchOption error (ExecutesRequest (counter_name held.sa counter.Answer) (held_ike held) held.nexts.iv request ticket step)
     (λ e. RefusesRequest (counter_name held.sa counter.Answer) (held_ike held) held.nexts.iv request e step) → Answered held request.header.id step
-answered-by held request step None a = record {
-  seal = a.responds.sent.seal;
-  seals = a.responds.seals;
-  named = a.responds.sends.named;
-  iv = a.responds.sends.iv_is;
+answered-by held request ticket step named None a = record {
+  uses = responds-uses held request a.executed.reply.octets ticket step named a.responds;
   taken = λ spir. ap (taken_id spir) a.said;
   unreplied = λ spir. ap (replied_in spir task.Receive) a.said;
   unaccepted = λ spir. ap (accepted spir) a.said;
   plain = ap is_of_sync a.said;
 }
-answered-by held request step (Some error) a = record {
-  seal = a.responds.sent.seal;
-  seals = a.responds.seals;
-  named = a.responds.sends.named;
-  iv = a.responds.sends.iv_is;
+answered-by held request ticket step named (Some error) a = record {
+  uses = responds-uses held request [] None step tt a.responds;
   taken = λ spir. ap (taken_id spir) a.said;
   unreplied = λ spir. ap (replied_in spir task.Receive) a.said;
   unaccepted = λ spir. ap (accepted spir) a.said;
@@ -124,16 +134,13 @@ answered-by held request step (Some error) a = record {
 }
 
 module _ (held now : Held) (id : ℕ) (step : Step) (a : Answered held id step) where
-  uses : (spir : ℕ) → iv_in end.Cluster spir step.seals ≡ (if held.sa.spir == spir then Some held.nexts.iv else None)
-  uses = iv-sealed held held.nexts.iv step a.seal a.seals a.named a.iv
-
   answers : (spir : ℕ) → response_in spir task.Receive step ≡ response_to (if held.sa.spir == spir then Some id else None) step.gives
   answers spir = ap (λ n. response_to n step.gives) (a.taken spir ∙ own-number held counter.Answer spir id)
 
   unused : (spir : ℕ) → (held.sa.spir == spir) ≡ false → (c : Counter) → used_in end.Cluster spir c task.Receive step ≡ None
   unused spir other counter.EspOut = refl
   unused spir other counter.EspIn = refl
-  unused spir other counter.Iv = uses spir ∙ others (held.sa.spir == spir) held.nexts.iv other
+  unused spir other counter.Iv = a.uses spir ∙ others (held.sa.spir == spir) held.nexts.iv other
   unused spir other counter.Ask = refl
   unused spir other counter.Answer = refl
 
@@ -150,18 +157,15 @@ module _ (held now : Held) (id : ℕ) (step : Step) (a : Answered held id step) 
   own_next : after_number (iv_in end.Cluster held.sa.spir step.seals) held.nexts.iv ≡ held.nexts.iv + 1
   own_next =
       let more : max (held.nexts.iv + 1) held.nexts.iv ≡ held.nexts.iv + 1 = omega arith in
-      ap (λ n. after_number n held.nexts.iv) (uses held.sa.spir ∙ mine held held.nexts.iv) ∙ more
+      ap (λ n. after_number n held.nexts.iv) (a.uses held.sa.spir ∙ mine held held.nexts.iv) ∙ more
 
   own_response : response_in held.sa.spir task.Receive step ≡ kept_under id step.gives
   own_response = answers held.sa.spir ∙ ap (λ n. response_to n step.gives) (mine held id)
 
-  answered-advances : (calls : List Call) (high above : ℕ) → AreCoversTo held calls (with_five counter.Iv above (with_five counter.Answer high held.highs))
-      → now ≡ answered_below high above id step held → Advances held task.Receive calls step now
-  answered-advances calls high above covers same =
-      message-advances held now task.Receive calls step (with_five counter.Iv above (with_five counter.Answer high held.highs)) covers of
+  pub answered-advances : (calls : List Call) → AreCoversTo held calls held.highs → now ≡ answered_with id step held → Advances held task.Receive calls step now
+  answered-advances calls covers same = message-advances held now task.Receive calls step held.highs covers of
       (same ∙ sym (λ i. record held {
         nexts = record held.nexts { iv = own_next i };
-        highs = record held.highs { answer = high; iv = above };
         asked = asked_is i;
         answered = with_taken (own_response i) held.answered;
       }))
@@ -169,50 +173,45 @@ module _ (held now : Held) (id : ℕ) (step : Step) (a : Answered held id step) 
       asked_is : outstanding_after false (request_in held.sa.spir task.Receive step) (replied_in held.sa.spir task.Receive step.verdict) held.asked ≡ held.asked
       asked_is = ap (λ r. outstanding_after false None r held.asked) (a.unreplied held.sa.spir)
 
-module _ (held now : Held) (request : Opened) (calls : List Call) (step : Step) where
-  abbrev pub Done : ℕ → ℕ → Type 0
-  Done high above = AnswersRequest (counter_name held.sa counter.Answer) (held_ike held) held.nexts.iv request step ×
-      (now ≡ answered_below high above request.header.id step held)
-
-  -- a request is answered by the rule
-  answers-rule : AnswersNext held request calls step now → HeldAnswers held request calls step
-  answers-rule = with-iv-rule held now counter.Answer request.header.id Done calls step
-      (AnswersRequest (counter_name held.sa counter.Answer) (held_ike held) held.nexts.iv request step) (λ high above d. d.0)
-
-  answers-advances : AnswersNext held request calls step now → Advances held task.Receive calls step now
-  answers-advances = with-iv-elim held now counter.Answer request.header.id Done calls step (Advances held task.Receive calls step now) (λ high. refl)
-      (λ why highs covers says same. raised-refused task.Receive calls step held now highs (refusal_of_stop why) covers says same)
-      (λ high above covers d. answered-advances held now request.header.id step
-      (answered-by held request step (error_of request) d.0) calls high above covers d.1)
-
-  pub answers-are : AnswersNext held request calls step now → HeldAnswers held request calls step × Advances held task.Receive calls step now
-  answers-are it = (answers-rule it, answers-advances it)
+-- the number of the ticket that a step says
+pub ticket-said : (held : Held) (request : Opened) (ticket : Option TicketAnswer) (step : Step) → (ticket ≢ None → error_of request ≡ None) → AnswersHeld held request step ticket
+    → ticket_number step.verdict ≡ number_told (Ok ticket)
+ticket-said held request ticket step due answers = go ticket (error_of request) due answers
+  where
+    go : (ticket : Option TicketAnswer) (error : Option RequestError) → (ticket ≢ None → error ≡ None)
+        → MatchOption error (ExecutesRequest (counter_name held.sa counter.Answer) (held_ike held) held.nexts.iv request ticket step)
+        (λ e. RefusesRequest (counter_name held.sa counter.Answer) (held_ike held) held.nexts.iv request e step) → ticket_number step.verdict ≡ number_told (Ok ticket)
+    go None None due a = ap ticket_number a.said
+    go (Some Declined) None due a = ap ticket_number a.said
+    go (Some (Issued lifetime seal)) None due a = ap ticket_number a.said
+    go None (Some error) due a = ap ticket_number a.said
+    go (Some told) (Some error) due a = let none : Some error ≡ None = due (λ no. cc) in absurd (cc)
 
 -- ---- a response is taken
 
-pub taken-quiet : (name : CounterName) (id : ℕ) (inner : Result (List PayloadValue) Bad) (step : Step) → TakesInner name id inner step → IsQuiet step
+pub taken-quiet : (name : CounterName) (id : ℕ) (inner : Result (List PayloadValue) Bad) (step : Step) → TakesInner KeepsNothing name id inner step → IsQuiet step
 taken-quiet name id (Err bad) step takes = absurd takes
-taken-quiet name id (Ok payloads) step takes = takes.says.quiet
+taken-quiet name id (Ok payloads) step takes = takes.2.says.quiet
 
 pub taken-advances : (held now : Held) (id : ℕ) (step : Step) (inner : Result (List PayloadValue) Bad)
-    → TakesInner (counter_name held.sa counter.Ask) id inner step → now ≡ record held { asked = without_replied (Some id) held.asked }
+    → TakesInner KeepsNothing (counter_name held.sa counter.Ask) id inner step → now ≡ record held { asked = without_replied (Some id) held.asked }
     → Advances held task.Receive [] step now
 taken-advances held now id step (Err bad) takes same = absurd takes
 taken-advances held now id step (Ok payloads) takes same = message-advances held now task.Receive [] step held.highs (vain-covers held [] (none-vain [] refl))
     (record {
-      plain = ap is_of_sync takes.says.said;
-      unused = λ spir other c. used-receiving end.Cluster spir c step takes.says.quiet;
-      unreceived = λ spir. ap (accepted spir) takes.says.said;
+      plain = ap is_of_sync takes.2.says.said;
+      unused = λ spir other c. used-receiving end.Cluster spir c step takes.2.says.quiet;
+      unreceived = λ spir. ap (accepted spir) takes.2.says.said;
       unsent = λ spir other. refl;
       unreplied = λ spir other. replies spir ∙ others (held.sa.spir == spir) id other;
-      unanswered = λ spir other. ap (λ v. response_to (taken_id spir v) step.gives) takes.says.said;
+      unanswered = λ spir other. ap (λ v. response_to (taken_id spir v) step.gives) takes.2.says.said;
     })
     (same ∙ sym (λ i. record held {
-      nexts = five_of (λ c. after_number (used-receiving end.Cluster held.sa.spir c step takes.says.quiet i) (five_at held.nexts c));
+      nexts = five_of (λ c. after_number (used-receiving end.Cluster held.sa.spir c step takes.2.says.quiet i) (five_at held.nexts c));
       highs = held.highs;
       asked = outstanding_after false None ((replies held.sa.spir ∙ mine held id) i) held.asked;
-      answered = with_taken (ap (λ v. response_to (taken_id held.sa.spir v) step.gives) takes.says.said i) held.answered;
+      answered = with_taken (ap (λ v. response_to (taken_id held.sa.spir v) step.gives) takes.2.says.said i) held.answered;
     }))
   where
     replies : (spir : ℕ) → replied_in spir task.Receive step.verdict ≡ (if held.sa.spir == spir then Some id else None)
-    replies spir = ap (replied_in spir task.Receive) takes.says.said ∙ own-number held counter.Ask spir id
+    replies spir = ap (replied_in spir task.Receive) takes.2.says.said ∙ own-number held counter.Ask spir id

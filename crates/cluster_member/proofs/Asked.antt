@@ -1,17 +1,13 @@
 -- What a holding is once a request was sent under the numbers that its horizons gave, or was refused.
-use Rattle.std.proofs.Common.{◌≡◌, ℕ, ◌+◌, ◌≤◌, max, false, Option, Some, None, MatchOption, List, [], ◌∷◌, Result, Ok, Err, ⊎_elim, refl, ap, sym, ◌∙◌, subst, arith}
-use Rattle.std.proofs.lemmas.Bool.{cases_lt}
+use Rattle.std.proofs.Common.{◌≡◌, ℕ, ◌+◌, ◌≤◌, max, false, Option, None, List, Result, Ok, Err, refl, ap, sym, ◌∙◌, subst, arith}
 use Rattle.events.specs.declared.turn.Step.{Step}
 use Rattle.events.specs.declared.verdict.Verdict.TheVariants as out
 use Rattle.horizons.specs.Reaches.{IsSameCounter, Reach}
-use Rattle.horizons.specs.Ready.{Answered, Covers, Ready, next_number}
-use Rattle.horizons.specs.Stops.{stop_of}
+use Rattle.horizons.specs.Ready.{Ready, next_number}
 use Rattle.horizons.specs.declared.stop.Stop.{Stop}
 use Rattle.ike_sas.specs.Held.{IkeHeld}
-use Rattle.keeper_book.specs.Told.{seen}
+use Rattle.ike_values.specs.Values.{PayloadValue}
 use Rattle.keeper_book.specs.declared.calls.Call.{Call}
-use Rattle.keeper_book.specs.declared.calls.KeeperAnswer.{KeeperAnswer}
-use Rattle.keeper_book.specs.declared.calls.KeeperAnswer.TheVariants as answer
 use Rattle.keeper_book.specs.declared.counters.Counter.{Counter}
 use Rattle.keeper_book.specs.declared.counters.Counter.TheVariants as counter
 use Rattle.keeper_book.specs.declared.records.Record.{Record}
@@ -26,6 +22,7 @@ use Rattle.turn_rules.specs.Packets.{Inbound, Outbound}
 use Rattle.turn_rules.specs.Steps.{Says}
 use Rattle.turn_rules.specs.Tasks as task
 use Rattle.cluster_member.proofs.HeldMessages.{held_ike-is}
+use Rattle.cluster_member.proofs.Readying.{ready-any}
 use Rattle.cluster_member.proofs.Requests.{next-is}
 use Rattle.cluster_member.proofs.UsingIv.{uses-given, uses-stopped}
 use Rattle.cluster_member.specs.Holdings.{IsHolding, IsHorizon}
@@ -34,26 +31,6 @@ use Rattle.cluster_member.proofs.Uses.{AsksNext, asked_below}
 use Rattle.cluster_member.specs.Advances.{Advances}
 
 -- ---- the first of two horizons goes on at the same number
-
-module _ {P : Type 0} where
-  answered-any : (answered : KeeperAnswer) → Answered answered (λ why. P) P → P
-  answered-any answer.Done a = a
-  answered-any (answer.Taken taken) a = absurd a
-  answered-any (answer.First first) a = absurd a
-  answered-any (answer.Look spent) a = absurd a
-  answered-any (answer.Refused fault) a = go (stop_of fault) a
-    where
-      go : (x : Option Stop) → MatchOption x ⊥ (λ why. P) → P
-      go None a = absurd a
-      go (Some why) a = a
-
-  covers-any : (h : Reach) (at : ℕ) (calls : List Call) → Covers h at calls (λ why rest. P) (λ high rest. P) → P
-  covers-any h at [] c = absurd c
-  covers-any h at (call ∷ rest) c = answered-any (seen call) c.1
-
-  -- what follows in each case
-  ready-any : (h : Reach) (at : ℕ) (calls : List Call) → Ready h at calls (λ why rest. P) (λ high rest. P) → P
-  ready-any h at calls r = ⊎_elim r.within (λ low. ⊎_elim (λ below. covers-any h at calls (r.asked low below)) (r.ended low) (cases_lt at h.end)) (cases_lt at h.high)
 
 module _ (one other one_now other_now : Reach) (at : ℕ) (calls : List Call) (result : Result Drawn Stop) where
   pub same-next : ReadiesBoth one at other calls result one_now other_now → one_now.next ≡ one.next
@@ -137,7 +114,7 @@ module _ (sa : Record) (epoch : ℕ) (esp_out esp_in iv ask answer : Reach) (out
     }
 
   module _ (ask_now iv_now : Reach) (calls : List Call) (result : Result Drawn Stop) (both : ReadiesBoth ask ask.next iv calls result ask_now iv_now) where
-    pub asks-stopped : (was : Held) → held ≡ was → (request : List ℕ) (step : Step) (why : Stop) → result ≡ Err why → Says (out.Refused (refusal_of_stop why)) step
+    pub asks-stopped : (was : Held) → held ≡ was → (request : List PayloadValue) (step : Step) (why : Stop) → result ≡ Err why → Says (out.Refused (refusal_of_stop why)) step
         → HeldSendsRequest was request calls step × Advances was (task.Ask was.sa.spir request) calls step (holding_of iv_now ask_now ike)
     asks-stopped was view request step why stopped says = next-is was (holding_of iv_now ask_now ike) request calls step (subst (λ h. AsksNext h request calls step (holding_of iv_now ask_now ike)) view (uses-stopped held (holding_of iv_now ask_now ike) counter.Ask ask.next
         (λ high above. SendsRequest (held_ike held) ask.next iv.next request step × (holding_of iv_now ask_now ike ≡ asked_below high above step held)) calls step ask iv ask_now iv_now result ask_reach iv_reach both
@@ -177,7 +154,7 @@ module _ (sa : Record) (epoch : ℕ) (esp_out esp_in iv ask answer : Reach) (out
             answered_from = subst (λ (m : IkeHeld). answer.base ≤ m.answered.low) (sym messages) is.answered_from;
           }
 
-      pub asks-next : (was : Held) → held ≡ was → (request : List ℕ) (number : Drawn) → result ≡ Ok number → SendsRequest ike ask.next iv.next request step
+      pub asks-next : (was : Held) → held ≡ was → (request : List PayloadValue) (number : Drawn) → result ≡ Ok number → SendsRequest ike ask.next iv.next request step
           → HeldSendsRequest was request calls step × Advances was (task.Ask was.sa.spir request) calls step (holding_of iv_now jumped ike_now)
       asks-next was view request number given sends = next-is was (holding_of iv_now jumped ike_now) request calls step (subst (λ h. AsksNext h request calls step (holding_of iv_now jumped ike_now)) view (uses-given held (holding_of iv_now jumped ike_now) counter.Ask ask.next
           (λ high above. SendsRequest (held_ike held) ask.next iv.next request step × (holding_of iv_now jumped ike_now ≡ asked_below high above step held)) calls step ask iv ask_now iv_now result ask_reach iv_reach both

@@ -12,7 +12,7 @@ use Rattle.keeper_book.specs.declared.records.Taken.{Taken}
 use Rattle.turn_rules.proofs.NoSynchronisation.{is_of_sync}
 use Rattle.turn_rules.proofs.Readies.{AreCovers, AreVain}
 use Rattle.turn_rules.proofs.Ties.{five_at-five_of, greatest-max}
-use Rattle.turn_rules.specs.Held.{Held, after_number, after_received, covered, covers_in, first_some, five_of, grant_in, granted, greatest, received_in, used_in}
+use Rattle.turn_rules.specs.Held.{Held, advanced, after_number, after_received, covered, covers_in, first_some, five_of, grant_in, granted, greatest, received_in, used_in}
 use Rattle.turn_rules.specs.IkeState.{outstanding_after, replied_in, request_in, response_in, with_taken}
 use Rattle.turn_rules.specs.Tasks.{Task}
 use Rattle.cluster_member.proofs.Plain.{plain-advanced}
@@ -47,25 +47,38 @@ grant-then spir (x ∷ xs) ys first second = go (λ none. grant-then spir xs ys 
     go later None first = later first
     go later (Some taken) first = absurd (cc)
 
--- calls after calls
-pub then-covers : (held : Held) (xs ys : List Call) (mid highs : Five) → AreCoversTo held xs mid → AreCoversTo (record held { highs = mid }) ys highs
-    → AreCoversTo held (xs ++ ys) highs
-then-covers held xs ys mid highs first second = record {
-  no_grant = λ spir. grant-then spir xs ys (first.no_grant spir) (second.no_grant spir);
-  elsewhere = λ spir other c. filter_map-append (covers_by spir c) xs ys ∙ ap (λ ns. ns ++ covers_in spir c ys)
-      (first.elsewhere spir other c) ∙ second.elsewhere spir other c;
-  here = (λ i. five_of (λ c. each c i)) ∙ second.here;
-}
-  where
-    covers_by : ℕ → Counter → Call → Option ℕ
-    covers_by spir c call = covered spir c call.asked (seen call)
+abbrev covers_by : ℕ → Counter → Call → Option ℕ
+covers_by spir c call = covered spir c call.asked (seen call)
 
-    each : (c : Counter) → greatest (five_at held.highs c) (covers_in held.sa.spir c (xs ++ ys)) ≡ greatest (five_at mid c) (covers_in held.sa.spir c ys)
-    each c =
-        ap (greatest (five_at held.highs c)) (filter_map-append (covers_by held.sa.spir c) xs ys)
-        ∙ greatest-then (five_at held.highs c) (covers_in held.sa.spir c xs) (covers_in held.sa.spir c ys)
-        ∙ ap (λ least. greatest least (covers_in held.sa.spir c ys))
-        (sym (five_at-five_of (λ d. greatest (five_at held.highs d) (covers_in held.sa.spir d xs)) c) ∙ ap (λ f. five_at f c) first.here)
+-- calls after calls
+module _ (held : Held) (xs ys : List Call) (mid : Five) (first : AreCoversTo held xs mid) where
+  elsewhere-then : (spir : ℕ) → (held.sa.spir == spir) ≡ false → (c : Counter) → covers_in spir c (xs ++ ys) ≡ covers_in spir c ys
+  elsewhere-then spir other c = filter_map-append (covers_by spir c) xs ys ∙ ap (λ ns. ns ++ covers_in spir c ys) (first.elsewhere spir other c)
+
+  here-then : (c : Counter) → greatest (five_at held.highs c) (covers_in held.sa.spir c (xs ++ ys)) ≡ greatest (five_at mid c) (covers_in held.sa.spir c ys)
+  here-then c =
+      ap (greatest (five_at held.highs c)) (filter_map-append (covers_by held.sa.spir c) xs ys)
+      ∙ greatest-then (five_at held.highs c) (covers_in held.sa.spir c xs) (covers_in held.sa.spir c ys)
+      ∙ ap (λ least. greatest least (covers_in held.sa.spir c ys))
+      (sym (five_at-five_of (λ d. greatest (five_at held.highs d) (covers_in held.sa.spir d xs)) c) ∙ ap (λ f. five_at f c) first.here)
+
+  pub then-covers : (highs : Five) → AreCoversTo (record held { highs = mid }) ys highs → AreCoversTo held (xs ++ ys) highs
+  then-covers highs second = record {
+    no_grant = λ spir. grant-then spir xs ys (first.no_grant spir) (second.no_grant spir);
+    elsewhere = λ spir other c. elsewhere-then spir other c ∙ second.elsewhere spir other c;
+    here = (λ i. five_of (λ c. here-then c i)) ∙ second.here;
+  }
+
+  -- what a task makes of what is held behind calls that covered it
+  pub then-advances : (asked : Task) (step : Step) (new : Held) → Advances (record held { highs = mid }) asked ys step new
+      → Advances held asked (xs ++ ys) step new
+  then-advances asked step new second = record {
+    no_grant = λ spir. grant-then spir xs ys (first.no_grant spir) (second.no_grant spir);
+    now = second.now ∙ sym (λ i. record (advanced held.sa.spir asked ys step held) { highs = five_of (λ c. here-then c i) });
+    elsewhere = λ spir other there.
+        (λ i. record (advanced spir asked ys step there) { highs = five_of (λ c. greatest (five_at there.highs c) (elsewhere-then spir other c i)) })
+        ∙ second.elsewhere spir other there;
+  }
 
 -- a turn that is of one association, and none of a synchronisation: it used no number, received no packet, and sent, ended and answered no request of another one
 pub record IsOf (mine : ℕ) (asked : Task) (step : Step) : Type 0 where

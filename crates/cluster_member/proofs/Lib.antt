@@ -7,9 +7,12 @@ pub mod Covering
 pub mod GenuineLaws
 pub mod HeldMessages
 pub mod KeySizes
+pub mod MemberAfter
 pub mod PlaceLemmas
 pub mod Placed
 pub mod Plain
+pub mod ReadyAnswers
+pub mod RequestAnswers
 pub mod Readying
 pub mod ReceiverLemmas
 pub mod Requests
@@ -19,5 +22,6 @@ pub mod SyncSent
 pub mod SyncTaken
 pub mod SyncTakes
 pub mod Taking
+pub mod Unticketed
 pub mod Uses
 pub mod UsingIv

@@ -1,5 +1,5 @@
 -- A number is made ready, and then another one.
-use Rattle.std.proofs.Common.{◌≡◌, ℕ, ◌+◌, ◌<◌, ◌≤◌, ◌++◌, Option, Some, None, MatchOption, List, [], ◌∷◌, Result, Ok, Err, ⊎_elim, refl, subst, sym, arith}
+use Rattle.std.proofs.Common.{◌≡◌, ℕ, ◌+◌, ◌<◌, ◌≤◌, ◌++◌, Option, Some, None, MatchOption, List, [], ◌∷◌, Result, Ok, Err, ⊎_elim, refl, subst, sym, arith, ap, ◌∙◌}
 use Rattle.std.proofs.lemmas.Bool.{cases_lt}
 use Rattle.events.specs.declared.turn.Step.{Step}
 use Rattle.events.specs.declared.verdict.Verdict.TheVariants as out
@@ -20,10 +20,10 @@ use Rattle.turn_rules.proofs.Readies.{AreCovers, AreVain, ready-elim, ready-map}
 use Rattle.turn_rules.specs.Draws.{reach_of, refusal_of_stop}
 use Rattle.turn_rules.specs.Held.{Held}
 use Rattle.turn_rules.specs.Steps.{Says}
-use Rattle.cluster_member.specs.Numbers.{LeavesBoth, ReadiesBoth}
+use Rattle.cluster_member.specs.Numbers.{CoversBoth, LeavesBoth, ReadiesBoth}
 
 -- what follows an answer, in other words
-answered-onto : {P Q : Stop → Type 0} {A B : Type 0} → ((why : Stop) → P why → Q why) → (A → B) → (answered : KeeperAnswer) → Answered answered P A
+pub answered-onto : {P Q : Stop → Type 0} {A B : Type 0} → ((why : Stop) → P why → Q why) → (A → B) → (answered : KeeperAnswer) → Answered answered P A
     → Answered answered Q B
 answered-onto stops goes answer.Done a = goes a
 answered-onto stops goes (answer.Taken taken) a = absurd a
@@ -39,7 +39,7 @@ answered-onto {P} {Q} stops goes (answer.Refused fault) a = go (stop_of fault) a
 module _ {P Q : Stop → List Call → Type 0} {G H : ℕ → List Call → Type 0} (more : List Call)
     (stops : (why : Stop) (rest : List Call) → P why rest → Q why (rest ++ more))
     (goes : (high : ℕ) (rest : List Call) → G high rest → H high (rest ++ more)) where
-  ready-then : (h : Reach) (at : ℕ) (calls : List Call) → Ready h at calls P G → Ready h at (calls ++ more) Q H
+  pub ready-then : (h : Reach) (at : ℕ) (calls : List Call) → Ready h at calls P G → Ready h at (calls ++ more) Q H
   ready-then h at calls r = record {
     within = λ w. goes h.high calls (r.within w);
     ended = λ l e. stops stop.Exhausted calls (r.ended l e);
@@ -60,9 +60,9 @@ pub same-refusal : (result : Result Drawn Stop) (stopped why : Stop) (step : Ste
     → Says (out.Refused (refusal_of_stop stopped)) step → Says (out.Refused (refusal_of_stop why)) step
 same-refusal result stopped why step is other = let same : stopped ≡ why = cc in subst (λ s. Says (out.Refused (refusal_of_stop s)) step) same
 
-same-stop : (admitted : Result (Unit {0}) Stop) (result : Result Drawn Stop) (e why : Stop) → admitted ≡ Err e → result ≡ Err e → admitted ≡ Err why
+same-stop : {T : Type 0} (admitted : Result (Unit {0}) Stop) (result : Result T Stop) (e why : Stop) → admitted ≡ Err e → result ≡ Err e → admitted ≡ Err why
     → result ≡ Err why
-same-stop admitted result e why is gives other = cc
+same-stop admitted result e why is gives other = let same : e ≡ why = cc in gives ∙ ap Err same
 
 module _ (old new iv iv_new : Reach) (at : ℕ) (xs : List Call) (admitted : Result (Unit {0}) Stop) (result : Result Drawn Stop)
     (first : Readies old at xs admitted new) where
@@ -143,3 +143,60 @@ module _ (held : Held) (c : Counter) (at : ℕ) (S : Stop → List Call → Type
     where
       none : Ready (reach_of held c) at [] (λ why none. (none ≡ []) × S why calls) (λ high none. (none ≡ []) × G high calls) → P
       none = with-few [] calls stops goes
+
+-- ---- what follows in each case of a number that is made ready
+
+module _ {P : Type 0} where
+  pub answered-any : (answered : KeeperAnswer) → Answered answered (λ why. P) P → P
+  answered-any answer.Done a = a
+  answered-any (answer.Taken taken) a = absurd a
+  answered-any (answer.First first) a = absurd a
+  answered-any (answer.Look spent) a = absurd a
+  answered-any (answer.Refused fault) a = go (stop_of fault) a
+    where
+      go : (x : Option Stop) → MatchOption x ⊥ (λ why. P) → P
+      go None a = absurd a
+      go (Some why) a = a
+
+  covers-any : (h : Reach) (at : ℕ) (calls : List Call) → Covers h at calls (λ why rest. P) (λ high rest. P) → P
+  covers-any h at [] c = absurd c
+  covers-any h at (call ∷ rest) c = answered-any (seen call) c.1
+
+  -- what follows in each case
+  pub ready-any : (h : Reach) (at : ℕ) (calls : List Call) → Ready h at calls (λ why rest. P) (λ high rest. P) → P
+  ready-any h at calls r = ⊎_elim r.within (λ low. ⊎_elim (λ below. covers-any h at calls (r.asked low below)) (r.ended low) (cases_lt at h.end)) (cases_lt at h.high)
+
+-- ---- both are made ready, and none is given
+
+module _ (old new iv iv_new : Reach) (at : ℕ) (xs : List Call) (admitted result : Result (Unit {0}) Stop) (first : Readies old at xs admitted new) where
+  -- the number stops
+  pub covers-first : (e : Stop) → admitted ≡ Err e → result ≡ Err e → CoversBoth old at iv xs result new iv
+  covers-first e is gives = ready-map
+      {P = λ why rest. Leaves rest admitted (Err why) new old}
+      {G = λ high rest. Leaves rest admitted (Ok tt) new (record old { high = high })}
+      (λ why rest l. record { no_more = l.no_more; answered = same-stop admitted result e why is gives l.answered; first_after = l.after; second_after = refl })
+      (λ high rest l. absurd (no-stop admitted e l.answered is))
+      old at xs first
+
+  -- what is left once it is ready
+  abbrev Covered : ℕ → List Call → Type 0
+  Covered high rest = Ready iv iv.next rest
+      (λ why rest. LeavesBoth rest result (Err why) new (record old { high = high }) iv_new iv)
+      (λ iv_high rest. LeavesBoth rest result (Ok tt) new (record old { high = high }) iv_new (record iv { high = iv_high }))
+
+  -- the number is ready, and the next IV is asked for
+  pub covers-both : (ys : List Call) → admitted ≡ Ok tt → Readies iv iv.next ys result iv_new → CoversBoth old at iv (xs ++ ys) result new iv_new
+  covers-both ys is next = ready-then
+      {P = λ why rest. Leaves rest admitted (Err why) new old}
+      {Q = λ why rest. LeavesBoth rest result (Err why) new old iv_new iv}
+      {G = λ high rest. Leaves rest admitted (Ok tt) new (record old { high = high })}
+      {H = Covered}
+      ys
+      (λ why rest l. absurd (no-stop admitted why is l.answered))
+      (λ high rest l. subst (λ r. Covered high (r ++ ys)) (sym l.no_more) (ready-map
+      {P = λ why rest. Leaves rest result (Err why) iv_new iv}
+      {G = λ iv_high rest. Leaves rest result (Ok tt) iv_new (record iv { high = iv_high })}
+      (λ why rest m. record { no_more = m.no_more; answered = m.answered; first_after = l.after; second_after = m.after })
+      (λ iv_high rest m. record { no_more = m.no_more; answered = m.answered; first_after = l.after; second_after = m.after })
+      iv iv.next ys next))
+      old at xs first

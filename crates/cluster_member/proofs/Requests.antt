@@ -11,6 +11,7 @@ use Rattle.ike_window.specs.Asking.{FitsBeside, IsLeast}
 use Rattle.ike_window.specs.Kept.{message_ids_of}
 use Rattle.ike_window.specs.declared.TheConstants.{WINDOW}
 use Rattle.keeper_book.specs.Counters.{five_at, with_five}
+use Rattle.ike_values.specs.Values.{PayloadValue}
 use Rattle.keeper_book.specs.declared.calls.Call.{Call}
 use Rattle.keeper_book.specs.declared.counters.Counter.{Counter}
 use Rattle.keeper_book.specs.declared.counters.Counter.TheVariants as counter
@@ -22,9 +23,9 @@ use Rattle.turn_rules.specs.Draws.{refusal_of_stop}
 use Rattle.turn_rules.specs.Held.{Held, after_number, first_some, five_of, iv_in, received_in, said_in, used_in}
 use Rattle.turn_rules.specs.CountersOf.{is_of_spir}
 use Rattle.turn_rules.specs.IkeState.{with_taken, kept_under, outstanding_after, replied_in, request_in, request_sent, sealed_iv}
-use Rattle.turn_rules.specs.MemberMessages.{HeldAsks, HeldSendsRequest, RefusesThen, held_ike}
+use Rattle.turn_rules.specs.MemberMessages.{HeldAsks, HeldSendsRequest, held_ike}
 use Rattle.turn_rules.specs.Messages.{SendsRequest, Windowed}
-use Rattle.turn_rules.specs.Steps.{Says}
+use Rattle.turn_rules.specs.Steps.{RefusesThen, Says}
 use Rattle.turn_rules.specs.Tasks as task
 use Rattle.turn_rules.specs.Tasks.{Task}
 use Rattle.cluster_member.proofs.Advancing.{refused-advances}
@@ -37,7 +38,7 @@ first-only : (b : Bool) (n : ℕ) → first_some (if b then Some n else None) No
 first-only true n = refl
 first-only false n = refl
 
-module _ (request : List ℕ) (calls : List Call) (step : Step) (held now : Held)
+module _ (request : List PayloadValue) (calls : List Call) (step : Step) (held now : Held)
     (sends : SendsRequest (held_ike held) held.nexts.ask held.nexts.iv request step) where
   abbrev asked : Task
   asked = task.Ask held.sa.spir request
@@ -121,7 +122,7 @@ raised-refused asked calls step held now highs why covers says same = message-ad
 
 -- ---- a request by the rule
 
-module _ (held now : Held) (request : List ℕ) (calls : List Call) (step : Step) where
+module _ (held now : Held) (request : List PayloadValue) (calls : List Call) (step : Step) where
   abbrev Sends : ℕ → ℕ → Type 0
   Sends high above = SendsRequest (held_ike held) held.nexts.ask held.nexts.iv request step × (now ≡ asked_below high above step held)
 
@@ -137,7 +138,7 @@ module _ (held now : Held) (request : List ℕ) (calls : List Call) (step : Step
   next-is it = (next-rule it, next-advances it)
 
 -- what the tests of the epoch and of the window leave
-module _ (held : Held) (request : List ℕ) (calls : List Call) (step : Step) where
+module _ (held : Held) (request : List PayloadValue) (calls : List Call) (step : Step) where
   abbrev Tested : Bool → Type 0
   Tested b = MatchBool b
       (Windowed (held_ike held) held.nexts.ask (λ least. RefusesThen (refusal.WindowFull least) calls step) (HeldSendsRequest held request calls step))
@@ -148,7 +149,7 @@ module _ (held : Held) (request : List ℕ) (calls : List Call) (step : Step) wh
 
 -- ---- a request that is refused before a call
 
-module _ (held now : Held) (request : List ℕ) (step : Step) (same : now ≡ held) where
+module _ (held now : Held) (request : List PayloadValue) (step : Step) (same : now ≡ held) where
   refused : (why : Refusal) → Says (out.Refused why) step → Advances held (task.Ask held.sa.spir request) [] step now
   refused why says = refused-advances (task.Ask held.sa.spir request) [] step held now why (none-vain [] refl) says same
 

@@ -16,9 +16,9 @@ use Rattle.spend_once.specs.Lot.{Drawn}
 use Rattle.turn_rules.proofs.Readies.{none-vain}
 use Rattle.turn_rules.specs.Draws.{refusal_of_stop}
 use Rattle.turn_rules.specs.Held.{Held}
-use Rattle.turn_rules.specs.MemberMessages.{HeldSyncs, ReadiesWithIv, RefusesThen, SendsSync, sync_id}
+use Rattle.turn_rules.specs.MemberMessages.{HeldSyncs, ReadiesWithIv, SendsSync, sync_id}
 use Rattle.turn_rules.specs.Packets.{Inbound, Outbound}
-use Rattle.turn_rules.specs.Steps.{Says}
+use Rattle.turn_rules.specs.Steps.{RefusesThen, Says}
 use Rattle.turn_rules.specs.Tasks as task
 use Rattle.cluster_member.proofs.Advancing.{refused-advances}
 use Rattle.cluster_member.proofs.Asked.{ask_reach, held, holding-stopped, holding_of, iv_reach, same-next}

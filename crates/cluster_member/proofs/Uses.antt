@@ -11,15 +11,16 @@ use Rattle.keeper_book.specs.Counters.{five_at, with_five}
 use Rattle.keeper_book.specs.declared.calls.Call.{Call}
 use Rattle.keeper_book.specs.declared.counters.Counter.{Counter}
 use Rattle.keeper_book.specs.declared.counters.Counter.TheVariants as counter
-use Rattle.sk_payload.specs.declared.open.Opened.{Opened}
+use Rattle.ike_values.specs.Values.{PayloadValue}
+use Rattle.cluster_member.specs.Answering.{covered_below}
 use Rattle.turn_rules.specs.Draws.{counter_name, reach_of, refusal_of_stop}
 use Rattle.turn_rules.specs.Held.{Held}
-use Rattle.turn_rules.specs.IkeState.{kept_under, outstanding_after, with_taken}
-use Rattle.turn_rules.specs.MemberMessages.{RefusesThen, held_ike}
+use Rattle.turn_rules.specs.IkeState.{kept_under, outstanding_after}
+use Rattle.turn_rules.specs.MemberMessages.{held_ike}
 use Rattle.turn_rules.specs.MemberPackets.{inbound_of, outbound_of}
-use Rattle.turn_rules.specs.Messages.{AnswersRequest, SendsRequest}
+use Rattle.turn_rules.specs.Messages.{SendsRequest}
 use Rattle.turn_rules.specs.Packets.{SendsEsp, noted}
-use Rattle.turn_rules.specs.Steps.{Says}
+use Rattle.turn_rules.specs.Steps.{RefusesThen, Says}
 
 -- what is held once the next ESP number was used below this high
 abbrev pub sent_below : ℕ → Held → Held
@@ -62,10 +63,6 @@ Notes held (Ok packet) calls answer now = Ready (reach_of held counter.EspIn) pa
     (λ high rest. (rest ≡ []) × (answer ≡ esp.Accepted (counter_name held.sa counter.EspIn) packet)
     × (now ≡ received_below packet.number high held))
 
--- what is held once numbers of a counter were covered below this high
-abbrev pub covered_below : Counter → ℕ → Held → Held
-covered_below c high held = record held { highs = with_five c high held.highs }
-
 -- a number is made ready, and then the next IV, and this is done below both highs; what was covered
 -- first stays so where the IV is refused
 abbrev pub UsesWithIv : Held → Counter → ℕ → (ℕ → ℕ → Type 0) → List Call → Step → Held → Type 0
@@ -84,22 +81,7 @@ asked_below high above step held = record held {
 }
 
 -- a request is sent under the next Message ID and the next IV, once both are ready
-abbrev pub AsksNext : Held → List ℕ → List Call → Step → Held → Type 0
-AsksNext held request calls step now = UsesWithIv held counter.Ask held.nexts.ask (λ high above.
-    SendsRequest (held_ike held) held.nexts.ask held.nexts.iv request step
+abbrev pub AsksNext : Held → List PayloadValue → List Call → Step → Held → Type 0
+AsksNext held payloads calls step now = UsesWithIv held counter.Ask held.nexts.ask (λ high above.
+    SendsRequest (held_ike held) held.nexts.ask held.nexts.iv payloads step
     × (now ≡ asked_below high above step held)) calls step now
-
--- what is held once a request of this Message ID was answered under the next IV, below these highs
-abbrev pub answered_below : ℕ → ℕ → ℕ → Step → Held → Held
-answered_below high above id step held = record held {
-  nexts = record held.nexts { iv = held.nexts.iv + 1 };
-  highs = record held.highs { answer = high; iv = above };
-  answered = with_taken (kept_under id step.gives) held.answered;
-}
-
--- a new request is answered under the next IV, once its Message ID and the IV are ready
-abbrev pub AnswersNext : Held → Opened → List Call → Step → Held → Type 0
-AnswersNext held request calls step now =
-    UsesWithIv held counter.Answer request.header.id (λ high above.
-    AnswersRequest (counter_name held.sa counter.Answer) (held_ike held) held.nexts.iv request step
-    × (now ≡ answered_below high above request.header.id step held)) calls step now

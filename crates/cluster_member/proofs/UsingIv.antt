@@ -14,11 +14,12 @@ use Rattle.spend_once.specs.Lot.{Drawn}
 use Rattle.turn_rules.proofs.Readies.{ready-map}
 use Rattle.turn_rules.specs.Draws.{reach_of, refusal_of_stop}
 use Rattle.turn_rules.specs.Held.{Held}
-use Rattle.turn_rules.specs.MemberMessages.{ReadiesWithIv, RefusesThen}
-use Rattle.turn_rules.specs.Steps.{Says}
+use Rattle.turn_rules.specs.MemberMessages.{ReadiesWithIv}
+use Rattle.turn_rules.specs.Steps.{RefusesThen, Says}
 use Rattle.cluster_member.proofs.Covering.{AreCoversTo, one-covers, then-covers, vain-covers}
 use Rattle.cluster_member.proofs.Readying.{no-number, ready-first, same-refusal}
-use Rattle.cluster_member.proofs.Uses.{UsesWithIv, covered_below}
+use Rattle.cluster_member.proofs.Uses.{UsesWithIv}
+use Rattle.cluster_member.specs.Answering.{covered_below}
 use Rattle.cluster_member.specs.Numbers.{LeavesBoth, ReadiesBoth}
 
 -- two horizons are those of what is held
@@ -107,7 +108,7 @@ module _ (held now : Held) (c : Counter) (at : ℕ) (done : ℕ → ℕ → Type
             → AreCoversTo held calls highs
         all few more here none highs second =
             subst (λ cs. AreCoversTo held cs highs) (sym (is ∙ ap (λ r. first ++ r) (here ∙ ends few more none)))
-            (then-covers held first few (with_five c high held.highs) highs covers second)
+            (then-covers held first few (with_five c high held.highs) covers highs second)
 
     pub with-iv-elim : UsesWithIv held c at done calls step now → P
     with-iv-elim = ready-first held c at

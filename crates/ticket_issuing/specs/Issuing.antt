@@ -4,6 +4,7 @@ use Rattle.aes_gcm.specs.NamedKey.{NamedKey}
 use Rattle.events.specs.declared.seals.Seal.{Seal}
 use Rattle.events.specs.declared.turn.Step.{Step}
 use Rattle.events.specs.declared.verdict.Refusal.{Refusal}
+use Rattle.events.specs.declared.verdict.Refusal.TheVariants as refusal
 use Rattle.events.specs.declared.verdict.Verdict.TheVariants as out
 use Rattle.ha_base.specs.Octets.{WithRoom}
 use Rattle.ha_base.specs.declared.outside.Moment.{Moment}
@@ -12,6 +13,8 @@ use Rattle.ike_sas.specs.declared.ticket_messages.TicketAnswer.{TicketAnswer}
 use Rattle.ike_sas.specs.declared.ticket_messages.TicketAnswer.TheVariants.{Declined, Issued}
 use Rattle.keeper_book.specs.declared.calls.Call.{Call}
 use Rattle.keeper_book.specs.declared.counters.Counter.{Counter}
+use Rattle.keeper_book.specs.declared.faults.KeeperFault.{KeeperFault}
+use Rattle.keeper_book.specs.declared.faults.KeeperFault.TheVariants as fault
 use Rattle.keeper_book.specs.declared.records.Record.{Record}
 use Rattle.sk_payload.specs.declared.open.Opened.{Opened}
 use Rattle.spend_once.specs.Lot.{Remaining}
@@ -75,6 +78,12 @@ pub record Issues (key : NamedKey) (lifetime : ℕ) (now : Moment) (sa : Record)
 abbrev pub IsOfFirstKey : TicketAnswer → Type 0
 IsOfFirstKey (Issued lifetime seal) = seal.name ≡ first_ticket_counter
 IsOfFirstKey Declined = Unit {0}
+
+-- what is told where no number was leased
+abbrev pub TellsNoNumber : KeeperFault → Result (Option TicketAnswer) Refusal → Type 0
+TellsNoNumber (fault.Full limit) result = result ≡ Ok (Some Declined)
+TellsNoNumber fault.Failed result = result ≡ Err refusal.KeeperFault
+TellsNoNumber other result = ⊥
 
 -- the number of the ticket that is given
 abbrev pub number_told : Result (Option TicketAnswer) Refusal → Option ℕ

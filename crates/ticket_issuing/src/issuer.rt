@@ -2,7 +2,11 @@ ghost use Rattle.std.specs.Prelude.{◌≡◌, ◌<◌, true, IfOk, IfSome, IsSo
 ghost use Rattle.ha_base.specs.declared.limits.TheConstants.{NUMBER_END};
 ghost use Rattle.ike_sas.specs.TicketMessages.{IsShortTicket, is_ticket_due};
 ghost use Rattle.keeper_book.specs.Asks.{AsksFor};
-ghost use Rattle.ticket_issuing.specs.Issuing.{IsOfFirstKey, IsRoomFor, IsTicketCounter, TellsDue, TellsOf};
+ghost use Rattle.keeper_book.specs.Told.{IsRefusalOf};
+ghost use Rattle.keeper_book.specs.declared.calls.KeeperAsk.TheVariants as ask;
+ghost use Rattle.keeper_book.specs.declared.pools.Pool.TheVariants as pool;
+ghost use Rattle.pool_lots.specs.declared.lots.TheConstants.{LEASED_NUMBERS};
+ghost use Rattle.ticket_issuing.specs.Issuing.{IsOfFirstKey, IsRoomFor, IsTicketCounter, TellsDue, TellsNoNumber, TellsOf};
 ghost use Rattle.turn_rules.specs.Configurations.{first_ticket_counter};
 ghost use Rattle.turn_rules.specs.TicketNumbers.{no_ticket_numbers};
 
@@ -50,6 +54,19 @@ fn first_ticket_counter() -> CounterName
         kind: Kind::TicketIv,
         child: 0,
         end: End::Cluster,
+    }
+}
+
+/// What is told where no number was leased: that there is no ticket, where the pool is used up. A
+/// failed call refuses the request.
+fn without_number(why: KeeperFault) -> Result<Option<TicketAnswer>, Refusal>
+    requires { IsRefusalOf (ask.Lease pool.Ticket LEASED_NUMBERS) why }
+    ensures { TellsNoNumber why result }
+{
+    match why {
+        KeeperFault::Full(_) => Ok(Some(TicketAnswer::Declined)),
+        KeeperFault::Failed => Err(Refusal::KeeperFault),
+        _ => unreachable!(),
     }
 }
 
@@ -127,9 +144,10 @@ impl Issuer {
             return Ok(Some(TicketAnswer::Declined));
         };
         match draw_pooled(keeper, Pool::Ticket, &mut self.numbers) {
-            Ok(number) => Ok(Some(issue_in(room, key, self.lifetime, number, now, sa))),
-            Err(KeeperFault::Full(_)) => Ok(Some(TicketAnswer::Declined)),
-            Err(_) => Err(Refusal::KeeperFault),
+            Ok(number) => {
+                return Ok(Some(issue_in(room, key, self.lifetime, number, now, sa)));
+            }
+            Err(why) => return without_number(why),
         }
     }
 }

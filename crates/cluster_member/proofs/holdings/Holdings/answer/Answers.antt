@@ -6,6 +6,7 @@ use Rattle.ike_window.specs.Windows.{IsAnswered}
 use Rattle.turn_rules.specs.Held.{held_at}
 use Rattle.turn_rules.specs.MemberMessages.{HeldAnswers, of_spii}
 use Rattle.turn_rules.specs.Tasks as task
+use Rattle.ticket_issuing.specs.Issuing.{member_issuing}
 use Rattle.cluster_member.proofs.AtPlace.{found-here, holds-here, stays-apart}
 use Rattle.cluster_member.proofs.Arriving.{found-there}
 use Rattle.cluster_member.proofs.PlaceLemmas.{found_at}
@@ -32,8 +33,8 @@ invariant_of-self g c =
     let place : IsHoldingPlace spir c.in-Some.place items = rw c.deref.ensures.value at c.in-Some.ensures in
     stays-apart spir c.in-Some.place items held new place c.index_mut-holding.ensures.value c.answer.ensures.sa c.self.invariant
 
-pub returns-clause-takes : goal.returns-clause-takes
-returns-clause-takes g c =
+pub returns-clause-answers : goal.returns-clause-answers
+returns-clause-answers g c =
     let items = c.self.inside.items.items in
     let held = c.index_mut-holding.result.now in
     let new = c.answer.new.self in
@@ -47,10 +48,11 @@ returns-clause-takes g c =
     let named : of_spii request.header.spii (held_at c.args.self.now.held spir) ≡ Some held = (found-there (held_at c.args.self.now.held) request.header.spii spir held there.0 found there.1).0 in
     record {
       calls = it.calls;
-      follows = (
-        subst (λ x. MatchOption x ⊥ (λ h. HeldAnswers h request it.calls c.answer.result)) (sym named) it.follows.0,
-        holds-here spir c.in-Some.place items held new place c.index_mut-holding.ensures.value c.answer.ensures.sa c.args.self.now.held old (λ k. task.Receive) it.calls c.answer.result it.follows.1,
-      );
+      follows = record {
+        answers = subst (λ x. MatchOption x ⊥ (λ h. HeldAnswers (member_issuing c.args.issuer.now) c.args.now h request it.calls c.answer.result)) (sym named) it.follows.answers;
+        holds = holds-here spir c.in-Some.place items held new place c.index_mut-holding.ensures.value c.answer.ensures.sa c.args.self.now.held old (λ k. task.Receive) it.calls c.answer.result it.follows.advances;
+        issues = it.follows.issues;
+      };
       asked = it.asked;
       held = it.held;
     }

@@ -1,8 +1,9 @@
 -- A covered genuine packet is accepted at first delivery.
-use Rattle.std.proofs.Common.{◌≡◌, ap, subst}
+use Rattle.std.proofs.Common.{◌≡◌, ap, subst, ◌∙◌}
 use Rattle.turn_rules.specs.Held.{held_at}
 use Rattle.turn_rules.specs.MemberPackets.{MemberReceives}
 use Rattle.cluster_member.proofs.GenuineLaws.{genuine_accepted}
+use Rattle.cluster_member.proofs.Unticketed.{receives-unticketed, unticketed-numbers}
 use Rattle.cluster_member.proofs.member.Member.receive_esp.Goals as goal
 use Rattle.cluster_member.specs.Members.{Holder, ReceivesOn}
 
@@ -14,6 +15,7 @@ returns-clause-receives g c =
     subst (λ hs. MemberReceives (held_at hs) c.args.bytes.now it.calls c.receive.result c.receive.new.bytes) old it.follows.0 in
     let on : ReceivesOn it.calls c.receive.result c.receive.new.bytes c.args.self.now.held c.receive.new.self.held =
     subst (λ hs. ReceivesOn it.calls c.receive.result c.receive.new.bytes hs c.receive.new.self.held) old it.follows.1 in
+    let numbers : c.self.inside.issuer.numbers ≡ c.args.self.now.numbers = ap (λ (v : Holder). v.numbers) c.self.view_is in
     record {
       calls = it.calls;
       follows = (
@@ -24,6 +26,8 @@ returns-clause-receives g c =
           config = ap (λ (v : Holder). v.config) c.self.view_is;
           fresh = ap (λ (v : Holder). v.fresh) c.self.view_is;
           holds = on step worded quiet c.args.self.now.config.window;
+          numbers = numbers ∙ unticketed-numbers it.calls step c.args.self.now.numbers
+              (receives-unticketed (held_at c.args.self.now.held) c.args.bytes.now it.calls c.receive.result c.receive.new.bytes step from worded);
         },
       );
       asked = it.asked;

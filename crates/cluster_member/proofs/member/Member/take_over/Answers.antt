@@ -3,10 +3,11 @@ use Rattle.std.proofs.Common.{◌≡◌, Some, List, [], ◌∷◌, ap, sym, ◌
 use Rattle.keeper_book.specs.Told.{seen}
 use Rattle.keeper_book.specs.declared.calls.KeeperAnswer.TheVariants as answer
 use Rattle.keeper_book.specs.declared.calls.KeeperAsk.TheVariants as ask
-use Rattle.turn_rules.specs.Draws.{Grants}
+use Rattle.turn_rules.specs.Draws.{Grants, TakesOver}
 use Rattle.turn_rules.specs.Held.{Held, held_begun, held_at}
 use Rattle.turn_rules.specs.Tasks as task
 use Rattle.cluster_member.proofs.Taking.{took}
+use Rattle.cluster_member.proofs.Unticketed.{takes-unticketed, unticketed-numbers}
 use Rattle.cluster_member.proofs.member.Member.take_over.Goals as goal
 use Rattle.cluster_member.specs.Members.{Holder, HoldsAfter}
 use Rattle.cluster_member.specs.Places.{KeepsOthers}
@@ -18,7 +19,7 @@ returns-in-Ok-clause-takes g c =
     let taken = c.in-Ok.taken in
     let step = c.quiet.result in
     let spir = c.args.spir in
-    let size = c.self.inside.config.window in
+    let size = c.self.inside.window in
     let now : List Held = c.put.new.self.held in
     let number : c.self.inside.number ≡ c.args.self.now.number = ap (λ (v : Holder). v.number) c.self.view_is in
     let window : size ≡ c.args.self.now.config.window = ap (λ (v : Holder). v.config.window) c.self.view_is in
@@ -30,11 +31,13 @@ returns-in-Ok-clause-takes g c =
     let others : KeepsOthers taken.sa.spir c.reserve.new.self.held now = subst (λ (h : Held). KeepsOthers h.sa.spir c.reserve.new.self.held now) begins c.put.ensures.others in
     let old : c.reserve.new.self.held ≡ c.args.self.now.held = c.in_ok-reserve.ensures.held ∙ ap (λ (v : Holder). v.held) c.self.view_is in
     let holds : HoldsAfter size (task.TakeOver spir) (call ∷ []) step c.reserve.new.self.held now = took size spir c.args.self.now.number call step asked c.quiet.ensures.seals taken c.reserve.new.self.held now sees its put others in
+    let numbers : c.self.inside.issuer.numbers ≡ c.args.self.now.numbers = ap (λ (v : Holder). v.numbers) c.self.view_is in
+    let takes : TakesOver spir c.args.self.now.number (call ∷ []) step.verdict = (asked, subst (λ k. Grants spir k step.verdict) (sym sees) (its, c.quiet.ensures.verdict)) in
     record {
       calls = call ∷ [];
       follows = (
         record {
-          follows = (asked, subst (λ k. Grants spir k step.verdict) (sym sees) (its, c.quiet.ensures.verdict));
+          follows = takes;
           quiet = record { served = c.quiet.ensures.served; seals = c.quiet.ensures.seals; gives = c.quiet.ensures.gives };
         },
         record {
@@ -43,6 +46,8 @@ returns-in-Ok-clause-takes g c =
           fresh = ap (λ (v : Holder). v.fresh) c.self.view_is;
           holds = subst (λ n. HoldsAfter n (task.TakeOver spir) (call ∷ []) step c.args.self.now.held now) window
               (subst (λ hs. HoldsAfter size (task.TakeOver spir) (call ∷ []) step hs now) old holds);
+          numbers = numbers ∙ unticketed-numbers (call ∷ []) step c.args.self.now.numbers
+              (takes-unticketed spir c.args.self.now.number (call ∷ []) step.verdict takes);
         },
       );
       asked = called.2;
