@@ -5,7 +5,6 @@ use Rattle.std.specs.Prelude.{IfSome, MatchBool}
 use Rattle.events.specs.declared.turn.Step.{Step}
 use Rattle.events.specs.declared.verdict.Refusal.TheVariants as refusal
 use Rattle.events.specs.declared.verdict.Verdict.TheVariants as out
-use Rattle.ike_sas.specs.Answers.{request_payloads}
 use Rattle.ike_sas.specs.Held.{IkeHeld, request_header}
 use Rattle.ike_window.specs.Kept.{kept_octets}
 use Rattle.keeper_book.specs.CounterEnds.{end_of}
@@ -15,17 +14,19 @@ use Rattle.keeper_book.specs.declared.counters.Counter.TheVariants as counter
 use Rattle.turn_rules.proofs.Refusals.{stop-own}
 use Rattle.turn_rules.specs.Draws.{refusal_of_stop}
 use Rattle.turn_rules.specs.Held.{Held}
-use Rattle.turn_rules.specs.MemberMessages.{AsksOf, HeldSendsRequest, RefusesThen, ResendsOf, held_ike}
+use Rattle.turn_rules.specs.MemberMessages.{AsksOf, HeldSendsRequest, ResendsOf, held_ike}
 use Rattle.turn_rules.specs.Messages.{GivesAgain, Resends, SendsRequest, Windowed}
 use Rattle.turn_rules.specs.PeerMessages.{PeerAsks, PeerResends, SlotAsks, SlotSendsRequest, slot_ike}
-use Rattle.turn_rules.specs.Slots.{Slot, first_slot, has_spir}
-use Rattle.turn_rules.specs.Steps.{Says}
+use Rattle.turn_rules.specs.Slots.{Slot, first_slot, has_spir, PeerForgets}
+use Rattle.turn_rules.specs.Steps.{Says, RefusesThen}
 use Rattle.turn_rules.proofs.KeySizes.{sized_sk_ei, sized_sk_er}
-use Rattle.run_ends.proofs.MessageBounds.{payloads-few, sends_message-brief}
+use Rattle.run_ends.proofs.MessageBounds.{sends_message-brief}
 use Rattle.run_ends.proofs.Messages.{again-brief, first-short, readies-fold, says-proper}
 use Rattle.run_ends.proofs.ShortKept.{AreShort, HeldKeepsShort, KeepsShort, SlotsKeepShort, kept-short}
-use Rattle.run_ends.proofs.Verdicts.{IsProper, none-few, of-refusal, of-verdict}
+use Rattle.run_ends.proofs.Verdicts.{IsProper, none-few, of-refusal, of-verdict, quiet-proper}
 use Rattle.run_ends.specs.Acting.{IsOfEnd}
+use Rattle.ike_values.specs.Values.{PayloadValue}
+use Rattle.ike_values.specs.Writing.{chain_written}
 
 module _ (held : IkeHeld) (sized : (length held.keys.sending.octets ≡ 20) ⊎ (length held.keys.sending.octets ≡ 36)) (id iv : ℕ) (payloads : List PayloadValue) (size : length (chain_written payloads) ≤ 264) (calls : List Call) (step : Step) (few : length calls ≤ 3) where
   sends_request-proper : SendsRequest held id iv payloads step → IsProper calls step

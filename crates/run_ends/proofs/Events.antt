@@ -29,15 +29,14 @@ use Rattle.turn_rules.specs.Held.{held_at}
 use Rattle.turn_rules.specs.MemberMessages.{AsksOf, ResendsOf, SyncsOf}
 use Rattle.turn_rules.specs.PeerMessages.{PeerAsks, PeerResends}
 use Rattle.turn_rules.specs.PeerStates.{PeerHeld}
-use Rattle.turn_rules.specs.Peers.{admits}
-use Rattle.turn_rules.specs.Slots.{PeerSends, entered_slot, records}
-use Rattle.turn_rules.specs.States.{MemberHeld, RunState}
+use Rattle.turn_rules.specs.Slots.{PeerSends, entered_slot, admits, PeerForgets}
+use Rattle.turn_rules.specs.States.{RunState}
 use Rattle.turn_rules.specs.Steps.{Says}
 use Rattle.turn_rules.specs.Tasks as task
-use Rattle.cluster_member.specs.Members.{Holder, IsAfter}
-use Rattle.cluster_peer.specs.Slots.{IsPeerAfter, PeerWithRoom}
+use Rattle.cluster_member.specs.Members.{Holder, IsAfter, member_held}
+use Rattle.cluster_peer.specs.Slots.{IsPeerAfter, PeerWithRoom, IsPeerAfterAt}
 use Rattle.run_ends.proofs.Acting.{brings}
-use Rattle.run_ends.proofs.Asking.{asks-proper, peer_asks-proper, peer_resends-alone, peer_resends-said, resends_of-alone, resends_of-said}
+use Rattle.run_ends.proofs.Asking.{asks-proper, peer_asks-proper, peer_resends-alone, peer_resends-said, resends_of-alone, resends_of-said, peer_forgets-proper}
 use Rattle.run_ends.proofs.Holding.{Holds, configured-holds, crash-holds, entered-after, join-holds, not_entered-after}
 use Rattle.run_ends.proofs.Performing.{member_gets-said, peer_gets-said}
 use Rattle.run_ends.proofs.Seats.{counted, ended-in_place, joined-in_place}
@@ -46,6 +45,12 @@ use Rattle.run_ends.proofs.Verdicts.{IsProper, draws-proper, imports-proper, pee
 use Rattle.run_ends.specs.Acting.{IsOwnStep, MemberActs, PeerActs}
 use Rattle.run_ends.specs.Arrivals.{MemberTakesIn, PeerTakesIn}
 use Rattle.run_ends.specs.Parties.{Acts, AreInPlace, EndsHeld, IsMemberPlace, member_seen}
+use Rattle.turn_rules.specs.MemberStates.{MemberHeld}
+use Rattle.ike_sas.specs.Answers.{request_payloads}
+use Rattle.ike_sas.specs.TicketMessages.{ticket_request_payloads}
+use Rattle.run_ends.proofs.MessageBounds.{request-few, ticket_request-few}
+use Rattle.turn_rules.specs.TicketNumbers.{no_ticket_numbers}
+use Rattle.turn_rules.specs.Tasks.{Task}
 
 -- a call that was asked for one thing was asked for what follows from it
 pub asked-as : {K : Type 0} {keeper : Ghosts K} {old new : K} {P Q : List Call → Type 0} → ((calls : List Call) → P calls → Q calls) → AsksFor keeper old new P → AsksFor keeper old new Q

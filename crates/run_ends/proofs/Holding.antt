@@ -309,23 +309,23 @@ module _ (past : List Turn) (old : EndsHeld) (moment : Moment) (fresh : List ℕ
   }
 
 -- an association that was entered is the peer's newest
-entered-slot : (now : Moment) (sa : Record) (step : Step) (slot : Slot) → step.seals ≡ [] → slot_after now (task.Enter sa) step slot ≡ slot
-entered-slot now sa step slot unsealed = ap (λ seals. record slot { iv = after_number (iv_in end.Peer slot.sa.spir seals) slot.iv }) unsealed
+entered-slot : (moment : Moment) (sa : Record) (step : Step) (slot : Slot) → step.seals ≡ [] → slot_after moment (task.Enter sa) step slot ≡ slot
+entered-slot moment sa step slot unsealed = ap (λ seals. record slot { iv = after_number (iv_in end.Peer slot.sa.spir seals) slot.iv }) unsealed
 
-entered-slots : (now : Moment) (sa : Record) (step : Step) (slots : List Slot) → step.seals ≡ [] → map (slot_after now (task.Enter sa) step) slots ≡ slots
-entered-slots now sa step [] unsealed = refl
-entered-slots now sa step (slot ∷ slots) unsealed = ap₂ (λ first rest. first ∷ rest) (entered-slot now sa step slot unsealed) (entered-slots now sa step slots unsealed)
+entered-slots : (moment : Moment) (sa : Record) (step : Step) (slots : List Slot) → step.seals ≡ [] → map (slot_after moment (task.Enter sa) step) slots ≡ slots
+entered-slots moment sa step [] unsealed = refl
+entered-slots moment sa step (slot ∷ slots) unsealed = ap₂ (λ first rest. first ∷ rest) (entered-slot moment sa step slot unsealed) (entered-slots moment sa step slots unsealed)
 
 abbrev with_entry : ℕ → Moment → Record → Step → List Slot → Verdict → List Slot
-with_entry size now sa step slots verdict = map (slot_after now (task.Enter sa) step) slots ++ option_to_list (option_map (entered_slot size) (entered_at_task (task.Enter sa) verdict))
+with_entry size moment sa step slots verdict = map (slot_after moment (task.Enter sa) step) slots ++ option_to_list (option_map (entered_slot size) (entered_at_task (task.Enter sa) verdict))
 
-pub entered-after : (size : ℕ) (now : Moment) (sa : Record) (step : Step) (slots : List Slot) → step.verdict ≡ out.Entered → step.seals ≡ [] → slots ++ entered_slot size sa ∷ [] ≡ slots_after size now (task.Enter sa) step slots
-entered-after size now sa step slots said unsealed =
-    ap (λ old. old ++ entered_slot size sa ∷ []) (sym (entered-slots now sa step slots unsealed)) ∙ ap (with_entry size now sa step slots) (sym said)
+pub entered-after : (size : ℕ) (moment : Moment) (sa : Record) (step : Step) (slots : List Slot) → step.verdict ≡ out.Entered → step.seals ≡ [] → slots ++ entered_slot size sa ∷ [] ≡ slots_after size moment (task.Enter sa) step slots
+entered-after size moment sa step slots said unsealed =
+    ap (λ old. old ++ entered_slot size sa ∷ []) (sym (entered-slots moment sa step slots unsealed)) ∙ ap (with_entry size moment sa step slots) (sym said)
 
-pub not_entered-after : (size : ℕ) (now : Moment) (sa : Record) (step : Step) (slots : List Slot) (why : Refusal) → step.verdict ≡ out.Refused why → step.seals ≡ [] → slots ≡ slots_after size now (task.Enter sa) step slots
-not_entered-after size now sa step slots why said unsealed =
-    sym (append-nil (map (slot_after now (task.Enter sa) step) slots) ∙ entered-slots now sa step slots unsealed) ∙ ap (with_entry size now sa step slots) (sym said)
+pub not_entered-after : (size : ℕ) (moment : Moment) (sa : Record) (step : Step) (slots : List Slot) (why : Refusal) → step.verdict ≡ out.Refused why → step.seals ≡ [] → slots ≡ slots_after size moment (task.Enter sa) step slots
+not_entered-after size moment sa step slots why said unsealed =
+    sym (append-nil (map (slot_after moment (task.Enter sa) step) slots) ∙ entered-slots moment sa step slots unsealed) ∙ ap (with_entry size moment sa step slots) (sym said)
 
 -- the cluster was configured before anything else
 pub configured-holds : (past : List Turn) (old : EndsHeld) (moment : Moment) (config : Configuration) (ticket_key : List ℕ) → config.ticket_key ≡ first_ticket_key ticket_key → (calls : List Call) (step : Step) → step.verdict ≡ out.Configured

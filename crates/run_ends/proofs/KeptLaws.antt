@@ -11,10 +11,11 @@ use Rattle.turn_rules.specs.Datagrams.{PlainDatagram}
 use Rattle.turn_rules.specs.Fits.{Does}
 use Rattle.turn_rules.specs.Local.{AreShown, IsExplained, Local}
 use Rattle.turn_rules.specs.PeerStates.{peer_begun}
-use Rattle.turn_rules.specs.States.{RunState, no_member, state_after, state_by}
+use Rattle.turn_rules.specs.States.{RunState, state_after, state_by}
 use Rattle.run_ends.proofs.Performing.{does-few}
 use Rattle.run_ends.proofs.ShortKept.{StateKeepsShort, state-short}
 use Rattle.run_ends.specs.Parties.{AreKept, EndsHeld, IsShort, Plays, holder_of, member_at, state_of}
+use Rattle.turn_rules.specs.MemberStates.{no_member}
 
 all-append : (xs ys : List PlainDatagram) → AllByRecursion IsShort xs → AllByRecursion IsShort ys → AllByRecursion IsShort (xs ++ ys)
 all-append [] ys a b = b

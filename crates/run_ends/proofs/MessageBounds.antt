@@ -1,5 +1,5 @@
 -- How long the IKE messages are that an end sends.
-use Rattle.std.proofs.Common.{◌≡◌, ℕ, ◌+◌, ◌≤◌, ◌⊎◌, Option, Some, None, Result, Ok, Err, List, [], ◌∷◌, length, option_to_list, ap, sym, ◌∙◌, subst, arith}
+use Rattle.std.proofs.Common.{◌≡◌, ℕ, ◌+◌, ◌≤◌, ◌⊎◌, Option, Some, None, List, [], ◌∷◌, length, option_to_list, ap, sym, ◌∙◌, subst, arith, IfSome}
 use Rattle.std.proofs.lemmas.List.{length-append}
 use Rattle.std.specs.Int.{to_be_bytes, w64}
 use Rattle.std.specs.List.{AllByRecursion}
@@ -7,24 +7,25 @@ use Rattle.std.specs.Option.{option_map}
 use Rattle.aes_gcm.proofs.Seals.{sealing}
 use Rattle.aes_gcm.specs.Gcm.{Sealed}
 use Rattle.events.specs.declared.turn.Step.{Step}
-use Rattle.ike_sas.specs.Answers.{answer_by, answer_payloads, error_of, error_payload, reply_payloads, reply_to, request_payloads}
+use Rattle.ike_sas.specs.Answers.{answer_payloads, error_of, request_payloads}
 use Rattle.ike_sas.specs.Held.{IkeHeld}
-use Rattle.ike_sas.specs.declared.answers.RequestError.{RequestError}
-use Rattle.ike_sas.specs.declared.answers.RequestError.TheVariants as error
-use Rattle.ike_values.specs.Notifications.{first_notify, notify_of}
+use Rattle.ike_values.specs.Notifications.{notify_of}
 use Rattle.ike_values.specs.Values.{PayloadValue, sk}
 use Rattle.ike_values.specs.Writing.{body_written, chain_written}
-use Rattle.ike_values.specs.declared.fault.Bad.{Bad}
 use Rattle.ike_values.specs.declared.header.Header.{Header}
-use Rattle.ike_values.specs.declared.notify_types.TheConstants.{IKEV2_MESSAGE_ID_SYNC, IPSEC_REPLAY_COUNTER_SYNC, REPLY_DATA, REQUEST_DATA}
+use Rattle.ike_values.specs.declared.notify_types.TheConstants.{IKEV2_MESSAGE_ID_SYNC, IPSEC_REPLAY_COUNTER_SYNC, REQUEST_DATA, TICKET_REQUEST}
 use Rattle.sync_exchange.specs.Laws.{request_with, response_of}
 use Rattle.sync_exchange.specs.Notifications.{message_ids_spelling}
 use Rattle.sync_exchange.specs.declared.message_ids.MessageIds.{MessageIds}
 use Rattle.sk_payload.specs.Message.{IsDatagram, associated_data, plain_of}
 use Rattle.sk_payload.specs.declared.open.Opened.{Opened}
 use Rattle.turn_rules.specs.Datagrams.{plain_datagram}
-use Rattle.turn_rules.specs.Messages.{SendsMessage}
+use Rattle.turn_rules.specs.Messages.{with_ticket, SendsAfter}
 use Rattle.run_ends.specs.Parties.{IsShort}
+use Rattle.events.specs.declared.seals.Seal.{Seal}
+use Rattle.ike_sas.specs.TicketMessages.{ticket_request_payloads, IsShortTicket}
+use Rattle.ike_sas.proofs.TicketSizes.{answer_size, answers_fit}
+use Rattle.ike_sas.specs.declared.ticket_messages.TicketAnswer.{TicketAnswer}
 
 -- what is given is short
 abbrev pub IsBrief : Step → Type 0

@@ -1,13 +1,11 @@
 -- What the ends come to themselves with IKE messages: how it comes out, by how many calls, and how long what they send is.
-use Rattle.std.proofs.Common.{◌≡◌, ℕ, suc, ◌≤◌, ◌⊎◌, ◌==◌, if◌then◌else◌, Bool, true, false, Option, Some, None, Result, Ok, Err, MatchOption, List, [], ◌∷◌, length, option_to_list, ⊎_elim, refl, ap, sym, ◌∙◌, subst, arith}
+use Rattle.std.proofs.Common.{◌≡◌, ℕ, suc, ◌≤◌, ◌⊎◌, ◌==◌, if◌then◌else◌, Bool, true, false, Option, Some, None, Result, Ok, Err, MatchOption, List, [], ◌∷◌, length, option_to_list, ⊎_elim, refl, ap, sym, ◌∙◌, subst, arith, ◌+◌, IfSome}
 use Rattle.std.proofs.lemmas.Bool.{cases_lt}
 use Rattle.std.specs.List.{AllByRecursion}
 use Rattle.std.specs.Option.{option_map}
-use Rattle.std.specs.Prelude.{IfSome, MatchBool, nat_lt, ◌&&◌}
+use Rattle.std.specs.Prelude.{MatchBool, nat_lt, ◌&&◌}
 use Rattle.events.specs.declared.ike_outcomes.IkeDrop.{IkeDrop}
 use Rattle.events.specs.declared.ike_outcomes.IkeDrop.TheVariants as drop
-use Rattle.events.specs.declared.ike_outcomes.Kept.TheVariants as kept
-use Rattle.events.specs.declared.ike_outcomes.Mark.TheVariants as mark
 use Rattle.events.specs.declared.turn.Step.{Step}
 use Rattle.events.specs.declared.verdict.Refusal.{Refusal}
 use Rattle.events.specs.declared.verdict.Refusal.TheVariants as refusal
@@ -55,17 +53,31 @@ use Rattle.turn_rules.specs.Datagrams.{plain_datagram}
 use Rattle.turn_rules.specs.Draws.{counter_name, reach_of, refusal_of_stop}
 use Rattle.turn_rules.specs.Ends.{is_of_run}
 use Rattle.turn_rules.specs.Held.{Held}
-use Rattle.turn_rules.specs.MemberMessages.{HeldAnswers, HeldTakesSync, ReadiesWithIv, RefusesThen, TakesSyncAnswer, TakesSyncOf, awaits_sync, held_ike, member_listener, of_spii}
-use Rattle.turn_rules.specs.Messages.{AnswersRequest, DropsMessage, ExecutesRequest, GivesAgain, Listener, RefusesRequest, TakesArrival, TakesInner, TakesMessage, held_for}
+use Rattle.turn_rules.specs.MemberMessages.{HeldAnswers, HeldTakesSync, ReadiesWithIv, TakesSyncAnswer, TakesSyncOf, awaits_sync, held_ike, member_listener, of_spii, ReadiesThen}
+use Rattle.turn_rules.specs.Messages.{AnswersRequest, DropsMessage, ExecutesRequest, GivesAgain, Listener, RefusesRequest, TakesArrival, TakesInner, TakesMessage, held_for, mark_of, with_ticket}
 use Rattle.turn_rules.specs.PeerMessages.{AcceptsSync, AnswersSync, SlotAnswers, SlotSynchronises, has_spis, peer_keys, peer_listener, slot_ike}
 use Rattle.turn_rules.specs.Slots.{Slot, first_slot, peer_counter}
-use Rattle.turn_rules.specs.Steps.{Says}
+use Rattle.turn_rules.specs.Steps.{Says, RefusesThen}
 use Rattle.turn_rules.proofs.KeySizes.{sized_sk_ei, sized_sk_er}
-use Rattle.run_ends.proofs.MessageBounds.{IsBrief, answer-few, sends_message-brief, synced-few}
+use Rattle.run_ends.proofs.MessageBounds.{IsBrief, answer-few, sends_message-brief, synced-few, answered-few}
 use Rattle.run_ends.proofs.ShortKept.{AreShort, HeldKeepsShort, KeepsShort, SlotsKeepShort, kept-short}
 use Rattle.run_ends.proofs.Verdicts.{IsProper, none-few, of-refusal, of-verdict, quiet-proper}
 use Rattle.run_ends.specs.Parties.{IsShort}
 use Rattle.run_ends.specs.Acting.{IsOfEnd}
+use Rattle.ike_sas.specs.declared.ticket_messages.TicketAnswer.{TicketAnswer}
+use Rattle.ike_sas.specs.declared.ticket_messages.TicketAnswer.TheVariants.{Issued, Declined}
+use Rattle.ike_sas.specs.TicketMessages.{IsShortTicket, is_ticket_due}
+use Rattle.turn_rules.specs.MemberStates.{MemberHeld}
+use Rattle.ha_base.specs.declared.outside.Moment.{Moment}
+use Rattle.aes_gcm.specs.NamedKey.{NamedKey}
+use Rattle.turn_rules.specs.Configurations.{Configuration, fresh_octets}
+use Rattle.keeper_book.specs.declared.records.Record.{Record}
+use Rattle.keeper_book.specs.declared.faults.KeeperFault.{KeeperFault}
+use Rattle.spend_once.specs.Lot.{Remaining}
+use Rattle.pool_lots.specs.Lots.{Leases, Leased, drawn_once, leased_lot}
+use Rattle.turn_rules.specs.MemberTickets.{Tells, TellsWithout, TellsIssued, TellsTicket, IssuesTicket, config_of}
+use Rattle.keeper_book.specs.declared.faults.KeeperFault.TheVariants as fault
+use Rattle.keeper_book.specs.declared.pools.Pool.TheVariants as pool
 
 -- a step that an end comes to itself, be it with its service or not
 pub record IsAnswered (calls : List Call) (step : Step) : Type 0 where
@@ -227,7 +239,7 @@ slot-synchronised slot request calls step does = by_answer does.answer does.answ
       few = few;
       said = of-verdict step.verdict (out.SyncAccepted (peer_counter slot.sa counter.Answer) accepted.p2 accepted.m2 (rise_of DELTA_OCTETS does.asked) (message_ids_of slot.asked)) (record { no_join = refl; heard = refl }) a.said;
       brief = sends_message-brief (slot_ike slot) slot.iv (response_header (peer_keys slot.sa) request.header) (response_of (response_ids does.asked accepted)) step
-          (sized_sk_ei slot.sa.size slot.sa.keys slot.sa.child slot.sa.key_lengths) (synced-few (response_ids does.asked accepted)) a.responds;
+          (sized_sk_ei slot.sa.size slot.sa.keys slot.sa.child slot.sa.key_lengths) (omega (arith, synced-few (response_ids does.asked accepted))) a.responds;
     }
 
     by_answer : (answer : Result Accepted SyncDrop) → AnswersSync slot request does.asked answer step → IsAnswered calls step

@@ -18,18 +18,19 @@ use Rattle.turn_rules.specs.Configurations.{fresh_octets}
 use Rattle.turn_rules.specs.Datagrams.{PlainDatagram, arrives}
 use Rattle.turn_rules.specs.Deliveries.{MemberGets, PeerGets}
 use Rattle.turn_rules.specs.Fits.{Does, Performs, Receives, Refuses, Yields, run_refusal}
-use Rattle.turn_rules.specs.Held.{Held}
-use Rattle.turn_rules.specs.Peers.{admits}
-use Rattle.turn_rules.specs.Slots.{Slot, records}
+use Rattle.turn_rules.specs.Slots.{Slot, admits}
 use Rattle.turn_rules.specs.States.{RunState}
-use Rattle.run_ends.proofs.Asking.{asks-proper, peer_asks-proper, peer_resends-proper, resends_of-proper}
+use Rattle.run_ends.proofs.Asking.{asks-proper, peer_asks-proper, peer_resends-proper, resends_of-proper, peer_forgets-proper}
 use Rattle.run_ends.proofs.Bounds.{fits_ask, fits_send}
-use Rattle.run_ends.proofs.MessageBounds.{IsBrief}
+use Rattle.run_ends.proofs.MessageBounds.{IsBrief, request-few, ticket_request-few}
 use Rattle.run_ends.proofs.Messages.{member_message-answered, member_message-said, peer_message-answered, peer_message-said}
 use Rattle.run_ends.proofs.ShortKept.{HeldKeepsShort, StateKeepsShort}
 use Rattle.run_ends.proofs.Syncing.{syncs-proper}
 use Rattle.run_ends.proofs.Verdicts.{IsProper, draws-proper, imports-proper, member_takes-proper, none-few, peer_sends-proper, peer_takes-proper, quiet-brief, sends-proper, takes-proper}
 use Rattle.run_ends.specs.Acting.{IsOfEnd}
+use Rattle.turn_rules.specs.MemberStates.{MemberHeld}
+use Rattle.ike_sas.specs.Answers.{request_payloads}
+use Rattle.ike_sas.specs.TicketMessages.{ticket_request_payloads}
 
 -- what a datagram comes to, as an end words it
 pub member_gets-said : (m : Medium) (member : MemberHeld) (now : Moment) (octets : List ℕ) (calls : List Call) (step : Step) → MemberGets m member now octets calls step → IsOfEnd step.verdict

@@ -5,9 +5,9 @@ use Rattle.std.proofs.lemmas.Bool.{and_parts, cases_lt, eqb-false, eqb-true, ltb
 use Rattle.std.proofs.lemmas.List.{get_or_append_left, get_or_at, get_or_default, get_or_past, get_or-set_same, get_or-set_other, length-append, length-set}
 use Rattle.std.proofs.lemmas.Option.{same_Some}
 use Rattle.std.specs.Prelude.{is_none, nat_le, nat_lt}
-use Rattle.turn_rules.specs.States.{member_unless}
 use Rattle.cluster_member.specs.Members.{Holder}
 use Rattle.run_ends.specs.Parties.{AreInPlace, EndsHeld, IsMember, IsMemberPlace, holder_of, member_at, member_seen, nobody, seat_or}
+use Rattle.turn_rules.specs.MemberStates.{member_unless}
 
 -- the members are counted from 1
 pub counted : (member place : ℕ) (members : List (Option Holder)) → IsMemberPlace member place members → member ≡ suc place

@@ -24,12 +24,14 @@ use Rattle.turn_rules.specs.IkeState.{answered_after, kept_under, outstanding_af
 use Rattle.turn_rules.specs.Peers.{entered_at_task}
 use Rattle.turn_rules.specs.PeerStates.{peer_after, peer_configured}
 use Rattle.turn_rules.specs.Slots.{Slot, entered_slot, slots_after}
-use Rattle.turn_rules.specs.States.{RunState, ends, member_after, member_unless, state_by}
+use Rattle.turn_rules.specs.States.{RunState, ends, state_by}
 use Rattle.turn_rules.specs.Synchronised.{Agreed, after_floor, agreed_in, ends_in}
 use Rattle.turn_rules.specs.Tasks as task
 use Rattle.turn_rules.specs.Tasks.{Task, member_task, peer_task}
 use Rattle.run_ends.proofs.MessageBounds.{IsBrief}
 use Rattle.run_ends.specs.Parties.{IsShort}
+use Rattle.turn_rules.specs.MemberStates.{member_unless, member_after}
+use Rattle.ha_base.specs.declared.outside.Moment.{Moment}
 
 -- messages that are kept are short
 abbrev pub IsShortMessage : KeptMessage → Type 0
@@ -147,9 +149,9 @@ module _ (step : Step) (brief : IsBrief step) (size : ℕ) (asked : Task) where
   entered-short None = tt
   entered-short (Some sa) = (record { of_asked = tt; of_answered = tt }, tt)
 
-  slots-short : (slots : List Slot) → SlotsKeepShort slots → SlotsKeepShort (slots_after size asked step slots)
-  slots-short [] all = entered-short (entered_at_task asked step.verdict)
-  slots-short (slot ∷ slots) all = (keeps-after step brief slot.sa.spir asked slot.asked slot.answered all.0, slots-short slots all.1)
+  slots-short : (now : Moment) (slots : List Slot) → SlotsKeepShort slots → SlotsKeepShort (slots_after size now asked step slots)
+  slots-short now [] all = entered-short (entered_at_task asked step.verdict)
+  slots-short now (slot ∷ slots) all = (keeps-after step brief slot.sa.spir asked slot.asked slot.answered all.0, slots-short now slots all.1)
 
   held-short : (spir : ℕ) (calls : List Call) (held : Option Held) → HeldKeepsShort held → HeldKeepsShort (held_after size spir asked calls step held)
   held-short spir calls held all = by_grant (grant_in spir calls)
@@ -172,8 +174,8 @@ module _ (boxes : ℕ) (past : List Turn) (turn : Turn) (was : StateKeepsShort (
   before = state_by boxes past
 
   peer-short : (b : Bool) (sets : Option Configuration) → SlotsKeepShort (peer_configured sets (if b then peer_after before.config.window turn.moment (peer_task turn.event) turn.step before.peer else before.peer)).slots
-  peer-short true None = slots-short turn.step brief before.config.window (peer_task turn.event) before.peer.slots was.of_peer
-  peer-short true (Some config) = slots-short turn.step brief before.config.window (peer_task turn.event) before.peer.slots was.of_peer
+  peer-short true None = slots-short turn.step brief before.config.window (peer_task turn.event) turn.moment before.peer.slots was.of_peer
+  peer-short true (Some config) = slots-short turn.step brief before.config.window (peer_task turn.event) turn.moment before.peer.slots was.of_peer
   peer-short false None = was.of_peer
   peer-short false (Some config) = was.of_peer
 

@@ -1,5 +1,5 @@
 -- What a member comes to itself where it asks to synchronise.
-use Rattle.std.proofs.Common.{ℕ, ◌≤◌, Bool, true, false, MatchBool, Option, Some, None, List, length, refl}
+use Rattle.std.proofs.Common.{ℕ, ◌≤◌, Bool, true, false, MatchBool, Option, Some, None, List, length, refl, arith}
 use Rattle.events.specs.declared.turn.Step.{Step}
 use Rattle.events.specs.declared.verdict.Refusal.TheVariants as refusal
 use Rattle.events.specs.declared.verdict.Verdict.TheVariants as out
@@ -13,10 +13,11 @@ use Rattle.turn_rules.proofs.KeySizes.{sized_sk_er}
 use Rattle.turn_rules.proofs.Refusals.{stop-own}
 use Rattle.turn_rules.specs.Draws.{refusal_of_stop}
 use Rattle.turn_rules.specs.Held.{Held}
-use Rattle.turn_rules.specs.MemberMessages.{HeldSyncs, ReadiesWithIv, RefusesThen, SendsSync, SyncsOf, cluster_keys, held_ike, sync_id, sync_ids}
+use Rattle.turn_rules.specs.MemberMessages.{HeldSyncs, ReadiesWithIv, SendsSync, SyncsOf, cluster_keys, held_ike, sync_id, sync_ids}
 use Rattle.run_ends.proofs.MessageBounds.{sends_message-brief, sync-few}
 use Rattle.run_ends.proofs.Messages.{readies-fold, says-proper}
 use Rattle.run_ends.proofs.Verdicts.{IsProper, none-few, of-verdict}
+use Rattle.turn_rules.specs.Steps.{RefusesThen}
 
 module _ (fresh : List ℕ) (held : Held) (calls : List Call) (step : Step) where
   abbrev iv : ℕ
@@ -27,7 +28,7 @@ module _ (fresh : List ℕ) (held : Held) (calls : List Call) (step : Step) wher
     few = few;
     said = of-verdict step.verdict (out.Syncing (sync_id held) held.answered.floor) (record { no_join = refl; heard = refl }) s.said;
     brief = sends_message-brief (held_ike held) iv (request_header (cluster_keys held.sa) 0) (request_with (sync_ids fresh held) SYNC_DELTA) step
-        (sized_sk_er held.sa.size held.sa.keys held.sa.child held.sa.key_lengths) (sync-few (sync_ids fresh held) SYNC_DELTA) s.sends;
+        (sized_sk_er held.sa.size held.sa.keys held.sa.child held.sa.key_lengths) (omega (arith, sync-few (sync_ids fresh held) SYNC_DELTA)) s.sends;
     alone = s.served;
   }
 

@@ -12,7 +12,6 @@ use Rattle.keeper_book.specs.declared.calls.Call.{Call}
 use Rattle.turn_rules.specs.Configurations.{Configuration, Membership, default_configuration, first_ticket_key, membership}
 use Rattle.turn_rules.specs.Datagrams.{PlainDatagram, datagrams_of, plain_datagram}
 use Rattle.turn_rules.specs.Fits.{Does, Performs}
-use Rattle.turn_rules.specs.Held.{held_at}
 use Rattle.turn_rules.specs.Local.{Local}
 use Rattle.turn_rules.specs.PeerStates.{PeerHeld}
 use Rattle.turn_rules.specs.MemberStates.{MemberHeld, no_member}

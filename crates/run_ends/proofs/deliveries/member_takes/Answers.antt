@@ -2,11 +2,11 @@
 use Rattle.std.proofs.Common.{◌≡◌, sym, subst, rules}
 use Rattle.events.specs.declared.turn.Medium.TheVariants as medium
 use Rattle.turn_rules.specs.Deliveries.{MemberGets, MemberTakes}
-use Rattle.turn_rules.specs.Held.{held_at}
 use Rattle.turn_rules.specs.MemberMessages.{member_listener}
 use Rattle.turn_rules.specs.Messages.{TakesMessage}
 use Rattle.run_ends.proofs.Events.{asked-as, if_ok-as}
 use Rattle.run_ends.proofs.deliveries.member_takes.Goals as goal
+use Rattle.cluster_member.specs.Members.{member_held}
 
 pub returns-in-Ike-clause-takes : goal.returns-in-Ike-clause-takes
 returns-in-Ike-clause-takes g c =

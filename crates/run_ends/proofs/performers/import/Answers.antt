@@ -6,8 +6,7 @@ use Rattle.events.specs.declared.verdict.Verdict.TheVariants as out
 use Rattle.keeper_book.proofs.Asking.{asks_for_none}
 use Rattle.turn_rules.specs.Draws.{Admits, EntersRecord, refusal_of_import}
 use Rattle.turn_rules.specs.Fits.{Quietly, Refusing}
-use Rattle.turn_rules.specs.Peers.{admits}
-use Rattle.turn_rules.specs.Slots.{records}
+use Rattle.turn_rules.specs.Slots.{admits}
 use Rattle.turn_rules.specs.Steps.{IsQuiet}
 use Rattle.run_ends.proofs.Events.{entered, not_entered}
 use Rattle.run_ends.proofs.performers.import.Goals as goal

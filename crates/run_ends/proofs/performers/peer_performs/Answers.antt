@@ -4,7 +4,7 @@ use Rattle.keeper_book.proofs.Asking.{asks_for_none}
 use Rattle.turn_rules.proofs.Cases.{ok-map2}
 use Rattle.turn_rules.specs.Datagrams.{datagrams_of}
 use Rattle.run_ends.proofs.Bounds.{arrives-short, fits_ask, fits_send}
-use Rattle.run_ends.proofs.Events.{asked-as, if_ok-as, imports, peer_asks, peer_asks_again, peer_sends, peer_takes}
+use Rattle.run_ends.proofs.Events.{asked-as, if_ok-as, imports, peer_asks, peer_asks_again, peer_sends, peer_takes, asks_ticket, forgets}
 use Rattle.run_ends.proofs.performers.peer_performs.Goals as goal
 
 pub returns-in-Import-clause-acts : goal.returns-in-Import-clause-acts

@@ -7,6 +7,7 @@ use Rattle.turn_rules.specs.Steps.{Says}
 use Rattle.run_ends.proofs.Events.{joins}
 use Rattle.run_ends.proofs.parties.Parties.join.Goals as goal
 use Rattle.run_ends.specs.Parties.{Acts, AreInPlace, EndsHeld}
+use Rattle.turn_rules.specs.TicketNumbers.{no_ticket_numbers}
 
 pub returns-clause-joins : goal.returns-clause-joins
 returns-clause-joins c = λ past moment.
