@@ -31,9 +31,9 @@ use std::alloc::Global;
 use std::marker::Model;
 
 /// An association of the peer: whether it is live, which it is until the peer forgets it, the ESP
-/// numbers and the IVs that it may still send, what it sends and receives packets with, what it holds
-/// of IKE messages, the greatest Message ID of the cluster's that it knows of, and the last ticket
-/// that came.
+/// numbers and the IVs that it may still send, what it sends and receives packets with, what it
+/// holds of IKE messages, the greatest Message ID of the cluster's that it knows of, and the last
+/// ticket that came.
 #[derive(Drop)]
 pub struct Association {
     pub(crate) sa: Record,
@@ -138,8 +138,8 @@ impl Association {
         self.live && self.sa.spi_out == spi
     }
 
-    /// It has the responder's SPI of another association, live or not, or it receives where that one
-    /// would.
+    /// It has the responder's SPI of another association, live or not, or it receives where that
+    /// one would.
     pub fn is_clash(&self, sa: &Record) -> bool
         ensures { result ≡ clashes sa.now self.now }
     {

@@ -193,7 +193,7 @@ impl Peer {
     }
 
     /// Closes the peer's end of an association, and tells nobody: from then on the peer neither
-    /// sends nor receives in it, and keeps the ticket that came in it. It is refused `Unknown` where
+    /// sends nor receives in it, and it keeps the ticket that came. It is refused `Unknown` where
     /// there is no such live association. It takes no memory.
     pub fn forget(&mut self, spir: u64) -> Step
         ensures forgets { PeerForgets spir self.old.held.slots result }
