@@ -31,9 +31,9 @@ use std::alloc::Global;
 use std::marker::Model;
 
 /// An association of the peer: whether it is live, which it is until the peer forgets it, the ESP
-/// numbers and the IVs that it may still send, what it sends and receives packets with, what it holds
-/// of IKE messages, the greatest Message ID of the cluster's that it knows of, and the last ticket
-/// that came.
+/// numbers and the IVs that it may still send, what it sends and receives packets with, what it
+/// holds of IKE messages, the greatest Message ID of the cluster's that it knows of, and the last
+/// ticket that came.
 #[derive(Drop)]
 pub struct Association {
     pub(crate) sa: Record,
@@ -138,8 +138,8 @@ impl Association {
         self.live && self.sa.spi_out == spi
     }
 
-    /// It has the responder's SPI of another association, live or not, or it receives where that one
-    /// would.
+    /// It has the responder's SPI of another association, live or not, or it receives where that
+    /// one would.
     pub fn is_clash(&self, sa: &Record) -> bool
         ensures { result ≡ clashes sa.now self.now }
     {
@@ -205,8 +205,8 @@ impl Association {
     }
 
     /// Sends a request (RFC 7296, sections 2.2 and 2.3). It is refused `WindowFull` with the least
-    /// Message ID that is outstanding where the window has no room, and `Exhausted` where no Message
-    /// ID or no IV is left. No memory is taken.
+    /// Message ID that is outstanding where the window has no room, and `Exhausted` where no
+    /// Message ID or no IV is left. No memory is taken.
     pub fn ask(&mut self, room: RequestRoom) -> Step
         ensures asks { SlotAsks self.old room result }
         ensures after { (now : Moment) → self.new
@@ -272,9 +272,9 @@ impl Association {
         }
     }
 
-    /// The response to an outstanding request came at this moment. The request ends by it (RFC 7296,
-    /// section 2.1), and a ticket that it gives is kept in the place of the last one (RFC 5723,
-    /// section 4.1). An error is want of memory, and the association is then as it was.
+    /// The response to an outstanding request came at this moment. The request ends by it (RFC
+    /// 7296, section 2.1), and a ticket that it gives is kept in the place of the last one (RFC
+    /// 5723, section 4.1). An error is want of memory, and the association is then as it was.
     pub fn take_reply(
         &mut self,
         alloc: Global,

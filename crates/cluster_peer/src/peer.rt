@@ -193,7 +193,7 @@ impl Peer {
     }
 
     /// Closes the peer's end of an association, and tells nobody: from then on the peer neither
-    /// sends nor receives in it, and keeps the ticket that came in it. It is refused `Unknown` where
+    /// sends nor receives in it, and it keeps the ticket that came. It is refused `Unknown` where
     /// there is no such live association. It takes no memory.
     pub fn forget(&mut self, spir: u64) -> Step
         ensures forgets { PeerForgets spir self.old.held.slots result }
@@ -215,8 +215,8 @@ impl Peer {
 
     /// Takes an IKE message that came at this moment (RFC 7296, sections 1.4, 2.1 to 2.3 and 2.21).
     /// A new request is executed once by the service, or is refused with an error; it is refused
-    /// `Exhausted`, and neither executed nor answered, where no IV is left for the response. One that
-    /// was answered before has the same response once more; a response ends its request, and a
+    /// `Exhausted`, and neither executed nor answered, where no IV is left for the response. One
+    /// that was answered before has the same response once more; a response ends its request, and a
     /// ticket that it gives is kept with the moment in the place of the last one (RFC 5723, section
     /// 4.1); every other message is dropped. An error is want of memory; then nothing was executed,
     /// and the peer is as it was.
