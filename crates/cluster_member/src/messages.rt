@@ -173,8 +173,9 @@ impl Member {
             × (service.new ≡ service.old)) }
     {
         let rooms = AnswerRooms::new(self.alloc, &self.issuer, request)?;
-        Ok(self
-            .holdings
-            .answer(keeper, service, &mut self.issuer, now, rooms, request))
+        Ok(
+            self.holdings
+                .answer(keeper, service, &mut self.issuer, now, rooms, request),
+        )
     }
 }

@@ -14,7 +14,6 @@ ghost use Rattle.keeper_book.specs.Asks.{AsksFor};
 ghost use Rattle.turn_rules.specs.Datagrams.{datagrams_of, delivery_of};
 ghost use Rattle.turn_rules.specs.Draws.{EntersRecord};
 ghost use Rattle.turn_rules.specs.Fits.{Quietly, Refusing, named_in, run_refusal};
-
 ghost use Rattle.turn_rules.specs.Services.{Serves};
 ghost use Rattle.turn_rules.specs.Slots.{admits};
 ghost use Rattle.turn_rules.specs.Tasks as task;
@@ -60,7 +59,15 @@ impl Parties {
         ensures in_vain { OnErr result (AsksInVain K.Keeper keeper.old keeper.new) }
     {
         let Some(number) = named_in(event) else {
-            return peer_performs(self.alloc, &mut self.peer, keeper, service, now, trace, event);
+            return peer_performs(
+                self.alloc,
+                &mut self.peer,
+                keeper,
+                service,
+                now,
+                trace,
+                event,
+            );
         };
         let place = self.place_of(number);
         match &mut self.members[place] {

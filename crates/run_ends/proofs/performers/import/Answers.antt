@@ -16,9 +16,10 @@ returns-then-not-admits-clause-imports g c =
     let sa = c.args.sa.now in
     let step = c.refused.result in
     let clash : admits c.args.peer.now.held.slots sa ≡ false = search rules in
-    asks_for_none g.K.Keeper c.args.keeper.now
-    (subst (λ b. Refusing (not b) refusal.SpiInUse [] step (Quietly (EntersRecord sa) [] step)) (sym clash) (record { no_calls = refl; says = c.refused.ensures }),
-    not_entered c.args.peer.now c.args.peer.now step sa refusal.SpiInUse refl c.refused.ensures)
+    asks_for_none g.K.Keeper c.args.keeper.now (
+      subst (λ b. Refusing (not b) refusal.SpiInUse [] step (Quietly (EntersRecord sa) [] step)) (sym clash) (record { no_calls = refl; says = c.refused.ensures }),
+      not_entered c.args.peer.now c.args.peer.now step sa refusal.SpiInUse refl c.refused.ensures,
+    )
 
 pub returns-in-Ok-clause-imports : goal.returns-in-Ok-clause-imports
 returns-in-Ok-clause-imports g c =
