@@ -1,5 +1,5 @@
 -- How a call ends for a command that goes by lines, by how the work on its input ended and what was said of it.
-use Rattle.std.proofs.Common.{◌≡◌, ℕ, List, ◌++◌, Option, Some, None, Result, Ok, Err, refl, inl, inr, ◌⊎◌}
+use Rattle.std.proofs.Common.{ℕ, List, ◌++◌, Option, Some, None, Result, Ok, Err, inl, inr}
 use Rattle.input_lines.specs.declared.fault.InputFault.{InputFault}
 use Rattle.call_ends.specs.Endings.{BreaksOff, Ends, Finishes}
 use Rattle.call_ends.specs.Outside.{Outside, octets_told}

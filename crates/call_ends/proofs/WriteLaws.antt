@@ -1,5 +1,5 @@
 -- What was written, by what the call answered.
-use Rattle.std.proofs.Common.{◌≡◌, ℕ, List, Option, Result, Ok, Err, OnOk, OnErr, inl, inr}
+use Rattle.std.proofs.Common.{◌≡◌, ℕ, List, Result, Ok, Err, OnOk, OnErr, inl, inr}
 use Rattle.std.specs.Io.KnownBytes.{Appends}
 use Rattle.ha_base.specs.Faults.{AppendsFront, Rose}
 use Rattle.call_ends.specs.Outside.{SaysLine, Stream}

@@ -4,3 +4,4 @@ pub mod Jobs
 pub mod Outside
 pub mod Statuses
 pub mod Streaming
+pub mod Writes

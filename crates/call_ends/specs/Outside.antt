@@ -27,6 +27,12 @@ abbrev pub outside : {S O D : Type 0} → source.Ghosts S → sink.Ghosts O → 
 outside s o d input output errors =
     record { input = source_told s input; output = sink_told o output; errors = sink_told d errors }
 
+-- what is told of an input and an output, beside an error output
+abbrev pub streams_told : {S O : Type 0} → source.Ghosts S → sink.Ghosts O → S → O → Stream
+    → Outside
+streams_told s o input output errors =
+    record { input = source_told s input; output = sink_told o output; errors = errors }
+
 -- the octets that a stream tells
 abbrev pub octets_told : Option (List ℕ) → List ℕ
 octets_told None = []

@@ -1,7 +1,7 @@
-//! How a call ends: what is written last, and what is said of it on the error output.
+//! What is said of the end of a call on the error output.
 
 ghost use Rattle.std.specs.Prelude.{◌≡◌, codes};
-ghost use Rattle.call_ends.specs.Closing.{Closes, Names};
+ghost use Rattle.call_ends.specs.Closing.{Names};
 ghost use Rattle.call_ends.specs.Outside.{SaysLine, sink_told};
 
 use crate::status::Status;
@@ -30,27 +30,5 @@ pub fn name_line<D: Sink>(alloc: Global, diag: &mut D, fault: InputFault) -> Sta
     match write_all(diag, text.as_slice()) {
         Ok(()) => Status::FaultyLine,
         Err(Failed) => Status::WriteFault,
-    }
-}
-
-/// Writes an output, and says where the input is faulty.
-pub fn put_output<O: Sink, D: Sink>(
-    alloc: Global,
-    out: &mut O,
-    diag: &mut D,
-    text: &Octets,
-    fault: Option<InputFault>,
-) -> Status
-    ensures closes { Closes text.now.octets fault (sink_told O.Sink out.old)
-        (sink_told O.Sink out.new)
-        (sink_told D.Sink diag.old) (sink_told D.Sink diag.new) result }
-    ensures quiet { result ≡ Status.Done → diag.new ≡ diag.old }
-{
-    if write_all(out, text.as_slice()).is_err() {
-        return complain(diag, b"ha: write fault\n", Status::WriteFault);
-    }
-    match fault {
-        None => Status::Done,
-        Some(fault) => name_line(alloc, diag, fault),
     }
 }

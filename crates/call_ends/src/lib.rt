@@ -3,11 +3,11 @@
 #![tactic(auto)]
 
 mod closing;
-mod input;
 mod status;
 mod streaming;
+mod writing;
 
-pub use closing::{complain, name_line, put_output};
-pub use input::input_of;
+pub use closing::{complain, name_line};
 pub use status::Status;
 pub use streaming::{Stop, say_end};
+pub use writing::{put_end, put_text};

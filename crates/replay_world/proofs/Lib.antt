@@ -4,4 +4,3 @@ mod Joins
 mod ServedLaws
 mod OwnedLaws
 pub mod PlayedLaws
-mod ReadLaws

@@ -1,27 +1,19 @@
 -- What a call does, by what its words ask for.
-use Rattle.std.specs.Prelude.{◌≡◌, ℕ, List, Option, Some, None}
+use Rattle.std.specs.Prelude.{Option, Some, None}
 use Rattle.call_ends.specs.Endings.{Declines, Ends}
-use Rattle.call_ends.specs.Jobs.{Job, by_lines}
+use Rattle.call_ends.specs.Jobs.{Job}
 use Rattle.call_ends.specs.Outside.{Outside}
 use Rattle.call_ends.specs.Streaming.{streaming}
 use Rattle.call_ends.specs.declared.status.Status.{Status}
-use Rattle.input_lines.specs.declared.fault.InputFault.{InputFault}
 use Rattle.replay_world.specs.Handed.{Handed, running}
 use Rattle.replay_world.specs.declared.top.Command.{Command}
 use Rattle.replay_world.specs.declared.top.Command.TheVariants.{Run, Show}
-use Rattle.show_messages.specs.Messages.{messages_of}
-use Rattle.show_messages.specs.Shows.{shown_all}
-
--- the text is that of an input's messages up to its first fault, where it has one, and the line of
--- their number
-pub record IsShown (input : List ℕ) (fault : Option InputFault) (text : List ℕ) : Type 0 where
-  pub first_fault : (messages_of input).fault ≡ fault
-  pub written : text ≡ shown_all (messages_of input).messages
+use Rattle.show_messages.specs.Showing.{showing}
 
 -- what each command makes of its input
 abbrev pub job_of : Handed → Command → Job
 job_of run Run = streaming (running run)
-job_of run Show = by_lines IsShown
+job_of run Show = streaming showing
 
 -- how a call ends: its words ask for a command, or for none
 abbrev pub Replays : Option Command → Handed → Outside → Outside → Status → Type 0

@@ -3,8 +3,9 @@
 
 ghost use Rattle.std.specs.Prelude.{◌≡◌, []};
 ghost use Rattle.std.specs.List.{AllByRecursion};
-ghost use Rattle.call_ends.specs.Outside.{Stream, sink_told};
-ghost use Rattle.run_lines.specs.Writes.{Writes, newest_text, streams_told};
+ghost use Rattle.call_ends.specs.Outside.{Stream, sink_told, streams_told};
+ghost use Rattle.call_ends.specs.Writes.{Writes};
+ghost use Rattle.run_lines.specs.Writes.{newest_text};
 ghost use Rattle.call_ends.specs.Streaming.{Streams};
 ghost use Rattle.keeper_book.specs.Gates.{told_calls};
 ghost use Rattle.replay_world.specs.Going.{going};
@@ -13,12 +14,12 @@ ghost use Rattle.replay_world.specs.Worlds.{boxes_of};
 ghost use Rattle.turn_laws.specs.Serving.{KeepServices};
 
 use crate::world::World;
-use call_ends::Stop;
+use call_ends::{Stop, put_end};
 use event_text::{EventLines, Line, TakeFault};
 use ha_base::{Service, Sink, Source};
 use input_lines::InputFault;
 use keeper_book::{Gate, Keeper};
-use run_lines::{put_end, put_head, put_turn};
+use run_lines::{put_head, put_turn};
 use std::alloc::Global;
 use turn_laws::{
     all_is_owned, all_synchronisations_catch_up, covers_are_caught_up, no_number_past_its_end,

@@ -3,16 +3,17 @@
 ghost use Rattle.std.specs.Prelude.{◌≡◌, ◌≢◌, Some};
 ghost use Rattle.std.specs.List.{AllByRecursion};
 ghost use Rattle.call_ends.specs.Endings.{Ends};
-ghost use Rattle.call_ends.specs.Jobs.{by_lines};
+ghost use Rattle.call_ends.specs.Streaming.{streaming};
 ghost use Rattle.call_ends.specs.Outside.{outside};
 ghost use Rattle.replay_world.specs.Commands.{command_of, command_named};
 ghost use Rattle.replay_world.specs.Handed.{handed};
-ghost use Rattle.replay_world.specs.Replays.{IsShown, Replays, job_of};
+ghost use Rattle.replay_world.specs.Replays.{Replays, job_of};
 ghost use Rattle.replay_world.specs.declared.top.Command.TheVariants.{Run};
+ghost use Rattle.show_messages.specs.Showing.{showing};
 
 use crate::play::play_file;
 pub use call_ends::Status;
-use call_ends::{complain, input_of, put_output, say_end};
+use call_ends::say_end;
 use ha_base::{Failed, Service, Sink, Source, write_all};
 use keeper_book::Keeper;
 use show_messages::show;
@@ -69,26 +70,20 @@ fn run_command<S: Source, O: Sink, D: Sink, K: Keeper>(
     say_end(alloc, diag, played)
 }
 
-// Reads messages and writes their text.
+// Reads messages, line by line, and writes the text of each.
 fn show_command<S: Source, O: Sink, D: Sink>(
     alloc: Global,
     source: &mut S,
     out: &mut O,
     diag: &mut D,
 ) -> Status
-    ensures ends { Ends (by_lines IsShown)
+    ensures ends { Ends (streaming showing)
         (outside S.Source O.Sink D.Sink source.old out.old diag.old)
         (outside S.Source O.Sink D.Sink source.new out.new diag.new) result }
     ensures quiet { result ≡ Status.Done → diag.new ≡ diag.old }
 {
-    let input = match input_of(alloc, source, diag) {
-        Ok(input) => input,
-        Err(status) => return status,
-    };
-    let Ok(shown) = show(alloc, input.as_slice()) else {
-        return complain(diag, b"ha: want of memory\n", Status::Memory);
-    };
-    put_output(alloc, out, diag, &shown.text, shown.fault)
+    let shown = show(alloc, source, out);
+    say_end(alloc, diag, shown)
 }
 
 /// Does what the words say. `run` reads an event file and writes its report; `show` reads messages,

@@ -22,7 +22,8 @@ use Rattle.input_lines.specs.declared.fault.InputFault.{InputFault}
 use Rattle.report_text.specs.Report.{report, report_head, turns_text}
 use Rattle.word_text.specs.Ends.{end_line}
 use Rattle.run_lines.specs.Played.{AllButNewest, IsBegun, IsPlayed, IsPlayedSoFar, playing, titles}
-use Rattle.run_lines.specs.Writes.{Writes, newest_text}
+use Rattle.call_ends.specs.Writes.{Writes}
+use Rattle.run_lines.specs.Writes.{newest_text}
 use Rattle.run_lines.proofs.ReadLaws.{AllTold, HaveTold, IsPlaying, head-newest, lines_told, nothing_follows, nothing_told, rest_told, turns_text-none}
 
 all_front : (octets : List ℕ) → IsFront octets octets

@@ -4,4 +4,4 @@
 
 mod writing;
 
-pub use writing::{put_end, put_head, put_turn};
+pub use writing::{put_head, put_turn};

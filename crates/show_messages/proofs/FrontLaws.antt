@@ -8,7 +8,7 @@ use Rattle.input_lines.specs.Limits.{overlong}
 use Rattle.input_lines.proofs.FirstLines.{first_line}
 use Rattle.input_lines.proofs.LimitLaws.{IsPast, overlong_both, overlong_none, past, unless_ok}
 use Rattle.show_messages.specs.Messages.{Messages, behind_message_line, faulty_messages, line_in, messages_at, messages_of, on_message_line, with_message}
-use Rattle.show_messages.specs.declared.reader.Place.{Place}
+use Rattle.show_messages.specs.declared.lines.Place.{Place}
 
 -- ---- a line that passes the end of the file
 

@@ -1,2 +1,4 @@
+pub mod BreakLaws
 pub mod FrontLaws
-pub mod LineLaws
+pub mod PieceLaws
+pub mod ReadLaws

@@ -1,2 +1,4 @@
 pub mod Messages
+pub mod Pieces
+pub mod Showing
 pub mod Shows

@@ -1,13 +1,13 @@
 -- The messages that an input holds, up to its first fault: one a line, in hexadecimal.
 use Rattle.std.specs.Prelude.{ℕ, ◌+◌, ◌==◌, List, [], ◌∷◌, length, Option, Some, None, Result, Ok, Err, if◌then◌else◌}
-use Rattle.input_lines.specs.Limits.{Left, overlong, unless_fault}
+use Rattle.input_lines.specs.Limits.{overlong, unless_fault}
 use Rattle.input_lines.specs.Lines.{is_passed, lines_of, without_line_feed}
 use Rattle.line_fields.specs.Octets.{decoded, is_hex}
 use Rattle.line_fields.specs.Fields.{fault_at}
 use Rattle.line_fields.specs.declared.fault.LineFault.{LineFault}
 use Rattle.line_fields.specs.declared.fault.LineReason.TheVariants as reasons
 use Rattle.input_lines.specs.declared.fault.InputFault.{InputFault}
-use Rattle.show_messages.specs.declared.reader.Place.{Place}
+use Rattle.show_messages.specs.declared.lines.Place.{Place}
 
 -- what an input holds: the octets of its messages in their order up to its first fault, and the
 -- fault
@@ -32,11 +32,14 @@ message_in count line =
     else if is_hex line then Ok (Some (decoded line))
     else Err (fault_at 1 reasons.Hex)
 
+-- the same, where the line is not passed over
+abbrev pub message_behind : ℕ → List ℕ → Result (Option (List ℕ)) LineFault
+message_behind count line = if is_passed line then Ok None else message_in count line
+
 -- the message of a line at a place, where it is not passed over
 unfoldable pub line_in : Place → ℕ → List ℕ → Result (Option (List ℕ)) LineFault
 line_in p octets line =
-    unless_fault (overlong p.before octets (length line))
-    (if is_passed line then Ok None else message_in p.count line)
+    unless_fault (overlong p.before octets (length line)) (message_behind p.count line)
 
 -- the place behind a line of some octets, where there are so many messages before it
 abbrev pub behind_message_line : Place → ℕ → ℕ → Place
@@ -60,7 +63,3 @@ messages_at (line ∷ lines) p = on_message_line p (line_in p (length line) (wit
 -- what an input holds
 abbrev pub messages_of : List ℕ → Messages
 messages_of input = messages_at (lines_of input) (record { line = 1; before = 0; count = 0 })
-
--- what is left of an input holds
-abbrev pub left_messages : Left Place → Messages
-left_messages left = messages_at left.lines left.place

@@ -2,9 +2,9 @@
 #![tactic(auto)]
 
 mod laws;
-mod reader;
+mod lines;
 mod text;
 
 pub use laws::front_tells_messages;
-pub use reader::Place;
-pub use text::{Shown, show};
+pub use lines::Place;
+pub use text::show;

@@ -1,76 +1,62 @@
-//! The text of an input's messages.
+//! The text of messages that come in pieces: each is written before the next line is taken.
 
 ghost use Rattle.ha_base.specs.declared.limits.TheConstants.{LINE_OCTETS};
-ghost use Rattle.std.specs.Prelude.{◌≡◌, ◌≤◌, ◌+◌, ◌++◌, true, length, IfOk, OnOk};
-ghost use Rattle.std.specs.List.{flat_map};
+ghost use Rattle.std.specs.Prelude.{◌≡◌, ◌≤◌, ◌++◌, true, length, OnOk};
+ghost use Rattle.call_ends.specs.Outside.{Stream, sink_told, streams_told};
+ghost use Rattle.call_ends.specs.Streaming.{Streams};
+ghost use Rattle.call_ends.specs.Writes.{Writes};
 ghost use Rattle.line_fields.specs.Octets.{decoded, is_hex};
 ghost use Rattle.message_text.specs.Shown.{shown};
-ghost use Rattle.show_messages.specs.Messages.{left_messages, messages_of};
-ghost use Rattle.show_messages.specs.Shows.{shown_all};
+ghost use Rattle.show_messages.specs.Showing.{showing};
 
-use crate::reader::MessageReader;
-use ha_base::{LINE_OCTETS, Memory, Octets};
+use crate::lines::{Line, MessageLines, TakeFault};
+use call_ends::{Stop, put_end, put_text};
+use ha_base::{LINE_OCTETS, Octets, Sink, Source};
 use input_lines::InputFault;
 use line_fields::fill_hex;
 use message_text::write_message;
 use std::alloc::Global;
-use word_text::write_end;
 
 /// How many octets a message may have, whose digits are one line.
 const MESSAGE_OCTETS: usize = LINE_OCTETS / 2;
 
-/// The text of the messages of an input, and the fault of the input at which it ends, if there is
-/// one.
-#[derive(Drop)]
-pub struct Shown {
-    pub text: Octets,
-    pub fault: Option<InputFault>,
-}
-
-// Appends the text of the message of some digits.
-fn show_message(alloc: Global, digits: &[u8], text: &mut Octets) -> Result<(), Memory>
+// Writes the text of the message of some digits.
+fn show_message<O: Sink>(alloc: Global, digits: &[u8], out: &mut O) -> Result<(), Stop>
     requires hex { is_hex digits.now ≡ true }
     requires short { length digits.now ≤ LINE_OCTETS }
-    ensures { OnOk result (text.new.octets ≡ text.old.octets ++ shown (decoded digits.now)) }
+    ensures { Writes result (shown (decoded digits.now)) (sink_told O.Sink out.old)
+        (sink_told O.Sink out.new) }
 {
     let mut octets = [0; MESSAGE_OCTETS];
     let message = &mut octets[..digits.len() / 2];
     fill_hex(digits, message);
-    write_message(alloc, message, text)
+    let mut text = Octets::new(alloc);
+    write_message(alloc, message, &mut text)?;
+    put_text(out, &text)
 }
 
-// Appends the text of each message up to the end of the input, or up to its first fault, which is
-// answered.
-fn show_lines(
+/// Reads messages, one a line in hexadecimal, and writes the text of each before it takes the next
+/// line, and last the line of their number. It ends at the end of the input, or at its first fault,
+/// which is answered.
+pub fn show<S: Source, O: Sink>(
     alloc: Global,
-    reader: &mut MessageReader,
-    text: &mut Octets,
-) -> Result<Option<InputFault>, Memory>
-    ensures fault { IfOk result (λ fault. fault ≡ (left_messages reader.old).fault) }
-    ensures text { OnOk result (text.new.octets ≡ text.old.octets
-        ++ flat_map shown (left_messages reader.old).messages) }
-    ensures count { OnOk result (reader.new.place.count ≡ reader.old.place.count
-        + length (left_messages reader.old).messages) }
+    source: &mut S,
+    out: &mut O,
+) -> Result<Option<InputFault>, Stop>
+    ensures { (errors now_errors : Stream) → Streams showing
+        (streams_told S.Source O.Sink source.old out.old errors)
+        (streams_told S.Source O.Sink source.new out.new now_errors) result }
 {
-    while !reader.is_at_end() {
-        match reader.next_line() {
-            Ok(None) => {}
-            Ok(Some(digits)) => show_message(alloc, digits, text)?,
-            Err(fault) => return Ok(Some(fault)),
+    let mut reader = MessageLines::new(alloc)?;
+    'lines: loop {
+        match reader.next_line(source) {
+            Ok(Line::End) => return put_end(alloc, u64::from(reader.count()), None, out),
+            Ok(Line::Passed) => {}
+            Ok(Line::Message) => show_message(alloc, reader.text(), out)?,
+            Err(TakeFault::Input(fault)) => {
+                return put_end(alloc, u64::from(reader.count()), Some(fault), out);
+            }
+            Err(TakeFault::Source) => return Err(Stop::ReadFault),
         }
     }
-    Ok(None)
-}
-
-/// The text of each message of an input up to its end, or up to its first fault, and the line of
-/// their number. An error is want of memory.
-pub fn show(alloc: Global, input: &[u8]) -> Result<Shown, Memory>
-    ensures text { IfOk result (λ s. s.text.octets ≡ shown_all (messages_of input.now).messages) }
-    ensures fault { IfOk result (λ s. s.fault ≡ (messages_of input.now).fault) }
-{
-    let mut reader = MessageReader::new(input);
-    let mut text = Octets::new(alloc);
-    let fault = show_lines(alloc, &mut reader, &mut text)?;
-    write_end(alloc, u64::from(reader.count()), &mut text)?;
-    Ok(Shown { text, fault })
 }

@@ -13,8 +13,9 @@ pub fn answer(alloc: Global, case: &str) -> anyhow::Result<String> {
         Some(("pieces", input)) => in_pieces(alloc, Task::Play, "pieces", input),
         Some(("echoes", input)) => in_pieces(alloc, Task::PlayEchoes, "echoes", input),
         Some(("shows", input)) => in_pieces(alloc, Task::Show, "shows", input),
-        Some(("faults", input)) => with_faults(alloc, input),
-        _ => bail!("a case is pieces, echoes, shows or faults"),
+        Some(("faults", input)) => with_faults(alloc, Task::Play, "faults", input),
+        Some(("show-faults", input)) => with_faults(alloc, Task::Show, "show-faults", input),
+        _ => bail!("a case is pieces, echoes, shows, faults or show-faults"),
     }
 }
 
@@ -46,27 +47,40 @@ fn words_of<'a>(status: Status, whole: &'a Outcome) -> &'a [u8] {
     }
 }
 
-// What a run writes before a call fails is a front of what it writes else.
-fn code_with(alloc: Global, input: &str, whole: &Outcome, failing: Failing) -> anyhow::Result<u8> {
-    let outcome = perform(alloc, Task::Play, input, 7, failing)?;
-    if !whole.written().starts_with(outcome.written()) {
-        bail!("what was written is no front of the report");
+// Where a write on the error output fails, a front of its line stands there.
+fn is_said(outcome: &Outcome, whole: &Outcome, failing: Failing) -> bool {
+    match failing {
+        Failing::Diagnosis(_) => whole.said().starts_with(outcome.said()),
+        _ => outcome.said() == words_of(outcome.status, whole),
     }
-    let is_cut = matches!(failing, Failing::Diagnosis(_));
-    if !is_cut && outcome.said() != words_of(outcome.status, whole) {
+}
+
+// What a call of the program writes before a call of a stream fails is a front of what it writes
+// else.
+fn code_with(
+    alloc: Global,
+    task: Task,
+    input: &str,
+    whole: &Outcome,
+    failing: Failing,
+) -> anyhow::Result<u8> {
+    let outcome = perform(alloc, task, input, 7, failing)?;
+    if !whole.written().starts_with(outcome.written()) {
+        bail!("what was written is no front of the output");
+    }
+    if !is_said(&outcome, whole, failing) {
         bail!("another line stands on the error output");
     }
     Ok(outcome.status.exit_code())
 }
 
-fn with_faults(alloc: Global, input: &str) -> anyhow::Result<String> {
-    let whole = perform(alloc, Task::Play, input, 7, Failing::Nothing)?;
-    let mut answer = String::new(alloc);
-    answer.push_str("faults\n")?;
+fn with_faults(alloc: Global, task: Task, kind: &str, input: &str) -> anyhow::Result<String> {
+    let whole = perform(alloc, task, input, 7, Failing::Nothing)?;
+    let mut answer = format!(in alloc; "{kind}\n")?;
     for call in 0..10 {
-        let read = code_with(alloc, input, &whole, Failing::Read(call))?;
-        let write = code_with(alloc, input, &whole, Failing::Write(call))?;
-        let diagnosis = code_with(alloc, input, &whole, Failing::Diagnosis(call))?;
+        let read = code_with(alloc, task, input, &whole, Failing::Read(call))?;
+        let write = code_with(alloc, task, input, &whole, Failing::Write(call))?;
+        let diagnosis = code_with(alloc, task, input, &whole, Failing::Diagnosis(call))?;
         let line = format!(in alloc;
             "call {call}: read {read}, write {write}, diagnosis {diagnosis}\n"
         )?;

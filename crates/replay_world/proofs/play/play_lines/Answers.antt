@@ -1,6 +1,6 @@
 -- Each way out of the loop is a row of the table, and each line goes on with it.
 use Rattle.std.proofs.Common.{◌≡◌, List, [], None, Some, Ok, Err, rules, refl, sym, ap, subst, append-nil, ◌∙◌}
-use Rattle.call_ends.specs.Outside.{sink_told, source_told}
+use Rattle.call_ends.specs.Outside.{sink_told, source_told, streams_told}
 use Rattle.call_ends.specs.declared.streaming.Stop.TheVariants as stop
 use Rattle.event_text.proofs.WholeReads.{line_read}
 use Rattle.event_text.specs.Pieces.{HasRead}
@@ -13,7 +13,6 @@ use Rattle.replay_world.specs.Worlds.{boxes_of}
 use Rattle.run_lines.proofs.BreakLaws.{head_stops, last_ends, line_stops, nothing_stops, source_stops, turn_stops, unplayed_stops}
 use Rattle.run_lines.proofs.ReadLaws.{IsPlaying, end_told, fault_told, line_passed, line_played, playing_begun, turn_read}
 use Rattle.run_lines.specs.Played.{titles}
-use Rattle.run_lines.specs.Writes.{streams_told}
 use Rattle.turn_rules.specs.Local.{Local}
 use Rattle.replay_world.proofs.play.play_lines.Goals as goal
 

@@ -1,9 +1,9 @@
 -- A run begins with no turn, and what holds of it follows from the laws of whole runs.
 use Rattle.std.proofs.Common.{◌≡◌, [], Err, ap, refl, rules, ◌∙◌}
+use Rattle.call_ends.specs.Outside.{streams_told}
 use Rattle.call_ends.specs.declared.streaming.Stop.TheVariants as stop
 use Rattle.run_ends.specs.Runs.{Run}
 use Rattle.run_lines.proofs.BreakLaws.{nothing_stops}
-use Rattle.run_lines.specs.Writes.{streams_told}
 use Rattle.replay_world.proofs.GoingLaws.{Laws, none-holds, streams-led, trace-cut}
 use Rattle.replay_world.proofs.ServedLaws.{begun-keeps}
 use Rattle.replay_world.specs.Handed.{handed}

@@ -2,7 +2,7 @@
 use Rattle.std.proofs.Common.{◌≡◌, List, ℕ, Some, rules, subst}
 use Rattle.std.specs.Prelude.{slice_get}
 use Rattle.call_ends.specs.Outside.{sink_told}
-use Rattle.run_lines.specs.Writes.{Writes}
+use Rattle.call_ends.specs.Writes.{Writes}
 use Rattle.replay_world.proofs.PlayedLaws.{newest_text-is}
 use Rattle.replay_world.proofs.play.write_newest.Goals as goal
 
